@@ -1,0 +1,211 @@
+-- A bucket's bytes that pass question 2 are those of the bucket that is read of them, which is well formed and fits.
+use mathlib.Core.Path.{_≡_, refl, sym, ap, _∙_}
+use mathlib.Core.Bool.{Bool, true, false, not, _&&_}
+use mathlib.Core.List.{List, [], _∷_}
+use Prim.Native.Nat.{ℕ, _+_, _*_, _-_, _≤_, _<_}
+use native.Mathlib.Omega.{arith}
+use lib.ListN.{length, getD, length-drop, take-append-drop}
+use lib.Seq.{length-take-le, getD-take, getD-drop}
+use lib.Dec.{eqb}
+use borrow.Author.Tests.{eqb-true, lt-ltb, le-ltb, not-true}
+use Rattle.model.specs.Base.{same, joined}
+use Rattle.model.specs.Bytes.{part, Bytes}
+use Rattle.model.specs.Node.{Node, PendingNode}
+use Rattle.model.specs.Bucket.{maxNodes, nodes, count, holds}
+use Rattle.model.specs.Sizes.{nodeSize, timeSize, pendingAt, pendingSize, bucketSize}
+use Rattle.model.specs.Layout.{nodeBytes, pendingBytes, bucketBytes, nodeIn, placeIn, nodesIn, pendingIn, bucketIn}
+use Rattle.model.specs.Formed.{areZero, nodeCodes, keyIn, notHeld, pendingFormed, bucketFormed}
+use Rattle.model.specs.Fits.{All, Opt, FitsNode, FitsPending, FitsBucket}
+use Rattle.laws.proofs.Tests.{same-sym, split, cases}
+use Rattle.laws.proofs.Lists.{all-gives, conj-gives, length-tabulate, getD-tabulate}
+use Rattle.laws.proofs.Parts.{part-all, part-append, part-cons, length-part, joined-slots, slot-before}
+use Rattle.laws.proofs.Bytes.{number-back, number-fits, Bytes-part}
+use Rattle.laws.proofs.Zeros.{part-areZero}
+use Rattle.laws.proofs.NodeFormed.{node-back, node-fits}
+use Rattle.laws.proofs.BucketBytes.{length-nodes}
+use Rattle.laws.proofs.BucketFormed.{Checked, checked, FormedBucket, Different-if, none-holds}
+use Rattle.laws.proofs.All.{all-by-getD, all-tabulate}
+
+module _ (s : List ℕ) (l : length s ≡ bucketSize) (h : Bytes s) where
+  -- the pending, where there is one
+  pending-some : (p : ℕ → Bool) → pendingFormed p s ≡ true → eqb (getD s pendingAt 0) 1 ≡ true
+      → (p (keyIn (part s (pendingAt + 1) nodeSize)) ≡ true)
+      × (notHeld s (getD s 0 0) (keyIn (part s (pendingAt + 1) nodeSize)) ≡ true)
+      × (nodeCodes (part s (pendingAt + 1) nodeSize) ≡ true)
+  unfolding pendingFormed
+  pending-some p c e =
+      let w : List ℕ = part s (pendingAt + 1) nodeSize in
+      let x : Bool = p (keyIn w) in
+      let y : Bool = notHeld s (getD s 0 0) (keyIn w) in
+      let z : Bool = nodeCodes w in
+      let d : (x && (y && z)) ≡ true = rw (eqb-true (getD s pendingAt 0) 1 e) at c in
+      let t = conj-gives x (y ∷ z ∷ []) d in
+      (t .0, t .1 .0, t .1 .1 .0)
+
+  pub pending-back : (p : ℕ → Bool) → pendingFormed p s ≡ true → pendingBytes (pendingIn s) ≡ part s pendingAt pendingSize
+  unfolding pendingFormed
+  pending-back p c =
+      let x : ℕ = getD s pendingAt 0 in
+      let w : List ℕ = part s (pendingAt + 1) nodeSize in
+      let n : length w ≡ nodeSize = length-part s (pendingAt + 1) nodeSize (omega arith) in
+      split (eqb x 0)
+      (λ e.
+      let z : areZero s (pendingAt + 1) (nodeSize + timeSize) ≡ true = rw e at c in
+      rw (part-cons s pendingAt (nodeSize + timeSize) (omega arith), eqb-true x 0 e, part-areZero s (pendingAt + 1) (nodeSize + timeSize) (omega arith) z))
+      (λ e.
+      let f : eqb x 1 ≡ true = conj-gives (eqb x 1) (p (keyIn w) ∷ notHeld s (getD s 0 0) (keyIn w) ∷ nodeCodes w ∷ []) (rw e at c) .0 in
+      rw (
+        part-cons s pendingAt (nodeSize + timeSize) (omega arith),
+        f,
+        eqb-true x 1 f,
+        part-append s (pendingAt + 1) nodeSize timeSize,
+        node-back w n (Bytes-part s (pendingAt + 1) nodeSize h) (pending-some p c f .2),
+        number-back s (pendingAt + 1 + nodeSize) timeSize (omega arith) h,
+      ))
+
+  module _ (p : ℕ → Bool) (m : ℕ) (c : bucketFormed p m s ≡ true) where
+    abbrev held : ℕ
+    held = getD s 0 0
+
+    abbrev firstAt : ℕ
+    firstAt = getD s 1 0
+
+    passed : Checked p m s
+    passed = checked p m s c
+
+    length-nodesIn : length (nodesIn s) ≡ held
+    unfolding nodesIn
+    length-nodesIn = length-tabulate held (λ j. nodeIn (placeIn s j))
+
+    nodes-of : nodes (bucketIn s) ≡ nodesIn s
+    unfolding bucketIn
+    nodes-of = take-append-drop firstAt (nodesIn s)
+
+    count-of : count (bucketIn s) ≡ held
+    count-of = sym (length-nodes (bucketIn s)) ∙ ap length nodes-of ∙ length-nodesIn
+
+    first-of : length (bucketIn s .disconnected) ≡ firstAt
+    unfolding bucketIn
+    first-of = length-take-le firstAt (nodesIn s) (rw length-nodesIn (passed .first))
+
+    pending-of : bucketIn s .pending ≡ pendingIn s
+    unfolding bucketIn
+    pending-of = refl
+
+    within : (j : ℕ) → j < held → 2 + j * nodeSize + nodeSize ≤ length s
+    within j i = omega (arith, slot-before j held nodeSize i, passed .at-most)
+
+    place-length : (j : ℕ) → j < held → length (placeIn s j) ≡ nodeSize
+    place-length j i = length-part s (2 + j * nodeSize) nodeSize (within j i)
+
+    held-back : joined nodeBytes (nodesIn s) ≡ part s 2 (held * nodeSize)
+    unfolding nodesIn
+    held-back =
+        joined-slots nodeBytes (λ j. nodeIn (placeIn s j)) s 2 nodeSize held
+        (λ j i. node-back (placeIn s j) (place-length j i) (Bytes-part s (2 + j * nodeSize) nodeSize h) (passed .codes j i))
+
+    pub bucket-back : bucketBytes (bucketIn s) ≡ s
+    unfolding bucketBytes
+    bucket-back =
+        let u : ℕ = (maxNodes - held) * nodeSize in
+        let a : held ≤ maxNodes = passed .at-most in
+        let e : part s 2 (maxNodes * nodeSize + pendingSize) ≡ part s 2 (held * nodeSize + (u + pendingSize)) = ap (part s 2) (omega arith) in
+        let b : 2 + held * nodeSize + u ≡ pendingAt = omega arith in
+        rw (
+          count-of,
+          first-of,
+          nodes-of,
+          held-back,
+          pending-of,
+          pending-back p (passed .pending),
+          ← part-areZero s (2 + held * nodeSize) u (omega arith) (passed .unused),
+        )
+        (sym (sym (part-all s bucketSize (omega arith))
+        ∙ rw (
+          part-cons s 0 (1 + maxNodes * nodeSize + pendingSize) (omega arith),
+          part-cons s 1 (maxNodes * nodeSize + pendingSize) (omega arith),
+          e,
+          part-append s 2 (held * nodeSize) (u + pendingSize),
+          part-append s (2 + held * nodeSize) u pendingSize,
+          b,
+        )))
+
+    -- the node of place j
+    node-of : (j : ℕ) (d : Node) → j < held → getD (nodesIn s) j d ≡ nodeIn (placeIn s j)
+    unfolding nodesIn
+    node-of j d i = getD-tabulate held (λ x. nodeIn (placeIn s x)) j d i
+
+    differs : (j i : ℕ) → j < held → i < j → same (keyIn (placeIn s j)) (keyIn (placeIn s i)) ≡ false
+    unfolding notHeld
+    differs j i a b =
+        same-sym (keyIn (placeIn s j)) (keyIn (placeIn s i))
+        ∙ not-true (same (keyIn (placeIn s i)) (keyIn (placeIn s j))) (all-gives j (λ x. not (same (keyIn (placeIn s x)) (keyIn (placeIn s j)))) i b (passed .different j a))
+
+    disconnected-of : All (λ (x : Node). x .connected ≡ false) (bucketIn s .disconnected)
+    unfolding bucketIn nodeIn
+    disconnected-of =
+        all-by-getD _ (bucketIn s .disconnected) (nodeIn [])
+        (λ j i.
+        let b : j < firstAt = rw first-of at i in
+        let a : j < held = omega (arith, passed .first) in
+        rw (getD-take firstAt (nodesIn s) j (nodeIn []) b, node-of j (nodeIn []) a, passed .states j a, lt-ltb j firstAt b))
+
+    connected-of : All (λ (x : Node). x .connected ≡ true) (bucketIn s .connected)
+    unfolding bucketIn nodeIn
+    connected-of =
+        all-by-getD _ (bucketIn s .connected) (nodeIn [])
+        (λ j i.
+        let a : firstAt + j < held = omega (arith, length-nodesIn, length-drop firstAt (nodesIn s), i) in
+        rw (getD-drop firstAt (nodesIn s) j (nodeIn []), node-of (firstAt + j) (nodeIn []) a, passed .states (firstAt + j) a, le-ltb (firstAt + j) firstAt (omega arith)))
+
+    pending-good : Opt (λ (q : PendingNode). (p (q .node .key) ≡ true) × (holds (q .node .key) (bucketIn s) ≡ false)) (pendingIn s)
+    unfolding nodeIn nodesIn notHeld
+    pending-good =
+        cases (Opt (λ (q : PendingNode). (p (q .node .key) ≡ true) × (holds (q .node .key) (bucketIn s) ≡ false))) (eqb (getD s pendingAt 0) 1)
+        (λ e.
+        let key : ℕ = keyIn (part s (pendingAt + 1) nodeSize) in
+        let t = pending-some p (passed .pending) e in (
+          t .0,
+          none-holds key (bucketIn s)
+              (rw nodes-of
+              (all-tabulate (λ (x : Node). same (x .key) key ≡ false) held (λ j. nodeIn (placeIn s j))
+              (λ j i. not-true (same (keyIn (placeIn s j)) key) (all-gives held (λ x. not (same (keyIn (placeIn s x)) key)) j i (t .1))))),
+        ))
+        (λ e. tt)
+
+    pub bucket-good : FormedBucket p m (bucketIn s)
+    unfolding nodesIn nodeIn
+    bucket-good =
+        record {
+          at-most = rw count-of (passed .at-most);
+          different =
+              rw nodes-of
+              (Different-if (nodesIn s) (nodeIn [])
+              (λ j a i b.
+              let y : j < held = rw length-nodesIn at a in
+              let z : i < held = omega arith in
+              rw (node-of j (nodeIn []) y, node-of i (nodeIn []) z) (differs j i y b)));
+          of-index = rw nodes-of (all-tabulate (λ (x : Node). p (x .key) ≡ true) held (λ j. nodeIn (placeIn s j)) (passed .of-index));
+          disconnected-first = disconnected-of;
+          then-connected = connected-of;
+          incoming-within = rw nodes-of (passed .incoming-within);
+          pending-fits = rw pending-of pending-good;
+        }
+
+    pub bucket-fits : FitsBucket (bucketIn s)
+    unfolding nodesIn
+    bucket-fits =
+        record {
+          held =
+              rw nodes-of
+              (all-tabulate FitsNode held (λ j. nodeIn (placeIn s j)) (λ j i. node-fits (placeIn s j) (place-length j i) (Bytes-part s (2 + j * nodeSize) nodeSize h)));
+          pending =
+              rw pending-of
+              (cases (Opt FitsPending) (eqb (getD s pendingAt 0) 1)
+              (λ e.
+              record {
+                node = node-fits (part s (pendingAt + 1) nodeSize) (length-part s (pendingAt + 1) nodeSize (omega arith)) (Bytes-part s (pendingAt + 1) nodeSize h);
+                deadline = number-fits s (pendingAt + 1 + nodeSize) timeSize (omega arith) h;
+              })
+              (λ e. tt));
+        }

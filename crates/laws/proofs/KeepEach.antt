@@ -1,0 +1,189 @@
+-- What holds of every node of a bucket, held or pending, is kept by the bucket's rules (01, "bucket.rs (722)").
+use Prim.Native.Nat.{ℕ, _+_}
+use mathlib.Core.Path.{_≡_, refl, subst, subst⁻¹}
+use mathlib.Core.Bool.{Bool, true, false, cond, _&&_, _||_}
+use mathlib.Core.List.{List, [], _∷_, _++_}
+use mathlib.Core.Option.{Option, none, some}
+use lib.Dec.{leb}
+use Rattle.model.specs.Base.{same}
+use Rattle.model.specs.Value.{Value, sameValue}
+use Rattle.model.specs.Node.{Node, PendingNode, AppliedPending, withStatus, withValue}
+use Rattle.model.specs.Result.{BucketInsertResult, FailureReason, UpdateResult, isInserted}
+use Rattle.model.specs.Bucket.{Bucket, BucketSettings, nodes, isFull, holds, lookup, failsBucketFilter, isMaxIncoming, withPending, cleared, put, placed, takeOut, insertFull, insert, applyFull, applyDue, applyIfDue, applyPending, reinsert, isFirst, updateIfPending, updateStatusOf, updateStatus, updateValueOf, updateValue, pendingWithStatus, updatePending, remove}
+use Rattle.model.specs.Fits.{All, Opt}
+use Rattle.laws.proofs.Tests.{cases}
+use Rattle.laws.proofs.KeepLists.{put-between, omit-append, all-omit, revalue-append, all-revalue, all-find, lookup-nodes}
+use Rattle.laws.proofs.All.{all-insert}
+
+-- every node has the property P, and a pending's deadline the property D
+pub record Each (P : Node → Type 0) (D : ℕ → Type 0) (b : Bucket) : Type 0 where
+  pub held : All P (nodes b)
+  pub pending : Opt (λ (p : PendingNode). P (p .node) × D (p .deadline)) (b .pending)
+
+-- a record's key is a node's that had the property, and so is the node that it evicted
+abbrev pub EachRecord : (Node → Type 0) → (ℕ → Type 0) → List AppliedPending → Type 0
+EachRecord P K = All (λ (r : AppliedPending). K (r .inserted) × Opt P (r .evicted))
+
+module _ (P : Node → Type 0) (D : ℕ → Type 0) where
+  pub withPending-each : (p : Option PendingNode) (b : Bucket) → Each P D b → Opt (λ (q : PendingNode). P (q .node) × D (q .deadline)) p → Each P D (withPending p b)
+  withPending-each p b e h = record { held = e .held; pending = h }
+
+  pub put-each : (n : Node) (b : Bucket) → P n → Each P D b → Each P D (put n b)
+  put-each n b p e =
+      record {
+        held =
+            put-between (All P) (n .connected) n (b .disconnected) (b .connected)
+            (λ xs ys q. all-insert P n xs ys p (subst⁻¹ (All P) q (e .held)));
+        pending = e .pending;
+      }
+
+  cleared-each : (k : ℕ) (p : Option PendingNode) → Opt (λ (q : PendingNode). P (q .node) × D (q .deadline)) p
+      → Opt (λ (q : PendingNode). P (q .node) × D (q .deadline)) (cleared k p)
+  cleared-each k none h = tt
+  cleared-each k (some p) h = cases (Opt (λ (q : PendingNode). P (q .node) × D (q .deadline))) (same (p .node .key) k) (λ _. tt) (λ _. h)
+
+  pub placed-each : (n : Node) (b : Bucket) → P n → Each P D b → Each P D (placed n b)
+  placed-each n b p e = put-each n (withPending (cleared (n .key) (b .pending)) b) p (withPending-each _ b e (cleared-each (n .key) (b .pending) (e .pending)))
+
+  pub takeOut-each : (k : ℕ) (b : Bucket) → Each P D b → Each P D (takeOut k b)
+  takeOut-each k b e =
+      record { held = subst (All P) (omit-append k (b .disconnected) (b .connected)) (all-omit P k (nodes b) (e .held)); pending = e .pending }
+
+  insertFull-each : (s : BucketSettings) (now : ℕ) (n : Node) (b : Bucket) (u : Bool) (ds : List Node) (p : Option PendingNode)
+      → P n → D (now + s .pendingTimeout) → Each P D b → Each P D (insertFull s now n b u ds p .1)
+  insertFull-each s now n b false ds p h d e = e
+  insertFull-each s now n b true [] p h d e = e
+  insertFull-each s now n b true (x ∷ ds) none h d e = withPending-each _ b e (h, d)
+  insertFull-each s now n b true (x ∷ ds) (some p) h d e = e
+
+  pub insert-each : (s : BucketSettings) (now : ℕ) (n : Node) (b : Bucket) → P n → D (now + s .pendingTimeout) → Each P D b → Each P D (insert s now n b .1)
+  unfolding insert
+  insert-each s now n b h d e =
+      let Q : BucketInsertResult × Bucket → Type 0 = λ r. Each P D (r .1) in
+      cases Q (holds (n .key) b) (λ _. e)
+      (λ _. cases Q (failsBucketFilter s (n .value) b) (λ _. e)
+      (λ _. cases Q (isMaxIncoming s n b) (λ _. e)
+      (λ _. cases Q (isFull b) (λ _. insertFull-each s now n b (n .connected) (b .disconnected) (b .pending) h d e)
+      (λ _. placed-each n b h e))))
+
+  -- with a free place there is no need for the deadline
+  insert-free-each : (s : BucketSettings) (now : ℕ) (n : Node) (b : Bucket) → isFull b ≡ false → P n → Each P D b → Each P D (insert s now n b .1)
+  unfolding insert
+  insert-free-each s now n b f h e =
+      let Q : BucketInsertResult × Bucket → Type 0 = λ r. Each P D (r .1) in
+      cases Q (holds (n .key) b) (λ _. e)
+      (λ _. cases Q (failsBucketFilter s (n .value) b) (λ _. e)
+      (λ _. cases Q (isMaxIncoming s n b) (λ _. e)
+      (λ _. subst⁻¹ (λ (t : Bool). Q (cond t (insertFull s now n b (n .connected) (b .disconnected) (b .pending)) (BucketInsertResult.Inserted, placed n b))) f
+      (placed-each n b h e))))
+
+  applyFull-each : (s : BucketSettings) (n : Node) (b : Bucket) (ds : List Node) → ds ≡ b .disconnected → P n → Each P D b → Each P D (applyFull s n b ds .0)
+  applyFull-each s n b [] q h e = e
+  applyFull-each s n b (x ∷ ds) q h e =
+      cases (λ (r : Bucket × List AppliedPending). Each P D (r .0)) (failsBucketFilter s (n .value) b || isMaxIncoming s n b) (λ _. e)
+      (λ _. put-each n (record { disconnected = ds; connected = b .connected; pending = none }) h
+      (record { held = subst⁻¹ (λ (l : List Node). All P (l ++ b .connected)) q (e .held) .1; pending = tt }))
+
+  applyDue-each : (s : BucketSettings) (now : ℕ) (n : Node) (b : Bucket) → P n → Each P D b → Each P D (applyDue s now n b .0)
+  unfolding applyDue
+  applyDue-each s now n b h e =
+      let Q : Bucket × List AppliedPending → Type 0 = λ r. Each P D (r .0) in
+      cases Q (isFull b) (λ _. applyFull-each s n b (b .disconnected) refl h e)
+      (λ f. cases Q (isInserted (insert s now n b .0)) (λ _. insert-free-each s now n b f h e) (λ _. e))
+
+  applyIfDue-each : (s : BucketSettings) (now : ℕ) (b : Bucket) (p : Option PendingNode) → Opt (λ (q : PendingNode). P (q .node) × D (q .deadline)) p
+      → Each P D b → Each P D (applyIfDue s now b p .0)
+  applyIfDue-each s now b none h e = e
+  applyIfDue-each s now b (some p) h e =
+      cases (λ (r : Bucket × List AppliedPending). Each P D (r .0)) (leb (p .deadline) now)
+      (λ _. applyDue-each s now (p .node) (withPending none b) (h .0) (withPending-each none b e tt)) (λ _. e)
+
+  pub applyPending-each : (s : BucketSettings) (now : ℕ) (b : Bucket) → Each P D b → Each P D (applyPending s now b .0)
+  unfolding applyPending
+  applyPending-each s now b e = applyIfDue-each s now b (b .pending) (e .pending) e
+
+  pub reinsert-each : (s : BucketSettings) (n : Node) (b : Bucket) → P n → Each P D b → Each P D (reinsert s n b .1)
+  unfolding reinsert
+  reinsert-each s n b h e =
+      let Q : Option FailureReason × Bucket → Type 0 = λ r. Each P D (r .1) in
+      cases Q (failsBucketFilter s (n .value) b) (λ _. e) (λ _. cases Q (isMaxIncoming s n b) (λ _. e) (λ _. placed-each n b h e))
+
+  updateIfPending-each : (k : ℕ) (f : Node → Node) (b : Bucket) (p : Option PendingNode) → ((n : Node) → P n → P (f n))
+      → Opt (λ (q : PendingNode). P (q .node) × D (q .deadline)) p → Each P D b → Each P D (updateIfPending k f b p .1)
+  updateIfPending-each k f b none g h e = e
+  updateIfPending-each k f b (some p) g h e =
+      cases (λ (r : UpdateResult × Bucket). Each P D (r .1)) (same (p .node .key) k) (λ _. withPending-each _ b e (g (p .node) (h .0), h .1)) (λ _. e)
+
+  updateStatusOf-each : (s : BucketSettings) (k : ℕ) (u : Bool) (d : Option Bool) (b : Bucket) (o : Option Node) → ((n : Node) → P n → P (withStatus u d n))
+      → Opt P o → Each P D b → Each P D (updateStatusOf s k u d b o .1)
+  updateStatusOf-each s k u d b none g h e = updateIfPending-each k (withStatus u d) b (b .pending) g (e .pending) e
+  updateStatusOf-each s k u d b (some n) g h e =
+      reinsert-each s (withStatus u d n) (withPending (cond (u && isFirst k (nodes b)) none (b .pending)) (takeOut k b)) (g n h)
+      (withPending-each _ (takeOut k b) (takeOut-each k b e)
+      (cases (Opt (λ (q : PendingNode). P (q .node) × D (q .deadline))) (u && isFirst k (nodes b)) (λ _. tt) (λ _. e .pending)))
+
+  -- the node that is found
+  lookup-each : (k : ℕ) (b : Bucket) → Each P D b → Opt P (lookup k b)
+  lookup-each k b e = subst⁻¹ (Opt P) (lookup-nodes k b) (all-find P k (nodes b) (e .held))
+
+  pub updateStatus-each : (s : BucketSettings) (k : ℕ) (u : Bool) (d : Option Bool) (b : Bucket) → ((n : Node) → P n → P (withStatus u d n))
+      → Each P D b → Each P D (updateStatus s k u d b .1)
+  unfolding updateStatus
+  updateStatus-each s k u d b g e = updateStatusOf-each s k u d b (lookup k b) g (lookup-each k b e) e
+
+  updateValueOf-each : (s : BucketSettings) (k : ℕ) (v : Value) (b : Bucket) (o : Option Node) → ((n : Node) → P n → P (withValue v n))
+      → Each P D b → Each P D (updateValueOf s k v b o .1)
+  updateValueOf-each s k v b none g e = updateIfPending-each k (withValue v) b (b .pending) g (e .pending) e
+  updateValueOf-each s k v b (some n) g e =
+      let Q : UpdateResult × Bucket → Type 0 = λ r. Each P D (r .1) in
+      cases Q (sameValue (n .value) v) (λ _. e)
+      (λ _. cases Q (failsBucketFilter s v (takeOut k b)) (λ _. takeOut-each k b e)
+      (λ _. record {
+        held = subst (All P) (revalue-append k v (b .disconnected) (b .connected)) (all-revalue P k v g (nodes b) (e .held));
+        pending = e .pending;
+      }))
+
+  pub updateValue-each : (s : BucketSettings) (k : ℕ) (v : Value) (b : Bucket) → ((n : Node) → P n → P (withValue v n))
+      → Each P D b → Each P D (updateValue s k v b .1)
+  unfolding updateValue
+  updateValue-each s k v b g e = updateValueOf-each s k v b (lookup k b) g e
+
+  pub updatePending-each : (u d : Bool) (b : Bucket) → ((n : Node) → P n → P (withStatus u (some d) n)) → Each P D b → Each P D (updatePending u d b)
+  unfolding updatePending
+  updatePending-each u d b g e = withPending-each _ b e (changed (b .pending) (e .pending))
+    where
+      changed : (p : Option PendingNode) → Opt (λ (q : PendingNode). P (q .node) × D (q .deadline)) p
+          → Opt (λ (q : PendingNode). P (q .node) × D (q .deadline)) (pendingWithStatus u d p)
+      changed none h = tt
+      changed (some p) h = (g (p .node) (h .0), h .1)
+
+  pub remove-each : (s : BucketSettings) (now k : ℕ) (b : Bucket) → Each P D b → Each P D (remove s now k b .1)
+  unfolding remove
+  remove-each s now k b e =
+      cases (λ (r : Bool × Bucket). Each P D (r .1)) (holds k b) (λ _. applyPending-each s now (takeOut k b) (takeOut-each k b e)) (λ _. e)
+
+  -- the records that applying gives
+  module _ (K : ℕ → Type 0) (key : (n : Node) → P n → K (n .key)) where
+    applyFull-records : (s : BucketSettings) (n : Node) (b : Bucket) (ds : List Node) → ds ≡ b .disconnected → P n → Each P D b → EachRecord P K (applyFull s n b ds .1)
+    applyFull-records s n b [] q h e = tt
+    applyFull-records s n b (x ∷ ds) q h e =
+        cases (λ (r : Bucket × List AppliedPending). EachRecord P K (r .1)) (failsBucketFilter s (n .value) b || isMaxIncoming s n b) (λ _. tt)
+        (λ _. ((key n h, subst⁻¹ (λ (l : List Node). All P (l ++ b .connected)) q (e .held) .0), tt))
+
+    applyDue-records : (s : BucketSettings) (now : ℕ) (n : Node) (b : Bucket) → P n → Each P D b → EachRecord P K (applyDue s now n b .1)
+    unfolding applyDue
+    applyDue-records s now n b h e =
+        let Q : Bucket × List AppliedPending → Type 0 = λ r. EachRecord P K (r .1) in
+        cases Q (isFull b) (λ _. applyFull-records s n b (b .disconnected) refl h e)
+        (λ f. cases Q (isInserted (insert s now n b .0)) (λ _. ((key n h, tt), tt)) (λ _. tt))
+
+    applyIfDue-records : (s : BucketSettings) (now : ℕ) (b : Bucket) (p : Option PendingNode) → Opt (λ (q : PendingNode). P (q .node) × D (q .deadline)) p
+        → Each P D b → EachRecord P K (applyIfDue s now b p .1)
+    applyIfDue-records s now b none h e = tt
+    applyIfDue-records s now b (some p) h e =
+        cases (λ (r : Bucket × List AppliedPending). EachRecord P K (r .1)) (leb (p .deadline) now)
+        (λ _. applyDue-records s now (p .node) (withPending none b) (h .0) (withPending-each none b e tt)) (λ _. tt)
+
+    pub applyPending-records : (s : BucketSettings) (now : ℕ) (b : Bucket) → Each P D b → EachRecord P K (applyPending s now b .1)
+    unfolding applyPending
+    applyPending-records s now b e = applyIfDue-records s now b (b .pending) (e .pending) e

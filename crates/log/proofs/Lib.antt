@@ -1,0 +1,2 @@
+-- A computed instance of the claim.
+pub mod Sample

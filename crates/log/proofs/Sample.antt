@@ -1,0 +1,25 @@
+-- The sample's answers, and that log and table agree after it, by computing.
+use mathlib.Core.Path.{_≡_, refl}
+use mathlib.Core.Bool.{Bool, true}
+use mathlib.Core.List.{[], _∷_}
+use lib.Count.{leadingZeros}
+use Rattle.model.specs.Base.{same, joined, tabulate}
+use Rattle.model.specs.Bytes.{number, bytes}
+use Rattle.model.specs.Key.{log2Distance, bucketIndex}
+use Rattle.model.specs.Value.{sameNet, sameValue}
+use Rattle.model.specs.Filter.{counts, ipFilterFails}
+use Rattle.model.specs.Bucket.{isFull, failsBucketFilter, isMaxIncoming, insert, applyDue, applyPending, reinsert, updateStatus, updateValue, updatePending, remove}
+use Rattle.model.specs.Table.{heldNodes, failsTableFilter}
+use Rattle.model.specs.Listing.{visited, found}
+use Rattle.model.specs.Question.{keysFit, codesInRange, clockFits, outputFits, kindFits}
+use Rattle.model.specs.Step.{act, queueFits, step}
+use Rattle.log.specs.Log.{group}
+use Rattle.log.specs.Sample.{sample, answersHold, logAgrees}
+
+pub sample-answers : answersHold sample ≡ true
+unfolding leadingZeros same joined tabulate number bytes log2Distance bucketIndex sameNet sameValue counts ipFilterFails isFull failsBucketFilter isMaxIncoming insert applyDue applyPending reinsert updateStatus updateValue updatePending remove heldNodes failsTableFilter visited found keysFit codesInRange clockFits outputFits kindFits act queueFits step sample answersHold
+sample-answers = refl
+
+pub sample-agrees : logAgrees (5 ∷ 6 ∷ []) sample ≡ true
+unfolding leadingZeros same joined tabulate number bytes log2Distance bucketIndex sameNet sameValue counts ipFilterFails isFull failsBucketFilter isMaxIncoming insert applyDue applyPending reinsert updateStatus updateValue updatePending remove heldNodes failsTableFilter visited found keysFit codesInRange clockFits outputFits kindFits act queueFits step sample group logAgrees
+sample-agrees = refl

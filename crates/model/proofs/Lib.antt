@@ -1,0 +1,3 @@
+-- Computed facts of the definitions.
+pub mod Rows
+pub mod Cases

@@ -1,0 +1,68 @@
+-- The table's calls, with the arguments as a host gives them: keys as bytes of any length, codes as any number, and a listing's
+-- output as the bytes that are lent. A refused call is a call too.
+use Prim.Native.Nat.{ℕ}
+use mathlib.Core.Bool.{Bool, cond, _&&_, true}
+use mathlib.Core.List.{List, [], _∷_}
+use mathlib.Core.Option.{Option, none, some}
+use lib.Dec.{eqb}
+use Rattle.model.specs.Base.{same}
+use Rattle.model.specs.Value.{Address, Value, sameNet, hasAddress}
+
+-- 01, Value: address flag, four octets, slot
+pub record ValueArgument : Type 0 where
+  pub flag : ℕ
+  pub a : ℕ
+  pub b : ℕ
+  pub c : ℕ
+  pub d : ℕ
+  pub slot : ℕ
+
+-- 01, Closures: 0 always, 1 has an address, 2 address in the /24 of a, b, c, 3 slot equals
+pub record PredicateArgument : Type 0 where
+  pub predicate : ℕ
+  pub a : ℕ
+  pub b : ℕ
+  pub c : ℕ
+  pub slot : ℕ
+
+pub data Listing : Type 0 where
+  iter : Listing
+  nodesByDistances : (distances : List ℕ) → Listing
+  closestKeys : (target : List ℕ) → Listing
+  closestValues : (target : List ℕ) → Listing
+  closestValuesPredicate : (target : List ℕ) (predicate : PredicateArgument) → Listing
+
+-- `list` is any of the five listings; n is its count
+pub data Call : Type 0 where
+  new : (localKey : List ℕ) (pendingTimeout maxIncoming tableFilter bucketFilter : ℕ) → Call
+  updateNodeStatus : (key : List ℕ) (state direction now : ℕ) → Call
+  updateNode : (key : List ℕ) (value : ValueArgument) (state now : ℕ) → Call
+  insertOrUpdate : (key : List ℕ) (value : ValueArgument) (state direction now : ℕ) → Call
+  remove : (key : List ℕ) (now : ℕ) → Call
+  entry : (key : List ℕ) (now : ℕ) → Call
+  presentUpdate : (key : List ℕ) (state direction : ℕ) → Call
+  pendingUpdate : (key : List ℕ) (state direction : ℕ) → Call
+  absentInsert : (key : List ℕ) (value : ValueArgument) (state direction now : ℕ) → Call
+  list : (listing : Listing) (n now : ℕ) (output : List ℕ) → Call
+  takeAppliedPending : Call
+
+-- 01, question 4: state 0 disconnected or 1 connected; direction 0 outgoing or 1 incoming; a flag or a filter 0 or 1
+abbrev pub isOne : ℕ → Bool
+isOne x = eqb x 1
+
+-- 01, question 4: 2 for "not given"
+abbrev pub optional : ℕ → Option Bool
+optional x = cond (eqb x 2) none (some (isOne x))
+
+abbrev pub valueOf : ValueArgument → Value
+valueOf v = record { address = cond (isOne (v .flag)) (some (record { a = v .a; b = v .b; c = v .c; d = v .d })) none; slot = v .slot }
+
+abbrev pub inNet : PredicateArgument → Option Address → Bool
+inNet p none = Bool.false
+inNet p (some x) = sameNet x (record { a = p .a; b = p .b; c = p .c; d = 0 })
+
+-- 01, Closures
+abbrev pub matches : PredicateArgument → Value → Bool
+matches p v =
+    cond (eqb (p .predicate) 0) true
+    (cond (eqb (p .predicate) 1) (hasAddress v) (cond (eqb (p .predicate) 2) (inNet p (v .address)) (same (v .slot) (p .slot))))

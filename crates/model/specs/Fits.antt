@@ -1,0 +1,109 @@
+-- A table that its bytes can hold: well formed, as question 2 asks of its bytes, and with every number within its bytes' range. It
+-- holds after an accepted `new` and is kept by every call that a host can make (FitsCall).
+use Prim.Native.Nat.{ℕ, _^_, _≤_, _<_}
+use mathlib.Core.Path.{_≡_}
+use mathlib.Core.Bool.{Bool, true, false}
+use mathlib.Core.List.{List, [], _∷_, map}
+use mathlib.Core.Option.{Option, none, some}
+use lib.ListN.{length}
+use Rattle.model.specs.Base.{same}
+use Rattle.model.specs.Bytes.{Bytes}
+use Rattle.model.specs.Key.{bucketIndex}
+use Rattle.model.specs.Value.{Address, Value}
+use Rattle.model.specs.Node.{Node, PendingNode, AppliedPending}
+use Rattle.model.specs.Bucket.{Bucket, BucketSettings, maxNodes, emptyBucket, nodes, count, holds, incomingNodes}
+use Rattle.model.specs.Table.{Settings, Table, numBuckets, maxRecords}
+use Rattle.model.specs.Sizes.{keySize, timeSize, slotSize}
+use Rattle.model.specs.Call.{ValueArgument, PredicateArgument, Listing, Call}
+
+-- every element has a property
+abbrev pub All : {A : Type 0} → (A → Type 0) → List A → Type 0
+All P [] = Unit {0}
+All P (x ∷ xs) = P x × All P xs
+
+-- the thing, if there is one, has a property
+abbrev pub Opt : {A : Type 0} → (A → Type 0) → Option A → Type 0
+Opt P none = Unit {0}
+Opt P (some a) = P a
+
+-- no two of the nodes have one key
+abbrev pub Different : List Node → Type 0
+Different [] = Unit {0}
+Different (n ∷ ns) = All (λ (m : Node). same (m .key) (n .key) ≡ false) ns × Different ns
+
+-- what question 2 asks of bucket i
+pub record WellFormed (s : Settings) (i : ℕ) (b : Bucket) : Type 0 where
+  pub at-most : count b ≤ maxNodes
+  pub different : Different (nodes b)
+  pub of-index : All (λ (n : Node). bucketIndex (s .localKey) (n .key) ≡ some i) (nodes b)
+  pub disconnected-first : All (λ (n : Node). n .connected ≡ false) (b .disconnected)
+  pub then-connected : All (λ (n : Node). n .connected ≡ true) (b .connected)
+  pub incoming-within : length (incomingNodes (nodes b)) ≤ s .bucket .maxIncoming
+  pub pending-fits : Opt (λ (p : PendingNode). (bucketIndex (s .localKey) (p .node .key) ≡ some i) × (holds (p .node .key) b ≡ false)) (b .pending)
+
+pub record FitsAddress (x : Address) : Type 0 where
+  pub a : x .a < 256
+  pub b : x .b < 256
+  pub c : x .c < 256
+  pub d : x .d < 256
+
+pub record FitsValue (v : Value) : Type 0 where
+  pub address : Opt FitsAddress (v .address)
+  pub slot : v .slot < 256 ^ slotSize
+
+pub record FitsNode (n : Node) : Type 0 where
+  pub key : n .key < 256 ^ keySize
+  pub value : FitsValue (n .value)
+
+pub record FitsPending (p : PendingNode) : Type 0 where
+  pub node : FitsNode (p .node)
+  pub deadline : p .deadline < 256 ^ timeSize
+
+pub record FitsRecord (r : AppliedPending) : Type 0 where
+  pub inserted : r .inserted < 256 ^ keySize
+  pub evicted : Opt FitsNode (r .evicted)
+
+pub record FitsBucket (b : Bucket) : Type 0 where
+  pub held : All FitsNode (nodes b)
+  pub pending : Opt FitsPending (b .pending)
+
+pub record FitsSettings (s : Settings) : Type 0 where
+  pub localKey : s .localKey < 256 ^ keySize
+  pub pendingTimeout : s .bucket .pendingTimeout < 256 ^ timeSize
+  pub maxIncoming : s .bucket .maxIncoming ≤ maxNodes
+
+pub record Fits (t : Table) : Type 0 where
+  pub settings : FitsSettings (t .settings)
+  pub buckets : (i : ℕ) → FitsBucket (t .buckets i)
+  pub well-formed : (i : ℕ) → WellFormed (t .settings) i (t .buckets i)
+  pub past : (i : ℕ) → numBuckets ≤ i → t .buckets i ≡ emptyBucket
+  pub records : All FitsRecord (t .queue)
+  pub queue : length (t .queue) ≤ maxRecords
+
+-- the arguments are what a host's parameters can hold: keys of bytes, octets of one byte, a slot of two, a timeout of eight
+pub record FitsArgument (v : ValueArgument) : Type 0 where
+  pub a : v .a < 256
+  pub b : v .b < 256
+  pub c : v .c < 256
+  pub d : v .d < 256
+  pub slot : v .slot < 256 ^ slotSize
+
+abbrev pub FitsListing : Listing → Type 0
+FitsListing Listing.iter = Unit {0}
+FitsListing (Listing.nodesByDistances ds) = Unit {0}
+FitsListing (Listing.closestKeys x) = Bytes x
+FitsListing (Listing.closestValues x) = Bytes x
+FitsListing (Listing.closestValuesPredicate x p) = Bytes x
+
+abbrev pub FitsCall : Call → Type 0
+FitsCall (Call.new k timeout m tf bf) = Bytes k × (timeout < 256 ^ timeSize)
+FitsCall (Call.updateNodeStatus k st dr now) = Bytes k
+FitsCall (Call.updateNode k v st now) = Bytes k × FitsArgument v
+FitsCall (Call.insertOrUpdate k v st dr now) = Bytes k × FitsArgument v
+FitsCall (Call.remove k now) = Bytes k
+FitsCall (Call.entry k now) = Bytes k
+FitsCall (Call.presentUpdate k st dr) = Bytes k
+FitsCall (Call.pendingUpdate k st dr) = Bytes k
+FitsCall (Call.absentInsert k v st dr now) = Bytes k × FitsArgument v
+FitsCall (Call.list l n now out) = FitsListing l
+FitsCall Call.takeAppliedPending = Unit {0}

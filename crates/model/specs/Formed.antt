@@ -1,0 +1,84 @@
+-- Question 2, on the storage's bytes (01, "The gatekeeper's questions"): one test of each bucket, and of the table "for every bucket".
+use Prim.Native.Nat.{ℕ, _+_, _*_, _-_}
+use mathlib.Core.Bool.{Bool, true, false, cond, not, _&&_, _||_}
+use mathlib.Core.List.{List, [], _∷_}
+use mathlib.Core.Option.{Option, none, some}
+use lib.ListN.{length, getD}
+use lib.Dec.{eqb, leb, ltb}
+use Rattle.model.specs.Base.{same, every, allBelow}
+use Rattle.model.specs.Bytes.{number, part}
+use Rattle.model.specs.Key.{bucketIndex}
+use Rattle.model.specs.Node.{Node}
+use Rattle.model.specs.Bucket.{maxNodes, incomingNodes}
+use Rattle.model.specs.Table.{numBuckets, maxRecords}
+use Rattle.model.specs.Sizes.{keySize, timeSize, nodeSize, recordSize, pendingAt, maxIncomingAt, tableFilterAt, bucketFilterAt, recordCountAt, recordAt}
+use Rattle.model.specs.Layout.{placeIn, nodesIn, recordPart, bucketPart}
+
+-- the k bytes from index at on are zero
+unfoldable pub areZero : List ℕ → ℕ → ℕ → Bool
+areZero bs at k = allBelow k (λ j. eqb (getD bs (at + j) 0) 0)
+
+-- codes as in 4, of a node's bytes: state, direction, address flag; octets zero at flag 0
+unfoldable pub nodeCodes : List ℕ → Bool
+nodeCodes bs =
+    leb (getD bs keySize 0) 1
+    && (leb (getD bs (keySize + 1) 0) 1 && (leb (getD bs (keySize + 2) 0) 1 && (eqb (getD bs (keySize + 2) 0) 1 || areZero bs (keySize + 3) 4)))
+
+abbrev pub keyIn : List ℕ → ℕ
+keyIn bs = number (part bs 0 keySize)
+
+-- the state that place j has where f is the first connected place
+abbrev pub stateAt : ℕ → ℕ → ℕ
+stateAt f j = cond (ltb j f) 0 1
+
+-- no place below k has the key
+unfoldable pub notHeld : List ℕ → ℕ → ℕ → Bool
+notHeld bs k key = allBelow k (λ j. not (same (keyIn (placeIn bs j)) key))
+
+-- a pending of that index and not held; unused bytes zero
+unfoldable pub pendingFormed : (ℕ → Bool) → List ℕ → Bool
+pendingFormed ofIndex bs =
+    cond (eqb (getD bs pendingAt 0) 0) (areZero bs (pendingAt + 1) (nodeSize + timeSize))
+    (eqb (getD bs pendingAt 0) 1
+    && (ofIndex (keyIn (part bs (pendingAt + 1) nodeSize))
+    && (notHeld bs (getD bs 0 0) (keyIn (part bs (pendingAt + 1) nodeSize)) && nodeCodes (part bs (pendingAt + 1) nodeSize))))
+
+-- a bucket's bytes: at most 16 different keys, each of its index, disconnected first, first connected place exact, connected
+-- incoming within max_incoming, the pending, codes as in 4, unused bytes zero
+unfoldable pub bucketFormed : (ℕ → Bool) → ℕ → List ℕ → Bool
+bucketFormed ofIndex maxIncoming bs =
+    leb (getD bs 0 0) maxNodes
+    && (allBelow (getD bs 0 0) (λ j. notHeld bs j (keyIn (placeIn bs j)))
+    && (allBelow (getD bs 0 0) (λ j. ofIndex (keyIn (placeIn bs j)))
+    && (allBelow (getD bs 0 0) (λ j. eqb (getD (placeIn bs j) keySize 0) (stateAt (getD bs 1 0) j))
+    && (leb (getD bs 1 0) (getD bs 0 0)
+    && (leb (length (incomingNodes (nodesIn bs))) maxIncoming
+    && (pendingFormed ofIndex bs
+    && (allBelow (getD bs 0 0) (λ j. nodeCodes (placeIn bs j))
+    && areZero bs (2 + getD bs 0 0 * nodeSize) ((maxNodes - getD bs 0 0) * nodeSize))))))))
+
+-- a record's bytes: codes as in 4, unused bytes zero
+unfoldable pub recordFormed : List ℕ → Bool
+recordFormed bs =
+    cond (eqb (getD bs keySize 0) 0) (areZero bs (keySize + 1) nodeSize)
+    (eqb (getD bs keySize 0) 1 && nodeCodes (part bs (keySize + 1) nodeSize))
+
+-- the settings and the queue: codes as in 4, at most 64 records, unused bytes zero
+unfoldable pub headerFormed : List ℕ → Bool
+headerFormed s =
+    leb (getD s maxIncomingAt 0) maxNodes
+    && (leb (getD s tableFilterAt 0) 1
+    && (leb (getD s bucketFilterAt 0) 1
+    && (leb (getD s recordCountAt 0) maxRecords
+    && (allBelow (getD s recordCountAt 0) (λ j. recordFormed (recordPart s j))
+    && areZero s (recordAt (getD s recordCountAt 0)) ((maxRecords - getD s recordCountAt 0) * recordSize)))))
+
+-- the index of a key is i
+abbrev pub isAt : Option ℕ → ℕ → Bool
+isAt none i = false
+isAt (some j) i = same j i
+
+unfoldable pub formed : List ℕ → Bool
+formed s =
+    headerFormed s
+    && allBelow numBuckets (λ i. bucketFormed (λ k. isAt (bucketIndex (keyIn s) k) i) (getD s maxIncomingAt 0) (bucketPart s i))

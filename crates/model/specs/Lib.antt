@@ -1,0 +1,23 @@
+-- The definitions, in document 01's order.
+pub mod Base
+pub mod Bytes
+pub mod Key
+pub mod Value
+pub mod Node
+pub mod Filter
+pub mod Result
+pub mod Bucket
+pub mod Table
+pub mod Sort
+pub mod Visit
+pub mod Sizes
+pub mod Call
+pub mod Listing
+pub mod Question
+pub mod Step
+pub mod Layout
+pub mod Formed
+pub mod StepBytes
+pub mod Fits
+pub mod Rows
+pub mod Cases

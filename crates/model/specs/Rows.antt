@@ -1,0 +1,287 @@
+-- The twelve positions of 01, as a list of rows. A row states what the definitions give in one situation; `holds` computes whether
+-- they do. Times are in milliseconds; bucket 5 has the keys 32 to 63.
+use Prim.Native.Nat.{ℕ, zero, suc, _+_, _*_, _^_}
+use mathlib.Core.Bool.{Bool, true, false, cond, _&&_, Bool·beq}
+use mathlib.Core.List.{List, [], _∷_, _++_, map}
+use mathlib.Core.Option.{Option, none, some}
+use lib.ListN.{length, take}
+use lib.Dec.{eqb}
+use Rattle.model.specs.Base.{joined, tabulate}
+use Rattle.model.specs.Bytes.{bytes, zeros}
+use Rattle.model.specs.Key.{distance, bucketIndex}
+use Rattle.model.specs.Value.{Address, Value}
+use Rattle.model.specs.Node.{Node, PendingNode, AppliedPending}
+use Rattle.model.specs.Result.{FailureReason, BucketInsertResult, UpdateResult, InsertResult}
+use Rattle.model.specs.Bucket.{Bucket, BucketSettings, nodes, firstConnectedPos}
+use Rattle.model.specs.Table.{Settings, Table, EntryKind, Answer, numBuckets, emptyTable}
+use Rattle.model.specs.Visit.{visits}
+use Rattle.model.specs.Sizes.{keySize}
+use Rattle.model.specs.Call.{ValueArgument, PredicateArgument, Listing, Call}
+use Rattle.model.specs.Listing.{Item, most}
+use Rattle.model.specs.Question.{entrySize}
+use Rattle.model.specs.Step.{step}
+use Rattle.model.specs.Formed.{bucketFormed, isAt}
+use Rattle.model.specs.StepBytes.{outputOf, written, stepBytes}
+
+-- Numbers that tell answers, nodes and records apart.
+
+abbrev pub sameNumbers : List ℕ → List ℕ → Bool
+sameNumbers [] [] = true
+sameNumbers [] (y ∷ ys) = false
+sameNumbers (x ∷ xs) [] = false
+sameNumbers (x ∷ xs) (y ∷ ys) = eqb x y && sameNumbers xs ys
+
+abbrev pub flagNumber : Bool → ℕ
+flagNumber true = 1
+flagNumber false = 0
+
+abbrev pub optionNumbers : Option ℕ → List ℕ
+optionNumbers none = 0 ∷ []
+optionNumbers (some n) = 1 ∷ n ∷ []
+
+abbrev pub addressNumbers : Option Address → List ℕ
+addressNumbers none = 0 ∷ []
+addressNumbers (some x) = 1 ∷ x .a ∷ x .b ∷ x .c ∷ x .d ∷ []
+
+abbrev pub nodeNumbers : Node → List ℕ
+nodeNumbers n =
+    n .key ∷ flagNumber (n .connected) ∷ flagNumber (n .incoming) ∷ n .value .slot ∷ addressNumbers (n .value .address)
+
+abbrev pub evictedNumbers : Option Node → List ℕ
+evictedNumbers none = 0 ∷ []
+evictedNumbers (some n) = 1 ∷ nodeNumbers n
+
+abbrev pub pendingNumbers : Option PendingNode → List ℕ
+pendingNumbers none = 0 ∷ []
+pendingNumbers (some p) = 1 ∷ p .deadline ∷ nodeNumbers (p .node)
+
+abbrev pub recordNumbers : AppliedPending → List ℕ
+recordNumbers r = r .inserted ∷ evictedNumbers (r .evicted)
+
+abbrev pub takenNumbers : Option AppliedPending → List ℕ
+takenNumbers none = 0 ∷ []
+takenNumbers (some r) = 1 ∷ recordNumbers r
+
+abbrev pub reasonNumber : FailureReason → ℕ
+reasonNumber FailureReason.TooManyIncoming = 0
+reasonNumber FailureReason.BucketFilter = 1
+reasonNumber FailureReason.TableFilter = 2
+reasonNumber FailureReason.KeyNonExistent = 3
+reasonNumber FailureReason.BucketFull = 4
+reasonNumber FailureReason.InvalidSelfUpdate = 5
+
+abbrev pub bucketInsertNumbers : BucketInsertResult → List ℕ
+bucketInsertNumbers BucketInsertResult.Inserted = 0 ∷ []
+bucketInsertNumbers (BucketInsertResult.Pending k) = 1 ∷ k ∷ []
+bucketInsertNumbers BucketInsertResult.FailedFilter = 2 ∷ []
+bucketInsertNumbers BucketInsertResult.TooManyIncoming = 3 ∷ []
+bucketInsertNumbers BucketInsertResult.Full = 4 ∷ []
+bucketInsertNumbers BucketInsertResult.NodeExists = 5 ∷ []
+
+abbrev pub updateNumbers : UpdateResult → List ℕ
+updateNumbers UpdateResult.Updated = 0 ∷ []
+updateNumbers UpdateResult.UpdatedAndPromoted = 1 ∷ []
+updateNumbers UpdateResult.UpdatedPending = 2 ∷ []
+updateNumbers (UpdateResult.Failed r) = 3 ∷ reasonNumber r ∷ []
+updateNumbers UpdateResult.NotModified = 4 ∷ []
+
+abbrev pub insertNumbers : InsertResult → List ℕ
+insertNumbers InsertResult.Inserted = 0 ∷ []
+insertNumbers (InsertResult.Pending k) = 1 ∷ k ∷ []
+insertNumbers (InsertResult.StatusUpdated p) = 2 ∷ flagNumber p ∷ []
+insertNumbers InsertResult.ValueUpdated = 3 ∷ []
+insertNumbers (InsertResult.Updated p) = 4 ∷ flagNumber p ∷ []
+insertNumbers InsertResult.UpdatedPending = 5 ∷ []
+insertNumbers (InsertResult.Failed r) = 6 ∷ reasonNumber r ∷ []
+
+abbrev pub kindNumbers : EntryKind → List ℕ
+kindNumbers (EntryKind.Present u d) = 0 ∷ flagNumber u ∷ flagNumber d ∷ []
+kindNumbers (EntryKind.Pending u d) = 1 ∷ flagNumber u ∷ flagNumber d ∷ []
+kindNumbers EntryKind.Absent = 2 ∷ []
+kindNumbers EntryKind.SelfEntry = 3 ∷ []
+
+abbrev pub answerNumbers : Answer → List ℕ
+answerNumbers (Answer.Refused n) = 0 ∷ n ∷ []
+answerNumbers Answer.New = 1 ∷ []
+answerNumbers (Answer.Update r) = 2 ∷ updateNumbers r
+answerNumbers (Answer.InsertOrUpdate r) = 3 ∷ insertNumbers r
+answerNumbers (Answer.Insert r) = 4 ∷ bucketInsertNumbers r
+answerNumbers (Answer.Remove r) = 5 ∷ flagNumber r ∷ []
+answerNumbers (Answer.Entry k) = 6 ∷ kindNumbers k
+answerNumbers (Answer.Found n) = 7 ∷ n ∷ []
+answerNumbers (Answer.TakeAppliedPending r) = 8 ∷ takenNumbers r
+
+abbrev pub itemKey : Item → ℕ
+itemKey (Item.Entry n) = n .key
+itemKey (Item.Key k) = k
+itemKey (Item.ClosestValue k v) = k
+itemKey (Item.PredicateValue k m v) = k
+
+-- the match of closest_values_predicate
+abbrev pub itemMatch : Item → List ℕ
+itemMatch (Item.Entry n) = []
+itemMatch (Item.Key k) = []
+itemMatch (Item.ClosestValue k v) = []
+itemMatch (Item.PredicateValue k m v) = flagNumber m ∷ []
+
+abbrev pub settingsNumbers : Settings → List ℕ
+settingsNumbers s =
+    s .localKey ∷ s .bucket .pendingTimeout ∷ s .bucket .maxIncoming ∷ flagNumber (s .bucket .filter) ∷ flagNumber (s .tableFilter) ∷ []
+
+abbrev pub bucketNumbers : Bucket → List ℕ
+bucketNumbers b =
+    length (b .disconnected) ∷ length (b .connected) ∷ (joined nodeNumbers (nodes b) ++ pendingNumbers (b .pending))
+
+-- the settings, the queue and all buckets
+abbrev pub tableNumbers : Table → List ℕ
+tableNumbers t =
+    settingsNumbers (t .settings)
+    ++ (length (t .queue) ∷ (joined recordNumbers (t .queue) ++ joined bucketNumbers (tabulate numBuckets (t .buckets))))
+
+-- Lists of calls. They start on a table of local key 0 and no node, with timeout 0, maximum 0 and both filters off.
+
+abbrev pub noTable : Table
+noTable =
+    emptyTable (record { localKey = 0; bucket = record { pendingTimeout = 0; maxIncoming = 0; filter = false }; tableFilter = false })
+
+abbrev pub after : List Call → Table → Table
+after [] t = t
+after (c ∷ cs) t = after cs (step c t .table)
+
+abbrev pub answersOf : List Call → Table → List Answer
+answersOf [] t = []
+answersOf (c ∷ cs) t = step c t .answer ∷ answersOf cs (step c t .table)
+
+pub data Row : Type 0 where
+  -- the bucket index of a key, where the local key is zero
+  index : (key : ℕ) (index : Option ℕ) → Row
+  -- the first visits of a closest call, where the local key is zero
+  firstVisits : (target : ℕ) (buckets : List ℕ) → Row
+  -- after the calls `before`, the calls `then` give the answers
+  answers : (before then : List Call) (answers : List Answer) → Row
+  -- after the calls, a listing at time 0 gives nodes with these keys and says how many
+  lists : (before : List Call) (listing : Listing) (n : ℕ) (keys : List ℕ) → Row
+  -- after the calls, the matches that closest_values_predicate gives at time 0
+  matches : (before : List Call) (target : ℕ) (predicate : PredicateArgument) (n : ℕ) (matches : List Bool) → Row
+  -- after the calls, a call is refused with the question's number, and the table stays as it is
+  refuses : (before : List Call) (call : Call) (question : ℕ) → Row
+  -- a call on a storage's bytes is refused with the question's number, and storage and output stay as they are
+  refusesBytes : (storage : List ℕ) (call : Call) (question : ℕ) → Row
+  -- after the calls, a listing at time 0 is lent an output and leaves these bytes in it
+  writes : (before : List Call) (listing : Listing) (n : ℕ) (output result : List ℕ) → Row
+  -- what question 2 says of a bucket's bytes, where the local key is zero
+  formed : (index maxIncoming : ℕ) (bytes : List ℕ) (formed : Bool) → Row
+  -- after the calls, a bucket's keys, place by place
+  keys : (before : List Call) (bucket : ℕ) (keys : List ℕ) → Row
+  -- after the calls, a bucket's nodes, place by place
+  places : (before : List Call) (bucket : ℕ) (nodes : List Node) → Row
+  -- after the calls, a bucket's first connected place
+  firstConnectedPlace : (before : List Call) (bucket : ℕ) (place : Option ℕ) → Row
+
+abbrev pub holds : Row → Bool
+holds (Row.index k i) = sameNumbers (optionNumbers (bucketIndex 0 k)) (optionNumbers i)
+holds (Row.firstVisits x is) = sameNumbers (take (length is) (visits (distance 0 x))) is
+holds (Row.answers before then given) =
+    sameNumbers (joined answerNumbers (answersOf then (after before noTable))) (joined answerNumbers given)
+holds (Row.lists before l n ks) =
+    let o = step (Call.list l n 0 (zeros (most l n * entrySize l))) (after before noTable) in
+    sameNumbers (answerNumbers (o .answer)) (answerNumbers (Answer.Found (length ks))) && sameNumbers (map itemKey (o .items)) ks
+holds (Row.matches before x p n bs) =
+    let l = Listing.closestValuesPredicate (bytes keySize x) p in
+    sameNumbers (joined itemMatch (step (Call.list l n 0 (zeros (n * entrySize l))) (after before noTable) .items)) (map flagNumber bs)
+holds (Row.refuses before c n) =
+    let t = after before noTable in
+    sameNumbers (answerNumbers (step c t .answer)) (answerNumbers (Answer.Refused n))
+    && sameNumbers (tableNumbers (step c t .table)) (tableNumbers t)
+holds (Row.refusesBytes s c n) =
+    let o = stepBytes c s in
+    sameNumbers (answerNumbers (o .answer)) (answerNumbers (Answer.Refused n))
+    && (sameNumbers (o .storage) s && sameNumbers (o .output) (outputOf c))
+holds (Row.writes before l n out r) =
+    sameNumbers (written (step (Call.list l n 0 out) (after before noTable) .items) out) r
+holds (Row.formed i m bs f) =
+    Bool·beq (bucketFormed (λ k. isAt (bucketIndex 0 k) i) m bs) f
+holds (Row.keys before i ks) = sameNumbers (map (λ (n : Node). n .key) (nodes (after before noTable .buckets i))) ks
+holds (Row.places before i ns) =
+    sameNumbers (joined nodeNumbers (nodes (after before noTable .buckets i))) (joined nodeNumbers ns)
+holds (Row.firstConnectedPlace before i p) =
+    sameNumbers (optionNumbers (firstConnectedPos (after before noTable .buckets i))) (optionNumbers p)
+
+-- Arguments of the calls.
+
+abbrev pub key : ℕ → List ℕ
+key k = bytes keySize k
+
+-- a value with no address
+abbrev pub plain : ℕ → ValueArgument
+plain slot = record { flag = 0; a = 0; b = 0; c = 0; d = 0; slot = slot }
+
+-- a value with the address 10.0.0.d
+abbrev pub addressed : ℕ → ℕ → ValueArgument
+addressed d slot = record { flag = 1; a = 10; b = 0; c = 0; d = d; slot = slot }
+
+-- local key zero, timeout 60,000
+abbrev pub start : (maxIncoming tableFilter bucketFilter : ℕ) → Call
+start m tf bf = Call.new (key 0) 60000 m tf bf
+
+-- state 0 disconnected, 1 connected; direction 0 outgoing, 1 incoming; outgoing at time 0 where nothing is said. The slot is the key.
+abbrev pub disconnected : ℕ → Call
+disconnected k = Call.absentInsert (key k) (plain k) 0 0 0
+
+abbrev pub connected : ℕ → Call
+connected k = Call.absentInsert (key k) (plain k) 1 0 0
+
+-- f of the n keys from k on
+abbrev pub from : {A : Type 0} → (ℕ → A) → ℕ → ℕ → List A
+from f k zero = []
+from f k (suc n) = f k ∷ from f (suc k) n
+
+-- bucket 5 full of disconnected nodes, and 48 pending since time 100
+abbrev pub pendingAt100 : List Call
+pendingAt100 = start 16 0 0 ∷ (from disconnected 32 16 ++ (Call.absentInsert (key 48) (plain 48) 1 0 100 ∷ []))
+
+-- bucket filter on; 10.0.0.1 and 10.0.0.2 are held, once each
+abbrev pub twoOfANet : List Call
+twoOfANet =
+    start 16 0 1
+    ∷ Call.absentInsert (key 32) (addressed 1 0) 0 0 0
+    ∷ Call.absentInsert (key 33) (addressed 2 0) 0 0 0
+    ∷ []
+
+unfoldable pub rows : List Row
+rows =
+    -- 1: index of 0
+    Row.index 0 none
+    -- 2: index of 1; 2; 3; 2^255
+    ∷ Row.index 1 (some 0)
+    ∷ Row.index 2 (some 1)
+    ∷ Row.index 3 (some 1)
+    ∷ Row.index (2 ^ 255) (some 255)
+    -- 3: held 1, 4, 6; target 5; n 9
+    ∷ Row.lists (start 16 0 0 ∷ disconnected 1 ∷ disconnected 4 ∷ disconnected 6 ∷ []) (Listing.closestKeys (key 5)) 9 (4 ∷ 6 ∷ 1 ∷ 1 ∷ [])
+    -- 4: held 1, 2, 4; target 6; n 9
+    ∷ Row.lists (start 16 0 0 ∷ disconnected 1 ∷ disconnected 2 ∷ disconnected 4 ∷ []) (Listing.closestKeys (key 6)) 9 (4 ∷ 2 ∷ 1 ∷ [])
+    -- 5: target 0, first four visits
+    ∷ Row.firstVisits 0 (0 ∷ 0 ∷ 1 ∷ 2 ∷ [])
+    -- 6: pending at 100, timeout 60,000; due at 60,100, not at 60,099
+    ∷ Row.answers pendingAt100 (Call.entry (key 48) 60100 ∷ []) (Answer.Entry (EntryKind.Present true false) ∷ [])
+    ∷ Row.answers pendingAt100 (Call.entry (key 48) 60099 ∷ []) (Answer.Entry (EntryKind.Pending true false) ∷ [])
+    -- 7: two disconnected then one connected; connected removed
+    ∷ Row.firstConnectedPlace (start 16 0 0 ∷ disconnected 32 ∷ disconnected 33 ∷ connected 34 ∷ Call.remove (key 34) 0 ∷ []) 5 none
+    -- 8: max_incoming 0; connected incoming; disconnected incoming
+    ∷ Row.answers (start 0 0 0 ∷ []) (Call.absentInsert (key 32) (plain 32) 1 1 0 ∷ []) (Answer.Insert BucketInsertResult.TooManyIncoming ∷ [])
+    ∷ Row.answers (start 0 0 0 ∷ []) (Call.absentInsert (key 32) (plain 32) 0 1 0 ∷ []) (Answer.Insert BucketInsertResult.Inserted ∷ [])
+    -- 9: one disconnected, 15 connected; two new connected outgoing
+    ∷ Row.answers (start 16 0 0 ∷ disconnected 32 ∷ from connected 33 15) (connected 48 ∷ connected 49 ∷ [])
+    (Answer.Insert (BucketInsertResult.Pending 32) ∷ Answer.Insert BucketInsertResult.Full ∷ [])
+    -- 10: connected A, B; A set connected
+    ∷ Row.keys (start 16 0 0 ∷ connected 32 ∷ connected 33 ∷ Call.updateNodeStatus (key 32) 1 2 0 ∷ []) 5 (33 ∷ 32 ∷ [])
+    ∷ Row.answers (start 16 0 0 ∷ connected 32 ∷ connected 33 ∷ []) (Call.updateNodeStatus (key 32) 1 2 0 ∷ [])
+    (Answer.Update UpdateResult.NotModified ∷ [])
+    -- 11: distances 3, 3, 257; only key 4 held; n 5; n 0
+    ∷ Row.lists (start 16 0 0 ∷ disconnected 4 ∷ []) (Listing.nodesByDistances (3 ∷ 3 ∷ 257 ∷ [])) 5 (4 ∷ 4 ∷ [])
+    ∷ Row.lists (start 16 0 0 ∷ disconnected 4 ∷ []) (Listing.nodesByDistances (3 ∷ 3 ∷ 257 ∷ [])) 0 (4 ∷ [])
+    -- 12: bucket filter on, unequal values V and W of a /24 held once each; a new disconnected key with a third value there; with W
+    ∷ Row.answers twoOfANet (Call.absentInsert (key 34) (addressed 3 0) 0 0 0 ∷ []) (Answer.Insert BucketInsertResult.FailedFilter ∷ [])
+    ∷ Row.answers twoOfANet (Call.absentInsert (key 34) (addressed 2 0) 0 0 0 ∷ []) (Answer.Insert BucketInsertResult.Inserted ∷ [])
+    ∷ []

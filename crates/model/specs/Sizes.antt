@@ -1,0 +1,66 @@
+-- How many bytes each thing takes, each derived from the others. Offsets count from the start of the thing itself.
+use Prim.Native.Nat.{ℕ, _+_, _*_}
+use Rattle.model.specs.Bucket.{maxNodes}
+use Rattle.model.specs.Table.{numBuckets, maxRecords}
+
+abbrev pub keySize : ℕ
+keySize = 32
+
+abbrev pub timeSize : ℕ
+timeSize = 8
+
+abbrev pub slotSize : ℕ
+slotSize = 2
+
+-- a value: address flag, four octets, slot
+abbrev pub valueSize : ℕ
+valueSize = 5 + slotSize
+
+-- a node: key, state, direction, value
+abbrev pub nodeSize : ℕ
+nodeSize = keySize + 2 + valueSize
+
+-- a record: inserted key, evicted flag, evicted node
+abbrev pub recordSize : ℕ
+recordSize = keySize + 1 + nodeSize
+
+-- a bucket: count, first connected place, the places; then pending flag, pending node, deadline
+abbrev pub pendingAt : ℕ
+pendingAt = 2 + maxNodes * nodeSize
+
+abbrev pub pendingSize : ℕ
+pendingSize = 1 + nodeSize + timeSize
+
+abbrev pub bucketSize : ℕ
+bucketSize = pendingAt + pendingSize
+
+-- the table: local key, pending timeout, max_incoming, table filter, bucket filter, record count, records, buckets
+abbrev pub timeoutAt : ℕ
+timeoutAt = keySize
+
+abbrev pub maxIncomingAt : ℕ
+maxIncomingAt = timeoutAt + timeSize
+
+abbrev pub tableFilterAt : ℕ
+tableFilterAt = maxIncomingAt + 1
+
+abbrev pub bucketFilterAt : ℕ
+bucketFilterAt = tableFilterAt + 1
+
+abbrev pub recordCountAt : ℕ
+recordCountAt = bucketFilterAt + 1
+
+abbrev pub recordsAt : ℕ
+recordsAt = recordCountAt + 1
+
+abbrev pub recordAt : ℕ → ℕ
+recordAt j = recordsAt + j * recordSize
+
+abbrev pub headerSize : ℕ
+headerSize = recordsAt + maxRecords * recordSize
+
+abbrev pub bucketAt : ℕ → ℕ
+bucketAt i = headerSize + i * bucketSize
+
+abbrev pub storageSize : ℕ
+storageSize = headerSize + numBuckets * bucketSize

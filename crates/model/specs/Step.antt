@@ -1,0 +1,105 @@
+-- One call on a table: what it answers, the table that it leaves, the records that it adds, and what a listing gives.
+use Prim.Native.Nat.{ℕ}
+use mathlib.Core.Bool.{Bool, false, _&&_}
+use mathlib.Core.List.{List, [], _∷_, map}
+use mathlib.Core.Option.{Option, none, some}
+use lib.ListN.{length}
+use lib.Dec.{leb}
+use Rattle.model.specs.Bytes.{number}
+use Rattle.model.specs.Value.{Value}
+use Rattle.model.specs.Node.{Node, AppliedPending}
+use Rattle.model.specs.Result.{FailureReason, UpdateResult, InsertResult}
+use Rattle.model.specs.Bucket.{Bucket, BucketSettings, insert, updateStatus, updatePending, remove}
+use Rattle.model.specs.Table.{Settings, Table, EntryKind, Answer, Effect, maxRecords, emptyTable, afterApplying, asStored, failsTableFilter, updateNodeIn, insertOrUpdateIn, kindOf, write, indexIn}
+use Rattle.model.specs.Call.{ValueArgument, Listing, Call, isOne, optional, valueOf}
+use Rattle.model.specs.Listing.{Item, item, applyAll, applies, found}
+use Rattle.model.specs.Question.{firstFailed, keysFit, codesInRange, clockFits, outputFits, kindFits}
+
+pub record Outcome : Type 0 where
+  pub answer : Answer
+  pub table : Table
+  -- the records added to the queue
+  pub records : List AppliedPending
+  -- what a listing gives of each node that it lists
+  pub items : List Item
+
+abbrev pub unchanged : Answer → Table → Outcome
+unchanged a t = record { answer = a; table = t; records = []; items = [] }
+
+-- a call on one key: `self` is the answer for the local key (an entry action on it has failed question 7)
+abbrev pub onKey : Table → Answer → (ℕ → Bucket → Effect) → Option ℕ → Outcome
+onKey t self f none = unchanged self t
+onKey t self f (some i) =
+    let e = f i (t .buckets i) in
+    record { answer = e .answer; table = write t i (e .bucket) (e .records); records = e .records; items = [] }
+
+abbrev pub nodeOf : List ℕ → ValueArgument → ℕ → ℕ → Node
+nodeOf k v state direction = record { key = number k; value = valueOf v; connected = isOne state; incoming = isOne direction }
+
+abbrev pub settingsOf : List ℕ → ℕ → ℕ → ℕ → ℕ → Settings
+settingsOf k timeout m tf bf =
+    record { localKey = number k; bucket = record { pendingTimeout = timeout; maxIncoming = m; filter = isOne bf }; tableFilter = isOne tf }
+
+-- 01, Queue: first in, first out
+abbrev pub takeOldest : Table → List AppliedPending → Outcome
+takeOldest t [] = unchanged (Answer.TakeAppliedPending none) t
+takeOldest t (a ∷ rest) = unchanged (Answer.TakeAppliedPending (some a)) (record { settings = t .settings; buckets = t .buckets; queue = rest })
+
+-- the call's work, with an endless queue
+unfoldable pub act : Call → Table → Outcome
+act (Call.new k timeout m tf bf) t = unchanged Answer.New (emptyTable (settingsOf k timeout m tf bf))
+act (Call.updateNodeStatus k st dr now) t =
+    let s = t .settings .bucket in
+    onKey t (Answer.Update UpdateResult.NotModified)
+    (λ i. afterApplying s now (λ b. let r = updateStatus s (number k) (isOne st) (optional dr) b in (Answer.Update (r .0), r .1)))
+    (indexIn t (number k))
+act (Call.updateNode k v st now) t =
+    let s = t .settings .bucket in
+    onKey t (Answer.Update UpdateResult.NotModified)
+    (λ i. afterApplying s now (updateNodeIn s (failsTableFilter t i (number k) (valueOf v)) now (number k) (valueOf v) (optional st)))
+    (indexIn t (number k))
+act (Call.insertOrUpdate k v st dr now) t =
+    let s = t .settings .bucket in
+    onKey t (Answer.InsertOrUpdate (InsertResult.Failed FailureReason.InvalidSelfUpdate))
+    (λ i. afterApplying s now (insertOrUpdateIn s (failsTableFilter t i (number k) (valueOf v)) now (nodeOf k v st dr)))
+    (indexIn t (number k))
+act (Call.remove k now) t =
+    let s = t .settings .bucket in
+    onKey t (Answer.Remove false) (λ i. afterApplying s now (λ b. let r = remove s now (number k) b in (Answer.Remove (r .0), r .1)))
+    (indexIn t (number k))
+act (Call.entry k now) t =
+    onKey t (Answer.Entry EntryKind.SelfEntry) (λ i. afterApplying (t .settings .bucket) now (λ b. (Answer.Entry (kindOf (number k) b), b)))
+    (indexIn t (number k))
+act (Call.presentUpdate k st dr) t =
+    onKey t (Answer.Refused 7)
+    (λ i. asStored (λ b. let r = updateStatus (t .settings .bucket) (number k) (isOne st) (optional dr) b in (Answer.Update (r .0), r .1)))
+    (indexIn t (number k))
+act (Call.pendingUpdate k st dr) t =
+    onKey t (Answer.Refused 7) (λ i. asStored (λ b. (Answer.Update UpdateResult.UpdatedPending, updatePending (isOne st) (isOne dr) b)))
+    (indexIn t (number k))
+act (Call.absentInsert k v st dr now) t =
+    onKey t (Answer.Refused 7)
+    (λ i. asStored (λ b. let r = insert (t .settings .bucket) now (nodeOf k v st dr) b in (Answer.Insert (r .0), r .1)))
+    (indexIn t (number k))
+act (Call.list l n now out) t =
+    let r = applyAll now (applies l n now t) t in
+    let ns = found l n now t in
+    record { answer = Answer.Found (length ns); table = r .0; records = r .1; items = map (item l) ns }
+act Call.takeAppliedPending t = takeOldest t (t .queue)
+
+-- 8: with an endless queue, would the call leave at most 64 records?
+unfoldable pub queueFits : Call → Table → Bool
+queueFits c t = leb (length (act c t .table .queue)) maxRecords
+
+-- 01, questions 3 to 8, in turn
+abbrev pub questions : Call → Table → List (ℕ × Bool)
+questions c t =
+    (3, keysFit c) ∷ (4, codesInRange c) ∷ (5, clockFits c t) ∷ (6, outputFits c) ∷ (7, kindFits c t) ∷ (8, queueFits c t) ∷ []
+
+-- a refusal is its number alone
+abbrev pub unlessRefused : Option ℕ → Call → Table → Outcome
+unlessRefused none c t = act c t
+unlessRefused (some n) c t = unchanged (Answer.Refused n) t
+
+unfoldable pub step : Call → Table → Outcome
+step c t = unlessRefused (firstFailed (questions c t)) c t

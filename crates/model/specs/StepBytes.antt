@@ -1,0 +1,81 @@
+-- One call on the storage's bytes: what each entry point answers and leaves, for every storage and every argument.
+use Prim.Native.Nat.{ℕ}
+use mathlib.Core.Bool.{Bool, not, _||_}
+use mathlib.Core.List.{List, [], _∷_, _++_}
+use mathlib.Core.Option.{Option, none, some}
+use lib.ListN.{length, drop}
+use lib.Dec.{eqb}
+use Rattle.model.specs.Base.{joined, tabulate}
+use Rattle.model.specs.Bytes.{number, splice}
+use Rattle.model.specs.Node.{AppliedPending}
+use Rattle.model.specs.Table.{Table, Answer, numBuckets, indexIn}
+use Rattle.model.specs.Sizes.{bucketAt, storageSize}
+use Rattle.model.specs.Call.{Call}
+use Rattle.model.specs.Listing.{Item, applies}
+use Rattle.model.specs.Question.{firstFailed, arguments}
+use Rattle.model.specs.Step.{Outcome, act, questions}
+use Rattle.model.specs.Layout.{bucketBytes, headerBytes, itemBytes, tableOf}
+use Rattle.model.specs.Formed.{formed}
+
+pub record BytesOutcome : Type 0 where
+  pub answer : Answer
+  pub storage : List ℕ
+  pub output : List ℕ
+  pub records : List AppliedPending
+
+-- 2: does it hold a well-formed table (not asked by `new`)?
+abbrev pub holdsTable : Call → List ℕ → Bool
+holdsTable c s = not (arguments c .table) || formed s
+
+-- 01, questions 1 to 8, in turn
+abbrev pub allQuestions : Call → List ℕ → List (ℕ × Bool)
+allQuestions c s = (1, eqb (length s) storageSize) ∷ (2, holdsTable c s) ∷ questions c (tableOf s)
+
+-- the lent output; empty where the call has none
+abbrev pub outputOf : Call → List ℕ
+outputOf c = arguments c .output
+
+-- 01, question 6: entries past the count found keep their bytes
+abbrev pub written : List Item → List ℕ → List ℕ
+written items out = splice out 0 (joined itemBytes items)
+
+abbrev pub indices : Option ℕ → List ℕ
+indices none = []
+indices (some i) = i ∷ []
+
+abbrev pub bucketOfKey : List ℕ → Table → List ℕ
+bucketOfKey k t = indices (indexIn t (number k))
+
+-- the buckets that a call writes back, changed or not; what the table filter only reads is not among them
+abbrev pub touched : Call → Table → List ℕ
+touched (Call.new k timeout m tf bf) t = tabulate numBuckets (λ i. i)
+touched (Call.updateNodeStatus k st dr now) t = bucketOfKey k t
+touched (Call.updateNode k v st now) t = bucketOfKey k t
+touched (Call.insertOrUpdate k v st dr now) t = bucketOfKey k t
+touched (Call.remove k now) t = bucketOfKey k t
+touched (Call.entry k now) t = bucketOfKey k t
+touched (Call.presentUpdate k st dr) t = bucketOfKey k t
+touched (Call.pendingUpdate k st dr) t = bucketOfKey k t
+touched (Call.absentInsert k v st dr now) t = bucketOfKey k t
+touched (Call.list l n now out) t = applies l n now t
+touched Call.takeAppliedPending t = []
+
+-- the storage with the settings, the queue and the buckets named as the table has them; all other bytes stay
+unfoldable pub restore : List ℕ → List ℕ → Table → List ℕ
+restore s [] t = splice s 0 (headerBytes t)
+restore s (i ∷ is) t = splice (restore s is t) (bucketAt i) (bucketBytes (t .buckets i))
+
+-- a refusal is its number alone; all lent memory keeps its bytes
+abbrev pub unlessRefused : Option ℕ → Call → List ℕ → BytesOutcome
+unlessRefused (some n) c s = record { answer = Answer.Refused n; storage = s; output = outputOf c; records = [] }
+unlessRefused none c s =
+    let o = act c (tableOf s) in
+    record {
+      answer = o .answer;
+      storage = restore s (touched c (tableOf s)) (o .table);
+      output = written (o .items) (outputOf c);
+      records = o .records;
+    }
+
+unfoldable pub stepBytes : Call → List ℕ → BytesOutcome
+stepBytes c s = unlessRefused (firstFailed (allQuestions c s)) c s
