@@ -1,6 +1,6 @@
 -- The first n of lists that stand one behind the other.
 use mathlib.Core.Path.{_≡_, refl, sym, ap, ap₂, _∙_}
-use mathlib.Core.List.{List, [], _∷_, _++_, append-assoc}
+use mathlib.Core.List.{List, [], _∷_, _++_}
 use Prim.Native.Nat.{ℕ, zero, suc, _-_}
 use native.Mathlib.Nat.{suc-sub-suc, sub-zero, zero-sub}
 use lib.ListN.{length, take}

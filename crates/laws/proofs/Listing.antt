@@ -2,7 +2,7 @@
 use mathlib.Core.Path.{_≡_, refl, sym, ap, _∙_}
 use mathlib.Core.List.{List, [], _∷_, _++_}
 use Prim.Native.Nat.{ℕ, zero, suc, _-_}
-use lib.ListN.{length, length-append, take}
+use lib.ListN.{length, take}
 use Rattle.model.specs.Base.{joined}
 use Rattle.model.specs.Bytes.{number}
 use Rattle.model.specs.Key.{distance}

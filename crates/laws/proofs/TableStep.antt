@@ -1,17 +1,14 @@
 -- On the bytes of a table, stepBytes answers what step answers and leaves the bytes of the table that step leaves.
-use Prim.Native.Nat.{ℕ, _<_}
+use Prim.Native.Nat.{ℕ}
 use native.Mathlib.Omega.{arith}
 use mathlib.Core.Path.{_≡_, refl, sym, ap, _∙_, subst, subst⁻¹}
-use mathlib.Core.Bool.{Bool, true, false, not, _||_}
-use mathlib.Core.List.{List, [], _∷_}
+use mathlib.Core.Bool.{Bool, true, not, _||_}
+use mathlib.Core.List.{List, _∷_}
 use mathlib.Core.Option.{Option, none, some}
 use lib.ListN.{length}
 use lib.Dec.{eqb}
 use borrow.Author.Tests.{eq-eqb, eqb-true}
-use Rattle.model.specs.Base.{same, tabulate}
-use Rattle.model.specs.Bucket.{Bucket}
-use Rattle.model.specs.Node.{AppliedPending}
-use Rattle.model.specs.Table.{Table, Answer, numBuckets}
+use Rattle.model.specs.Table.{Table, Answer}
 use Rattle.model.specs.Sizes.{storageSize}
 use Rattle.model.specs.Call.{Call}
 use Rattle.model.specs.Question.{firstFailed, arguments}
@@ -19,7 +16,7 @@ use Rattle.model.specs.Step.{Outcome, act, questions, step}
 use Rattle.model.specs.Layout.{bytesOf, tableOf}
 use Rattle.model.specs.Formed.{formed}
 use Rattle.model.specs.StepBytes.{BytesOutcome, allQuestions, touched, restore, unlessRefused, stepBytes}
-use Rattle.model.specs.Fits.{All, Fits, FitsCall}
+use Rattle.model.specs.Fits.{Fits, FitsCall}
 use Rattle.laws.proofs.Tests.{clash, split, or-second}
 use Rattle.laws.proofs.KeepStep.{step-accepted, step-refused, step-fits, new-fits, passed}
 use Rattle.laws.proofs.Frame.{isNew, act-frame}

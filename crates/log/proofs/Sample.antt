@@ -1,6 +1,6 @@
 -- The sample's answers, and that log and table agree after it, by computing.
 use mathlib.Core.Path.{_≡_, refl}
-use mathlib.Core.Bool.{Bool, true}
+use mathlib.Core.Bool.{true}
 use mathlib.Core.List.{[], _∷_}
 use lib.Count.{leadingZeros}
 use Rattle.model.specs.Base.{same, joined, tabulate}

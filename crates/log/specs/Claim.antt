@@ -1,11 +1,11 @@
 -- What is claimed of every list of calls that follows an accepted `new` (01, "What the log says"; demand 3).
 use Prim.Native.Nat.{ℕ, _≤_}
 use mathlib.Core.Path.{_≡_}
-use mathlib.Core.Bool.{Bool, true, false}
-use mathlib.Core.List.{List, [], _∷_, _++_}
+use mathlib.Core.Bool.{true}
+use mathlib.Core.List.{List, [], _∷_}
 use mathlib.Core.Logic.{_⊎_}
 use lib.ListN.{length}
-use Rattle.model.specs.Value.{Value, sharesNet, sameValue}
+use Rattle.model.specs.Value.{Value, sharesNet}
 use Rattle.model.specs.Node.{Node}
 use Rattle.model.specs.Bucket.{nodes, count, incomingNodes}
 use Rattle.model.specs.Table.{Table}
@@ -14,7 +14,7 @@ use Rattle.model.specs.Step.{step}
 use Rattle.model.specs.Layout.{tableOf}
 use Rattle.model.specs.Formed.{formed}
 use Rattle.model.specs.StepBytes.{stepBytes}
-use Rattle.log.specs.Log.{Entry, Log, logOf, logBucket}
+use Rattle.log.specs.Log.{Entry, logOf, logBucket}
 
 -- Each call gets the table as the one before left it.
 abbrev pub tableAfter : List Call → Table → Table

@@ -10,9 +10,9 @@ use Rattle.model.specs.Bytes.{number}
 use Rattle.model.specs.Key.{bucketIndex}
 use Rattle.model.specs.Value.{Value}
 use Rattle.model.specs.Node.{Node, AppliedPending}
-use Rattle.model.specs.Result.{BucketInsertResult, UpdateResult, InsertResult, isInserted, isFailed}
+use Rattle.model.specs.Result.{InsertResult, isInserted, isFailed}
 use Rattle.model.specs.Table.{Settings, Answer}
-use Rattle.model.specs.Call.{Listing, Call, isOne, optional, valueOf}
+use Rattle.model.specs.Call.{Call, isOne, optional, valueOf}
 use Rattle.model.specs.Step.{settingsOf}
 use Rattle.model.specs.Formed.{isAt}
 use Rattle.log.specs.Keys.{without}

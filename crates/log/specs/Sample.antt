@@ -1,19 +1,19 @@
 -- A list of calls on which table and log are compared by computing. It fills bucket 5 (keys 32 to 63), evicts, fails, is refused, and
 -- changes state, direction and value of held and of pending nodes.
 use Prim.Native.Nat.{ℕ, _*_}
-use mathlib.Core.Bool.{Bool, true, false, _&&_}
+use mathlib.Core.Bool.{Bool, true, _&&_}
 use mathlib.Core.List.{List, [], _∷_, _++_, map, reverse}
-use mathlib.Core.Option.{Option, some}
+use mathlib.Core.Option.{some}
 use Rattle.model.specs.Base.{every, joined}
 use Rattle.model.specs.Bytes.{zeros}
-use Rattle.model.specs.Node.{Node, AppliedPending}
 use Rattle.model.specs.Result.{FailureReason, BucketInsertResult, UpdateResult, InsertResult}
 use Rattle.model.specs.Bucket.{nodes}
 use Rattle.model.specs.Table.{Table, Answer}
 use Rattle.model.specs.Sizes.{nodeSize}
 use Rattle.model.specs.Call.{Listing, Call}
 use Rattle.model.specs.Step.{nodeOf}
-use Rattle.model.specs.Rows.{sameNumbers, nodeNumbers, settingsNumbers, answerNumbers, noTable, key, plain, from}
+use Rattle.model.specs.Numbers.{sameNumbers, nodeNumbers, settingsNumbers, answerNumbers}
+use Rattle.model.specs.Rows.{noTable, key, plain, from}
 use Rattle.log.specs.Log.{Entry, Log, logOf, logBucket}
 use Rattle.log.specs.Claim.{tableAfter, entries}
 

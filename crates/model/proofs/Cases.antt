@@ -1,6 +1,6 @@
 -- The further positions hold, by computing them all.
 use mathlib.Core.Path.{_≡_, refl}
-use mathlib.Core.Bool.{Bool, true}
+use mathlib.Core.Bool.{true}
 use lib.Count.{leadingZeros}
 use Rattle.model.specs.Base.{same, every, joined, tabulate, allBelow}
 use Rattle.model.specs.Bytes.{number, bytes, part, splice}

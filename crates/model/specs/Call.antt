@@ -1,8 +1,8 @@
 -- The table's calls, with the arguments as a host gives them: keys as bytes of any length, codes as any number, and a listing's
 -- output as the bytes that are lent. A refused call is a call too.
 use Prim.Native.Nat.{ℕ}
-use mathlib.Core.Bool.{Bool, cond, _&&_, true}
-use mathlib.Core.List.{List, [], _∷_}
+use mathlib.Core.Bool.{Bool, cond, true}
+use mathlib.Core.List.{List}
 use mathlib.Core.Option.{Option, none, some}
 use lib.Dec.{eqb}
 use Rattle.model.specs.Base.{same}

@@ -2,20 +2,20 @@
 use Prim.Native.Nat.{ℕ, zero, suc, _+_, _-_, _*_, _^_}
 use mathlib.Core.Bool.{Bool, true, false}
 use mathlib.Core.List.{List, [], _∷_, _++_}
-use mathlib.Core.Option.{Option, none, some}
+use mathlib.Core.Option.{none, some}
 use lib.ListN.{replicate}
 use Rattle.model.specs.Bytes.{bytes, splice, zeros}
-use Rattle.model.specs.Node.{Node, AppliedPending}
+use Rattle.model.specs.Node.{Node}
 use Rattle.model.specs.Result.{FailureReason, BucketInsertResult, UpdateResult, InsertResult}
 use Rattle.model.specs.Table.{EntryKind, Answer}
-use Rattle.model.specs.Bucket.{Bucket}
-use Rattle.model.specs.Sizes.{keySize, nodeSize, pendingAt, bucketSize, maxIncomingAt, storageSize}
-use Rattle.model.specs.Call.{ValueArgument, PredicateArgument, Listing, Call, valueOf}
+use Rattle.model.specs.Sizes.{keySize, slotSize, valueSize, nodeSize, pendingAt, bucketSize, maxIncomingAt, storageSize}
+use Rattle.model.specs.Call.{PredicateArgument, Listing, Call}
 use Rattle.model.specs.Step.{nodeOf}
 use Rattle.model.specs.Layout.{bucketBytes}
 use Rattle.model.specs.Rows.{Row, key, plain, addressed, start, disconnected, connected, from, pendingAt100, twoOfANet}
 
--- answers
+-- What the calls answer.
+
 abbrev present : (connected : Bool) → Answer
 present u = Answer.Entry (EntryKind.Present u false)
 
@@ -38,6 +38,8 @@ evicting k d = Answer.TakeAppliedPending (some (record { inserted = k; evicted =
 abbrev noRecord : Answer
 noRecord = Answer.TakeAppliedPending none
 
+-- Calls and lists of calls.
+
 -- a disconnected node with the address 10.0.0.k and slot 0
 abbrev member : ℕ → Call
 member k = Call.absentInsert (key k) (addressed k 0) 0 0 0
@@ -45,6 +47,7 @@ member k = Call.absentInsert (key k) (addressed k 0) 0 0 0
 abbrev memberNode : ℕ → Node
 memberNode k = nodeOf (key k) (addressed k 0) 0 0
 
+-- the n keys from k on
 abbrev numbers : ℕ → ℕ → List ℕ
 numbers k n = from (λ x. x) k n
 
@@ -69,10 +72,11 @@ pendingOverOne = start 16 0 0 ∷ disconnected 32 ∷ (from connected 33 15 ++ (
 abbrev fullAtOnce : List Call
 fullAtOnce = Call.new (key 0) 0 16 0 0 ∷ from disconnected 256 16
 
--- n keys from 272 on: each is made pending, applied by the next call, and set disconnected. Each leaves a record.
+-- applies the due pending k, then sets it disconnected
 abbrev settle : ℕ → Call
 settle k = Call.updateNodeStatus (key k) 0 2 0
 
+-- n keys from k on, each made pending and applied by the next call: each leaves a record, and the bucket full of disconnected nodes
 abbrev applied : ℕ → ℕ → List Call
 applied k zero = []
 applied k (suc n) = connected k ∷ settle k ∷ applied (suc k) n
@@ -80,7 +84,7 @@ applied k (suc n) = connected k ∷ settle k ∷ applied (suc k) n
 abbrev insertOrUpdate : ℕ → Call
 insertOrUpdate k = Call.insertOrUpdate (key k) (plain k) 0 0 0
 
--- held 1, 4, 6 with an address of another /24, with an address, and with none
+-- 1 is held with an address of another /24, 4 with 10.0.0.4, 6 with none
 abbrev threeNodes : List Call
 threeNodes =
     start 16 0 0
@@ -89,13 +93,15 @@ threeNodes =
     ∷ Call.absentInsert (key 6) (plain 7) 0 0 0
     ∷ []
 
+-- a predicate on 10.0.0.0/24 or slot 7
 abbrev predicate : ℕ → PredicateArgument
 predicate p = record { predicate = p; a = 10; b = 0; c = 0; slot = 7 }
 
--- a bucket of index 5 with four nodes, one of them connected and incoming, and a pending
+-- a node whose slot is its key
 abbrev node : (key state direction : ℕ) → Node
 node k st dr = nodeOf (key k) (plain k) st dr
 
+-- the bytes of a bucket of index 5: two disconnected nodes, an outgoing and an incoming connected one, and a pending
 abbrev fourNodes : (disconnected : List Node) (pending : Node) → List ℕ
 fourNodes ns p =
     bucketBytes (record { disconnected = ns; connected = node 34 1 0 ∷ node 35 1 1 ∷ []; pending = some (record { node = p; deadline = 5 }) })
@@ -103,7 +109,7 @@ fourNodes ns p =
 abbrev four : List ℕ
 four = fourNodes (node 32 0 0 ∷ node 33 0 1 ∷ []) (node 48 1 0)
 
--- its bytes with another one at an index
+-- the same with another byte at an index
 abbrev with : ℕ → ℕ → List ℕ
 with at b = splice four at (b ∷ [])
 
@@ -116,7 +122,7 @@ flagAt j = placeAt j + keySize + 2
 
 unfoldable pub cases : List Row
 cases =
-    -- filter.rs, the table filter: nine of one /24 held, one of them gets another slot: its old value makes nine; it keeps its place
+    -- the table filter: nine of one /24 held, one of them gets another slot: its old value makes nine; it keeps its place
     Row.answers (members 9) (Call.updateNode (key 32) (addressed 32 7) 2 0 ∷ []) (Answer.Update UpdateResult.Updated ∷ [])
     ∷ Row.places (members 9 ++ (Call.updateNode (key 32) (addressed 32 7) 2 0 ∷ [])) 5 (nodeOf (key 32) (addressed 32 7) 0 0 ∷ from memberNode 33 8)
     -- ten held: its old value makes ten; the call fails and the node is gone
@@ -171,7 +177,8 @@ cases =
     (insertOrUpdate 32 ∷ insertOrUpdate 33 ∷ insertOrUpdate 64 ∷ Call.entry (key 32) 0 ∷ Call.entry (key 33) 0 ∷ Call.entry (key 64) 0 ∷ [])
     (replicate 3 (Answer.InsertOrUpdate InsertResult.Inserted) ++ replicate 3 (present false))
     -- sixteen are inserted; then a disconnected node is Full, a connected one Pending
-    ∷ Row.answers (start 16 0 0 ∷ []) (from insertOrUpdate 32 17) (replicate 16 (Answer.InsertOrUpdate InsertResult.Inserted) ++ (insertFailed FailureReason.BucketFull ∷ []))
+    ∷ Row.answers (start 16 0 0 ∷ []) (from insertOrUpdate 32 17)
+    (replicate 16 (Answer.InsertOrUpdate InsertResult.Inserted) ++ (insertFailed FailureReason.BucketFull ∷ []))
     ∷ Row.answers (start 16 0 0 ∷ []) (from disconnected 32 16 ++ (connected 48 ∷ []))
     (replicate 16 (Answer.Insert BucketInsertResult.Inserted) ++ (Answer.Insert (BucketInsertResult.Pending 32) ∷ []))
     -- all sixteen connected: Full
@@ -223,10 +230,10 @@ cases =
     ∷ Row.lists threeNodes (Listing.closestKeys (key 5)) 0 []
     ∷ Row.lists threeNodes (Listing.nodesByDistances (0 ∷ 257 ∷ 3 ∷ 1 ∷ [])) 9 (4 ∷ 6 ∷ 1 ∷ [])
     -- what is written: the entries found; behind them the bytes stay
-    ∷ Row.writes threeNodes (Listing.closestValuesPredicate (key 6) (predicate 2)) 1 (replicate 50 9)
-    (zeros 31 ++ (6 ∷ 0 ∷ 0 ∷ 0 ∷ 0 ∷ 0 ∷ 0 ∷ 0 ∷ 7 ∷ replicate 10 9))
-    ∷ Row.writes (start 1 0 0 ∷ Call.absentInsert (key 32) (addressed 9 258) 1 1 0 ∷ []) Listing.iter 2 (replicate 82 9)
-    (zeros 31 ++ (32 ∷ 1 ∷ 1 ∷ 1 ∷ 10 ∷ 0 ∷ 0 ∷ 9 ∷ 1 ∷ 2 ∷ replicate 41 9))
+    ∷ Row.writes threeNodes (Listing.closestValuesPredicate (key 6) (predicate 2)) 1 (replicate (keySize + 1 + valueSize + 9) 9)
+    (key 6 ++ (0 ∷ (zeros 5 ++ (bytes slotSize 7 ++ replicate 9 9))))
+    ∷ Row.writes (start 1 0 0 ∷ Call.absentInsert (key 32) (addressed 9 258) 1 1 0 ∷ []) Listing.iter 2 (replicate (2 * nodeSize) 9)
+    (key 32 ++ (1 ∷ 1 ∷ 1 ∷ 10 ∷ 0 ∷ 0 ∷ 9 ∷ (bytes slotSize 258 ++ replicate nodeSize 9)))
     -- the predicates
     ∷ Row.matches threeNodes 5 (predicate 0) 9 (true ∷ true ∷ true ∷ true ∷ [])
     ∷ Row.matches threeNodes 5 (predicate 1) 9 (true ∷ false ∷ true ∷ true ∷ [])

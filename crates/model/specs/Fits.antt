@@ -2,8 +2,8 @@
 -- holds after an accepted `new` and is kept by every call that a host can make (FitsCall).
 use Prim.Native.Nat.{ℕ, _^_, _≤_, _<_}
 use mathlib.Core.Path.{_≡_}
-use mathlib.Core.Bool.{Bool, true, false}
-use mathlib.Core.List.{List, [], _∷_, map}
+use mathlib.Core.Bool.{true, false}
+use mathlib.Core.List.{List, [], _∷_}
 use mathlib.Core.Option.{Option, none, some}
 use lib.ListN.{length}
 use Rattle.model.specs.Base.{same}
@@ -11,10 +11,10 @@ use Rattle.model.specs.Bytes.{Bytes}
 use Rattle.model.specs.Key.{bucketIndex}
 use Rattle.model.specs.Value.{Address, Value}
 use Rattle.model.specs.Node.{Node, PendingNode, AppliedPending}
-use Rattle.model.specs.Bucket.{Bucket, BucketSettings, maxNodes, emptyBucket, nodes, count, holds, incomingNodes}
+use Rattle.model.specs.Bucket.{Bucket, maxNodes, emptyBucket, nodes, count, holds, incomingNodes}
 use Rattle.model.specs.Table.{Settings, Table, numBuckets, maxRecords}
 use Rattle.model.specs.Sizes.{keySize, timeSize, slotSize}
-use Rattle.model.specs.Call.{ValueArgument, PredicateArgument, Listing, Call}
+use Rattle.model.specs.Call.{ValueArgument, Listing, Call}
 
 -- every element has a property
 abbrev pub All : {A : Type 0} → (A → Type 0) → List A → Type 0

@@ -1,14 +1,13 @@
 -- Question 2, on the storage's bytes (01, "The gatekeeper's questions"): one test of each bucket, and of the table "for every bucket".
 use Prim.Native.Nat.{ℕ, _+_, _*_, _-_}
-use mathlib.Core.Bool.{Bool, true, false, cond, not, _&&_, _||_}
-use mathlib.Core.List.{List, [], _∷_}
+use mathlib.Core.Bool.{Bool, false, cond, not, _&&_, _||_}
+use mathlib.Core.List.{List}
 use mathlib.Core.Option.{Option, none, some}
 use lib.ListN.{length, getD}
 use lib.Dec.{eqb, leb, ltb}
-use Rattle.model.specs.Base.{same, every, allBelow}
+use Rattle.model.specs.Base.{same, allBelow}
 use Rattle.model.specs.Bytes.{number, part}
 use Rattle.model.specs.Key.{bucketIndex}
-use Rattle.model.specs.Node.{Node}
 use Rattle.model.specs.Bucket.{maxNodes, incomingNodes}
 use Rattle.model.specs.Table.{numBuckets, maxRecords}
 use Rattle.model.specs.Sizes.{keySize, timeSize, nodeSize, recordSize, pendingAt, maxIncomingAt, tableFilterAt, bucketFilterAt, recordCountAt, recordAt}

@@ -6,10 +6,10 @@ use mathlib.Core.Option.{Option, none, some}
 use lib.ListN.{length, getD, take, drop}
 use lib.Dec.{eqb}
 use Rattle.model.specs.Base.{joined, tabulate}
-use Rattle.model.specs.Bytes.{number, bytes, part, splice, zeros}
+use Rattle.model.specs.Bytes.{number, bytes, part, zeros}
 use Rattle.model.specs.Value.{Address, Value}
 use Rattle.model.specs.Node.{Node, PendingNode, AppliedPending}
-use Rattle.model.specs.Bucket.{Bucket, BucketSettings, maxNodes, nodes, count}
+use Rattle.model.specs.Bucket.{Bucket, maxNodes, nodes, count}
 use Rattle.model.specs.Table.{Settings, Table, numBuckets, maxRecords}
 use Rattle.model.specs.Sizes.{keySize, timeSize, slotSize, valueSize, nodeSize, recordSize, pendingAt, pendingSize, bucketSize, timeoutAt, maxIncomingAt, tableFilterAt, bucketFilterAt, recordCountAt, recordAt, bucketAt}
 use Rattle.model.specs.Listing.{Item}

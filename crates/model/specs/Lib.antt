@@ -19,5 +19,6 @@ pub mod Layout
 pub mod Formed
 pub mod StepBytes
 pub mod Fits
+pub mod Numbers
 pub mod Rows
 pub mod Cases

@@ -1,7 +1,7 @@
 -- What the listings visit and give (01, Iterators, and "kbucket.rs (871)").
 use Prim.Native.Nat.{ℕ, zero, suc, _+_, _-_}
 use mathlib.Core.Bool.{Bool, cond, not, _&&_}
-use mathlib.Core.List.{List, [], _∷_, _++_, map}
+use mathlib.Core.List.{List, [], _∷_, _++_}
 use lib.ListN.{length, take}
 use lib.Dec.{leb, eqb}
 use Rattle.model.specs.Base.{joined, tabulate}
@@ -13,7 +13,7 @@ use Rattle.model.specs.Bucket.{Bucket, nodes, count, applyPending}
 use Rattle.model.specs.Table.{Table, numBuckets, write}
 use Rattle.model.specs.Sort.{sortBy}
 use Rattle.model.specs.Visit.{visits}
-use Rattle.model.specs.Call.{Listing, PredicateArgument, matches}
+use Rattle.model.specs.Call.{Listing, matches}
 
 -- what a listing gives of a node: the node; its key; key and value; key, match and value
 pub data Item : Type 0 where

@@ -11,7 +11,7 @@ use Rattle.model.specs.Bytes.{number}
 use Rattle.model.specs.Bucket.{maxNodes}
 use Rattle.model.specs.Table.{Table, EntryKind, kindIn, indexIn}
 use Rattle.model.specs.Sizes.{keySize, valueSize, nodeSize}
-use Rattle.model.specs.Call.{ValueArgument, PredicateArgument, Listing, Call}
+use Rattle.model.specs.Call.{ValueArgument, Listing, Call}
 use Rattle.model.specs.Listing.{most}
 
 -- the number of the first question that fails

@@ -1,142 +1,27 @@
 -- The twelve positions of 01, as a list of rows. A row states what the definitions give in one situation; `holds` computes whether
 -- they do. Times are in milliseconds; bucket 5 has the keys 32 to 63.
-use Prim.Native.Nat.{ℕ, zero, suc, _+_, _*_, _^_}
-use mathlib.Core.Bool.{Bool, true, false, cond, _&&_, Bool·beq}
+use Prim.Native.Nat.{ℕ, zero, suc, _*_, _^_}
+use mathlib.Core.Bool.{Bool, true, false, _&&_, Bool·beq}
 use mathlib.Core.List.{List, [], _∷_, _++_, map}
 use mathlib.Core.Option.{Option, none, some}
 use lib.ListN.{length, take}
-use lib.Dec.{eqb}
-use Rattle.model.specs.Base.{joined, tabulate}
+use Rattle.model.specs.Base.{joined}
 use Rattle.model.specs.Bytes.{bytes, zeros}
 use Rattle.model.specs.Key.{distance, bucketIndex}
-use Rattle.model.specs.Value.{Address, Value}
-use Rattle.model.specs.Node.{Node, PendingNode, AppliedPending}
-use Rattle.model.specs.Result.{FailureReason, BucketInsertResult, UpdateResult, InsertResult}
-use Rattle.model.specs.Bucket.{Bucket, BucketSettings, nodes, firstConnectedPos}
-use Rattle.model.specs.Table.{Settings, Table, EntryKind, Answer, numBuckets, emptyTable}
+use Rattle.model.specs.Node.{Node}
+use Rattle.model.specs.Result.{BucketInsertResult, UpdateResult}
+use Rattle.model.specs.Bucket.{nodes, firstConnectedPos}
+use Rattle.model.specs.Table.{Table, EntryKind, Answer, emptyTable}
 use Rattle.model.specs.Visit.{visits}
 use Rattle.model.specs.Sizes.{keySize}
 use Rattle.model.specs.Call.{ValueArgument, PredicateArgument, Listing, Call}
 use Rattle.model.specs.Listing.{Item, most}
 use Rattle.model.specs.Question.{entrySize}
 use Rattle.model.specs.Step.{step}
+use Rattle.model.specs.Layout.{flagByte}
 use Rattle.model.specs.Formed.{bucketFormed, isAt}
 use Rattle.model.specs.StepBytes.{outputOf, written, stepBytes}
-
--- Numbers that tell answers, nodes and records apart.
-
-abbrev pub sameNumbers : List ℕ → List ℕ → Bool
-sameNumbers [] [] = true
-sameNumbers [] (y ∷ ys) = false
-sameNumbers (x ∷ xs) [] = false
-sameNumbers (x ∷ xs) (y ∷ ys) = eqb x y && sameNumbers xs ys
-
-abbrev pub flagNumber : Bool → ℕ
-flagNumber true = 1
-flagNumber false = 0
-
-abbrev pub optionNumbers : Option ℕ → List ℕ
-optionNumbers none = 0 ∷ []
-optionNumbers (some n) = 1 ∷ n ∷ []
-
-abbrev pub addressNumbers : Option Address → List ℕ
-addressNumbers none = 0 ∷ []
-addressNumbers (some x) = 1 ∷ x .a ∷ x .b ∷ x .c ∷ x .d ∷ []
-
-abbrev pub nodeNumbers : Node → List ℕ
-nodeNumbers n =
-    n .key ∷ flagNumber (n .connected) ∷ flagNumber (n .incoming) ∷ n .value .slot ∷ addressNumbers (n .value .address)
-
-abbrev pub evictedNumbers : Option Node → List ℕ
-evictedNumbers none = 0 ∷ []
-evictedNumbers (some n) = 1 ∷ nodeNumbers n
-
-abbrev pub pendingNumbers : Option PendingNode → List ℕ
-pendingNumbers none = 0 ∷ []
-pendingNumbers (some p) = 1 ∷ p .deadline ∷ nodeNumbers (p .node)
-
-abbrev pub recordNumbers : AppliedPending → List ℕ
-recordNumbers r = r .inserted ∷ evictedNumbers (r .evicted)
-
-abbrev pub takenNumbers : Option AppliedPending → List ℕ
-takenNumbers none = 0 ∷ []
-takenNumbers (some r) = 1 ∷ recordNumbers r
-
-abbrev pub reasonNumber : FailureReason → ℕ
-reasonNumber FailureReason.TooManyIncoming = 0
-reasonNumber FailureReason.BucketFilter = 1
-reasonNumber FailureReason.TableFilter = 2
-reasonNumber FailureReason.KeyNonExistent = 3
-reasonNumber FailureReason.BucketFull = 4
-reasonNumber FailureReason.InvalidSelfUpdate = 5
-
-abbrev pub bucketInsertNumbers : BucketInsertResult → List ℕ
-bucketInsertNumbers BucketInsertResult.Inserted = 0 ∷ []
-bucketInsertNumbers (BucketInsertResult.Pending k) = 1 ∷ k ∷ []
-bucketInsertNumbers BucketInsertResult.FailedFilter = 2 ∷ []
-bucketInsertNumbers BucketInsertResult.TooManyIncoming = 3 ∷ []
-bucketInsertNumbers BucketInsertResult.Full = 4 ∷ []
-bucketInsertNumbers BucketInsertResult.NodeExists = 5 ∷ []
-
-abbrev pub updateNumbers : UpdateResult → List ℕ
-updateNumbers UpdateResult.Updated = 0 ∷ []
-updateNumbers UpdateResult.UpdatedAndPromoted = 1 ∷ []
-updateNumbers UpdateResult.UpdatedPending = 2 ∷ []
-updateNumbers (UpdateResult.Failed r) = 3 ∷ reasonNumber r ∷ []
-updateNumbers UpdateResult.NotModified = 4 ∷ []
-
-abbrev pub insertNumbers : InsertResult → List ℕ
-insertNumbers InsertResult.Inserted = 0 ∷ []
-insertNumbers (InsertResult.Pending k) = 1 ∷ k ∷ []
-insertNumbers (InsertResult.StatusUpdated p) = 2 ∷ flagNumber p ∷ []
-insertNumbers InsertResult.ValueUpdated = 3 ∷ []
-insertNumbers (InsertResult.Updated p) = 4 ∷ flagNumber p ∷ []
-insertNumbers InsertResult.UpdatedPending = 5 ∷ []
-insertNumbers (InsertResult.Failed r) = 6 ∷ reasonNumber r ∷ []
-
-abbrev pub kindNumbers : EntryKind → List ℕ
-kindNumbers (EntryKind.Present u d) = 0 ∷ flagNumber u ∷ flagNumber d ∷ []
-kindNumbers (EntryKind.Pending u d) = 1 ∷ flagNumber u ∷ flagNumber d ∷ []
-kindNumbers EntryKind.Absent = 2 ∷ []
-kindNumbers EntryKind.SelfEntry = 3 ∷ []
-
-abbrev pub answerNumbers : Answer → List ℕ
-answerNumbers (Answer.Refused n) = 0 ∷ n ∷ []
-answerNumbers Answer.New = 1 ∷ []
-answerNumbers (Answer.Update r) = 2 ∷ updateNumbers r
-answerNumbers (Answer.InsertOrUpdate r) = 3 ∷ insertNumbers r
-answerNumbers (Answer.Insert r) = 4 ∷ bucketInsertNumbers r
-answerNumbers (Answer.Remove r) = 5 ∷ flagNumber r ∷ []
-answerNumbers (Answer.Entry k) = 6 ∷ kindNumbers k
-answerNumbers (Answer.Found n) = 7 ∷ n ∷ []
-answerNumbers (Answer.TakeAppliedPending r) = 8 ∷ takenNumbers r
-
-abbrev pub itemKey : Item → ℕ
-itemKey (Item.Entry n) = n .key
-itemKey (Item.Key k) = k
-itemKey (Item.ClosestValue k v) = k
-itemKey (Item.PredicateValue k m v) = k
-
--- the match of closest_values_predicate
-abbrev pub itemMatch : Item → List ℕ
-itemMatch (Item.Entry n) = []
-itemMatch (Item.Key k) = []
-itemMatch (Item.ClosestValue k v) = []
-itemMatch (Item.PredicateValue k m v) = flagNumber m ∷ []
-
-abbrev pub settingsNumbers : Settings → List ℕ
-settingsNumbers s =
-    s .localKey ∷ s .bucket .pendingTimeout ∷ s .bucket .maxIncoming ∷ flagNumber (s .bucket .filter) ∷ flagNumber (s .tableFilter) ∷ []
-
-abbrev pub bucketNumbers : Bucket → List ℕ
-bucketNumbers b =
-    length (b .disconnected) ∷ length (b .connected) ∷ (joined nodeNumbers (nodes b) ++ pendingNumbers (b .pending))
-
--- the settings, the queue and all buckets
-abbrev pub tableNumbers : Table → List ℕ
-tableNumbers t =
-    settingsNumbers (t .settings)
-    ++ (length (t .queue) ∷ (joined recordNumbers (t .queue) ++ joined bucketNumbers (tabulate numBuckets (t .buckets))))
+use Rattle.model.specs.Numbers.{sameNumbers, optionNumbers, nodeNumbers, answerNumbers, tableNumbers}
 
 -- Lists of calls. They start on a table of local key 0 and no node, with timeout 0, maximum 0 and both filters off.
 
@@ -178,6 +63,19 @@ pub data Row : Type 0 where
   -- after the calls, a bucket's first connected place
   firstConnectedPlace : (before : List Call) (bucket : ℕ) (place : Option ℕ) → Row
 
+abbrev pub itemKey : Item → ℕ
+itemKey (Item.Entry n) = n .key
+itemKey (Item.Key k) = k
+itemKey (Item.ClosestValue k v) = k
+itemKey (Item.PredicateValue k m v) = k
+
+-- the match of closest_values_predicate
+abbrev pub itemMatch : Item → List ℕ
+itemMatch (Item.Entry n) = []
+itemMatch (Item.Key k) = []
+itemMatch (Item.ClosestValue k v) = []
+itemMatch (Item.PredicateValue k m v) = flagByte m ∷ []
+
 abbrev pub holds : Row → Bool
 holds (Row.index k i) = sameNumbers (optionNumbers (bucketIndex 0 k)) (optionNumbers i)
 holds (Row.firstVisits x is) = sameNumbers (take (length is) (visits (distance 0 x))) is
@@ -188,7 +86,7 @@ holds (Row.lists before l n ks) =
     sameNumbers (answerNumbers (o .answer)) (answerNumbers (Answer.Found (length ks))) && sameNumbers (map itemKey (o .items)) ks
 holds (Row.matches before x p n bs) =
     let l = Listing.closestValuesPredicate (bytes keySize x) p in
-    sameNumbers (joined itemMatch (step (Call.list l n 0 (zeros (n * entrySize l))) (after before noTable) .items)) (map flagNumber bs)
+    sameNumbers (joined itemMatch (step (Call.list l n 0 (zeros (n * entrySize l))) (after before noTable) .items)) (map flagByte bs)
 holds (Row.refuses before c n) =
     let t = after before noTable in
     sameNumbers (answerNumbers (step c t .answer)) (answerNumbers (Answer.Refused n))

@@ -1,17 +1,16 @@
 -- One call on a table: what it answers, the table that it leaves, the records that it adds, and what a listing gives.
 use Prim.Native.Nat.{ℕ}
-use mathlib.Core.Bool.{Bool, false, _&&_}
+use mathlib.Core.Bool.{Bool, false}
 use mathlib.Core.List.{List, [], _∷_, map}
 use mathlib.Core.Option.{Option, none, some}
 use lib.ListN.{length}
 use lib.Dec.{leb}
 use Rattle.model.specs.Bytes.{number}
-use Rattle.model.specs.Value.{Value}
 use Rattle.model.specs.Node.{Node, AppliedPending}
 use Rattle.model.specs.Result.{FailureReason, UpdateResult, InsertResult}
-use Rattle.model.specs.Bucket.{Bucket, BucketSettings, insert, updateStatus, updatePending, remove}
+use Rattle.model.specs.Bucket.{Bucket, insert, updateStatus, updatePending, remove}
 use Rattle.model.specs.Table.{Settings, Table, EntryKind, Answer, Effect, maxRecords, emptyTable, afterApplying, asStored, failsTableFilter, updateNodeIn, insertOrUpdateIn, kindOf, write, indexIn}
-use Rattle.model.specs.Call.{ValueArgument, Listing, Call, isOne, optional, valueOf}
+use Rattle.model.specs.Call.{ValueArgument, Call, isOne, optional, valueOf}
 use Rattle.model.specs.Listing.{Item, item, applyAll, applies, found}
 use Rattle.model.specs.Question.{firstFailed, keysFit, codesInRange, clockFits, outputFits, kindFits}
 

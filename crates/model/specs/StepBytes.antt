@@ -1,9 +1,9 @@
 -- One call on the storage's bytes: what each entry point answers and leaves, for every storage and every argument.
 use Prim.Native.Nat.{ℕ}
 use mathlib.Core.Bool.{Bool, not, _||_}
-use mathlib.Core.List.{List, [], _∷_, _++_}
+use mathlib.Core.List.{List, [], _∷_}
 use mathlib.Core.Option.{Option, none, some}
-use lib.ListN.{length, drop}
+use lib.ListN.{length}
 use lib.Dec.{eqb}
 use Rattle.model.specs.Base.{joined, tabulate}
 use Rattle.model.specs.Bytes.{number, splice}
@@ -13,7 +13,7 @@ use Rattle.model.specs.Sizes.{bucketAt, storageSize}
 use Rattle.model.specs.Call.{Call}
 use Rattle.model.specs.Listing.{Item, applies}
 use Rattle.model.specs.Question.{firstFailed, arguments}
-use Rattle.model.specs.Step.{Outcome, act, questions}
+use Rattle.model.specs.Step.{act, questions}
 use Rattle.model.specs.Layout.{bucketBytes, headerBytes, itemBytes, tableOf}
 use Rattle.model.specs.Formed.{formed}
 

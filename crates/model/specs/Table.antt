@@ -1,7 +1,7 @@
 -- The table, and what a call on one key does to the key's bucket (01, "kbucket.rs (871)" and "entry.rs (228)").
 use Prim.Native.Nat.{ℕ, zero, suc}
 use mathlib.Core.Bool.{Bool, true, false, cond, not, _&&_}
-use mathlib.Core.List.{List, [], _∷_, _++_}
+use mathlib.Core.List.{List, [], _++_}
 use mathlib.Core.Option.{Option, none, some}
 use Rattle.model.specs.Base.{same, at}
 use Rattle.model.specs.Key.{bucketIndex}
@@ -9,7 +9,7 @@ use Rattle.model.specs.Value.{Value, sameValue}
 use Rattle.model.specs.Node.{Node, PendingNode, AppliedPending}
 use Rattle.model.specs.Filter.{ipFilterFails, tableLimit}
 use Rattle.model.specs.Result.{FailureReason, BucketInsertResult, UpdateResult, InsertResult, isFailed}
-use Rattle.model.specs.Bucket.{Bucket, BucketSettings, emptyBucket, nodes, lookup, holds, insert, applyPending, updateStatus, updateValue, updatePending, remove}
+use Rattle.model.specs.Bucket.{Bucket, BucketSettings, emptyBucket, nodes, lookup, holds, insert, applyPending, updateStatus, updateValue, remove}
 
 pub record Settings : Type 0 where
   pub localKey : ℕ

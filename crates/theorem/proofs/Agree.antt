@@ -1,14 +1,13 @@
 -- A bucket agrees with the log.
-use Prim.Native.Nat.{ℕ, suc, _≤_, _<_}
+use Prim.Native.Nat.{ℕ, _≤_, _<_}
 use mathlib.Core.Path.{_≡_, refl, sym, ap, ap₂, _∙_, subst⁻¹, subst₂}
-use mathlib.Core.Bool.{Bool, true, false, cond, not, _&&_, _||_, Bool·beq}
+use mathlib.Core.Bool.{Bool, true, false, cond, _&&_, Bool·beq}
 use mathlib.Core.List.{List, [], _∷_, _++_}
 use mathlib.Core.Option.{Option, none, some}
 use native.Mathlib.Omega.{arith}
-use lib.ListN.{length, length-append}
-use Rattle.model.specs.Base.{same, isSome}
+use Rattle.model.specs.Base.{same}
 use Rattle.model.specs.Node.{Node, PendingNode}
-use Rattle.model.specs.Bucket.{Bucket, maxNodes, find, orElse, lookup, holds, omit, only, takeOut, put, withPending, cleared, count}
+use Rattle.model.specs.Bucket.{Bucket, maxNodes, find, orElse, lookup, omit, takeOut, put, withPending, cleared, count}
 use Rattle.model.specs.Formed.{isAt}
 use Rattle.laws.proofs.Tests.{same-self, same-true, same-sym, clash, cases, split}
 use Rattle.log.specs.Keys.{mem, without}
@@ -16,7 +15,7 @@ use Rattle.log.specs.Log.{Log, nodeOf, collect, group}
 use Rattle.log.specs.Fold.{depart, place}
 use Rattle.theorem.proofs.Keys.{mem-append, mem-without-other, without-absent}
 use Rattle.theorem.proofs.Groups.{collect-append, collect-other, collect-without, find-collect}
-use Rattle.laws.proofs.KeepLists.{length-omit, length-omit-held}
+use Rattle.laws.proofs.KeepLists.{length-omit}
 use Rattle.laws.proofs.KeepFormed.{count-put}
 
 -- of index i and in state u

@@ -1,7 +1,7 @@
 -- The closest list: an accepted closest call, on any storage, lists the first n of all held nodes, nearest first (01, "What the log
 -- says", fourth paragraph).
 use mathlib.Core.Path.{_≡_, refl, ap, _∙_}
-use mathlib.Core.Bool.{Bool, true, false}
+use mathlib.Core.Bool.{true, false}
 use mathlib.Core.List.{List, [], _∷_, map}
 use mathlib.Core.Option.{Option, none, some, Option·some-injective}
 use Prim.Native.Nat.{ℕ, _^_, _<_}
@@ -13,8 +13,8 @@ use Rattle.model.specs.Base.{joined}
 use Rattle.model.specs.Bytes.{Bytes, number}
 use Rattle.model.specs.Key.{distance}
 use Rattle.model.specs.Node.{Node}
-use Rattle.model.specs.Bucket.{Bucket, BucketSettings, nodes, applyPending}
-use Rattle.model.specs.Table.{Settings, Table, Answer}
+use Rattle.model.specs.Bucket.{nodes}
+use Rattle.model.specs.Table.{Table, Answer}
 use Rattle.model.specs.Sizes.{keySize, storageSize}
 use Rattle.model.specs.Sort.{sortBy}
 use Rattle.model.specs.Visit.{visits}

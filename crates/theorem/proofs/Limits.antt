@@ -1,7 +1,7 @@
 -- The limits of every reached table: sixteen nodes in a bucket, the connected incoming within the maximum, 64 records.
 use Prim.Native.Nat.{ℕ, _≤_}
 use native.Mathlib.Omega.{arith}
-use mathlib.Core.Path.{_≡_, refl, subst, subst⁻¹}
+use mathlib.Core.Path.{_≡_, refl, subst}
 use mathlib.Core.List.{List, [], _∷_, reverse}
 use mathlib.Core.Option.{Option, none, some}
 use lib.ListN.{length}

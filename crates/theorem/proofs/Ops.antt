@@ -7,14 +7,13 @@ use mathlib.Core.Option.{Option, none, some}
 use native.Mathlib.Omega.{arith}
 use lib.ListN.{length}
 use lib.Dec.{leb}
-use borrow.Author.Tests.{leb-false}
 use Rattle.model.specs.Base.{same, given, isSome}
 use Rattle.model.specs.Value.{Value}
 use Rattle.model.specs.Node.{Node, PendingNode, AppliedPending}
 use Rattle.model.specs.Result.{BucketInsertResult, isInserted}
 use Rattle.model.specs.Bucket.{Bucket, BucketSettings, maxNodes, count, isFull, holds, failsBucketFilter, isMaxIncoming, withPending, cleared, placed, takeOut, insertFull, insert, applyFull, applyDue, applyIfDue, applyPending, remove}
 use Rattle.model.specs.Formed.{isAt}
-use Rattle.laws.proofs.Tests.{same-self, same-true, clash, cases, and-left, and-right}
+use Rattle.laws.proofs.Tests.{same-self, clash, cases, and-left, and-right}
 use Rattle.log.specs.Keys.{mem}
 use Rattle.log.specs.Log.{Log, nodeOf, group}
 use Rattle.log.specs.Fold.{depart, place, enterRecords, atGiven, give}

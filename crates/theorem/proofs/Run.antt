@@ -8,7 +8,6 @@ use Rattle.model.specs.Node.{Node}
 use Rattle.model.specs.Bucket.{nodes}
 use Rattle.model.specs.Table.{Settings, Table, Answer}
 use Rattle.model.specs.Call.{Call}
-use Rattle.model.specs.Step
 use Rattle.model.specs.Step.{step}
 use Rattle.log.specs.Log.{Log, logOf, group, logBucket}
 use Rattle.log.specs.Fold.{enter, readFrom}

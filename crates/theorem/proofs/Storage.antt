@@ -1,13 +1,13 @@
 -- A list of calls on bytes that only these calls write is the list of calls on the table that the bytes hold.
 use Prim.Native.Nat.{ℕ}
-use mathlib.Core.Path.{_≡_, refl, sym, ap, ap₂, _∙_, subst, subst⁻¹}
+use mathlib.Core.Path.{_≡_, refl, sym, ap₂, _∙_, subst⁻¹}
 use mathlib.Core.List.{List, [], _∷_}
 use Rattle.model.specs.Node.{AppliedPending}
 use Rattle.model.specs.Table.{Table, Answer}
 use Rattle.model.specs.Call.{Call}
-use Rattle.model.specs.Step.{Outcome, step}
+use Rattle.model.specs.Step.{step}
 use Rattle.model.specs.Layout.{bytesOf, tableOf}
-use Rattle.model.specs.StepBytes.{BytesOutcome, stepBytes}
+use Rattle.model.specs.StepBytes.{stepBytes}
 use Rattle.model.specs.Fits.{All, Fits, FitsCall}
 use Rattle.laws.proofs.KeepStep.{step-fits, new-fits}
 use Rattle.laws.proofs.TableStep.{Same, step-bytes, new-bytes}

@@ -2,16 +2,15 @@
 -- back included, every bucket, place by place, is what the log says, and the limits hold. The log reads calls, answers and records, and
 -- no bucket. The statements are those of specs/Claim and specs/Closest.
 use Prim.Native.Nat.{ℕ}
-use mathlib.Core.Path.{_≡_, ap, subst, subst⁻¹}
+use mathlib.Core.Path.{_≡_, subst⁻¹}
 use mathlib.Core.Bool.{false}
-use mathlib.Core.List.{List, [], _∷_, reverse}
-use mathlib.Core.Option.{Option, some}
+use mathlib.Core.List.{List, _∷_, reverse}
+use mathlib.Core.Option.{some}
 use Rattle.model.specs.Bytes.{Bytes}
 use Rattle.model.specs.Table.{Table, Answer}
 use Rattle.model.specs.Call.{Listing, Call}
 use Rattle.model.specs.Step.{step}
-use Rattle.model.specs.Layout.{bytesOf, tableOf}
-use Rattle.model.specs.Formed.{formed}
+use Rattle.model.specs.Layout.{tableOf}
 use Rattle.model.specs.StepBytes.{stepBytes}
 use Rattle.model.specs.Fits.{All, FitsCall}
 use Rattle.laws.proofs.TableBytes.{table-there, formed-there}

@@ -1,0 +1,111 @@
+//! Makes the reference: the k-bucket files of sigp/discv5, read from the folder `DISCV5_SRC` and written to `OUT_DIR` with the
+//! substitutions below and nothing else. Where the files are not there, the package builds without the reference.
+
+use std::path::{Path, PathBuf};
+use std::{env, fs};
+
+/// The folder of kbucket.rs, relative to this package, where `DISCV5_SRC` does not say another.
+const DEFAULT_SOURCE: &str = "../../shared/docs/src/src";
+
+/// One file of the source: where it is read and written, the texts replaced, and a child module that is appended.
+struct File {
+    from: &'static str,
+    to: &'static str,
+    /// Each text stands exactly once in the file.
+    replace: &'static [(&'static str, &'static str)],
+    /// A file of this package that becomes the child module `access`: it reads and sets private fields.
+    append: Option<&'static str>,
+}
+
+const FILES: [File; 5] = [
+    File {
+        from: "kbucket.rs",
+        to: "mod.rs",
+        replace: &[
+            // The direction of a connection, all that is needed of the handler.
+            ("pub use crate::handler::ConnectionDirection;", "pub use crate::stand_ins::handler::ConnectionDirection;"),
+            // An array with a length.
+            ("use arrayvec::{self, ArrayVec};", "use crate::stand_ins::arrayvec::{self, ArrayVec};"),
+            // A settable clock.
+            (
+                "use std::{\n    collections::VecDeque,\n    time::{Duration, Instant},\n};",
+                "use crate::stand_ins::clock::Instant;\nuse std::{collections::VecDeque, time::Duration};",
+            ),
+        ],
+        append: Some("append/kbucket.rs"),
+    },
+    File {
+        from: "kbucket/bucket.rs",
+        to: "bucket.rs",
+        // Log lines go nowhere.
+        replace: &[("use tracing::{debug, error};", "use crate::stand_ins::tracing::{debug, error};")],
+        append: Some("append/bucket.rs"),
+    },
+    File { from: "kbucket/entry.rs", to: "entry.rs", replace: &[], append: None },
+    File {
+        from: "kbucket/filter.rs",
+        to: "filter.rs",
+        // The value (address and slot) in the place of a node record.
+        replace: &[("use crate::Enr;", "use crate::stand_ins::Value as Enr;")],
+        append: None,
+    },
+    File {
+        from: "kbucket/key.rs",
+        to: "key.rs",
+        replace: &[
+            // 32 bytes.
+            ("use enr::NodeId;", "use crate::stand_ins::enr::NodeId;"),
+            // A 256-bit number.
+            ("use uint::construct_uint;", "use crate::stand_ins::uint::construct_uint;"),
+        ],
+        append: None,
+    },
+];
+
+fn main() {
+    println!("cargo::rustc-check-cfg=cfg(reference_source)");
+    println!("cargo::rerun-if-env-changed=DISCV5_SRC");
+    println!("cargo::rerun-if-changed=build.rs");
+    println!("cargo::rerun-if-changed=append");
+    let package = PathBuf::from(env::var_os("CARGO_MANIFEST_DIR").unwrap());
+    let out = PathBuf::from(env::var_os("OUT_DIR").unwrap());
+    let source = match env::var_os("DISCV5_SRC") {
+        Some(folder) => PathBuf::from(folder),
+        None => package.join(DEFAULT_SOURCE),
+    };
+    for file in &FILES {
+        println!("cargo::rerun-if-changed={}", source.join(file.from).display());
+    }
+    if let Some(file) = FILES.iter().find(|f| !source.join(f.from).is_file()) {
+        println!(
+            "cargo::warning=no {} in {}: built without the reference; set DISCV5_SRC to the folder of kbucket.rs",
+            file.from,
+            source.display()
+        );
+        return;
+    }
+    let folder = out.join("kbucket");
+    fs::create_dir_all(&folder).unwrap();
+    for file in &FILES {
+        fs::write(folder.join(file.to), substituted(file, &source, &package)).unwrap();
+    }
+    let module = folder.join("mod.rs");
+    fs::write(out.join("reference.rs"), format!("#[path = {module:?}]\npub mod kbucket;\n")).unwrap();
+    println!("cargo::rustc-cfg=reference_source");
+}
+
+/// The text of a file with its substitutions made.
+fn substituted(file: &File, source: &Path, package: &Path) -> String {
+    let path = source.join(file.from);
+    let mut text = fs::read_to_string(&path).unwrap();
+    for (from, to) in file.replace {
+        let found = text.matches(from).count();
+        assert!(found == 1, "{}: stands {found} times and not once: {from}", path.display());
+        text = text.replace(from, to);
+    }
+    if let Some(append) = file.append {
+        let child = fs::read_to_string(package.join(append)).unwrap();
+        text += &format!("\npub mod access {{\n{child}}}\n");
+    }
+    text
+}

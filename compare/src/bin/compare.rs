@@ -1,0 +1,224 @@
+//! Compares two implementations of the routing table on random lists of calls, or writes such a list with its answers.
+
+use compare::generate::Generator;
+use compare::outcome::{Counts, outcome};
+use compare::run::{self, Disagreement, Program};
+use compare::shrink::shrink;
+use std::process::ExitCode;
+use std::time::{Duration, Instant};
+
+const HELP: &str = "compare [OPTIONS] [FIRST] SECOND
+compare [OPTIONS] --replay-out FILE [FIRST]
+
+Feeds seeded random lists of calls to two commands, each started with --dump, and holds their answers and dumps against each other
+line by line. FIRST is the `reference` beside this program where it is not given. A command may have arguments, parted by spaces.
+Exits with 0 where they agree, with 1 after a disagreement, which is shrunk to its fewest lines, with 2 where it cannot run.
+
+  --calls N          calls to compare (100,000) or to write (3,000)
+  --seconds N        stop after N seconds, whatever the count
+  --seed N           the seed (1)
+  --replay-out FILE  write a list of calls that reaches every outcome, with the answers of FIRST after '#= '
+
+    compare --calls 200000 ../host/target/release/kbtable";
+
+struct Options {
+    calls: Option<u64>,
+    seconds: u64,
+    seed: u64,
+    replay: Option<String>,
+    programs: Vec<Program>,
+}
+
+fn main() -> ExitCode {
+    let options = match options() {
+        Ok(Some(options)) => options,
+        Ok(None) => {
+            println!("{HELP}");
+            return ExitCode::SUCCESS;
+        }
+        Err(message) => return cannot(&message),
+    };
+    let done = match (&options.replay, &options.programs[..]) {
+        (Some(file), [first]) => replay(&options, first, file).map(|()| None),
+        (None, [first, second]) => compare(&options, &[first.clone(), second.clone()]),
+        _ => Err("give one command to write a list, two to compare; see --help".to_string()),
+    };
+    match done {
+        Ok(None) => ExitCode::SUCCESS,
+        Ok(Some(())) => ExitCode::FAILURE,
+        Err(message) => cannot(&message),
+    }
+}
+
+fn cannot(message: &str) -> ExitCode {
+    eprintln!("compare: {message}");
+    ExitCode::from(2)
+}
+
+fn options() -> Result<Option<Options>, String> {
+    let mut options = Options { calls: None, seconds: u64::MAX, seed: 1, replay: None, programs: Vec::new() };
+    let mut arguments = std::env::args().skip(1);
+    while let Some(argument) = arguments.next() {
+        let mut following = || arguments.next().ok_or_else(|| format!("{argument} lacks its value"));
+        let number = |word: String| word.parse().map_err(|_| format!("no number: {word:?}"));
+        match argument.as_str() {
+            "--help" | "-h" => return Ok(None),
+            "--calls" => options.calls = Some(number(following()?)?),
+            "--seconds" => options.seconds = number(following()?)?,
+            "--seed" => options.seed = number(following()?)?,
+            "--replay-out" => options.replay = Some(following()?),
+            option if option.starts_with('-') => return Err(format!("{option:?} is no option; see --help")),
+            command => options.programs.push(Program(command.split(' ').map(str::to_string).collect())),
+        }
+    }
+    let wanted = if options.replay.is_some() { 1 } else { 2 };
+    if options.programs.len() == wanted - 1 {
+        let beside = std::env::current_exe().map_err(|e| e.to_string())?.with_file_name("reference");
+        options.programs.insert(0, Program(vec![beside.to_string_lossy().into_owned()]));
+    }
+    Ok(Some(options))
+}
+
+/// Calls to compare and calls to write, where no option says it.
+const COMPARED: u64 = 100_000;
+const REPLAYED: u64 = 3000;
+
+/// Lists that are tried, at most, to write one that reaches every outcome.
+const TRIED: u64 = 20_000;
+
+/// Lines that are handed to a pair of programs at a time.
+const BATCH: usize = 3000;
+
+/// `Some` after a disagreement.
+fn compare(options: &Options, programs: &[Program; 2]) -> Result<Option<()>, String> {
+    let start = Instant::now();
+    let limit = Duration::from_secs(options.seconds);
+    let wanted = options.calls.unwrap_or(COMPARED);
+    for program in programs {
+        program.answers(&[])?;
+    }
+    let mut generator = Generator::new(options.seed);
+    let mut counts = Counts::new();
+    let mut calls = 0;
+    let mut shown = start;
+    while calls < wanted && start.elapsed() < limit {
+        let mut list = Vec::new();
+        while list.len() < BATCH {
+            list.extend(generator.list());
+        }
+        let disagreement = run::compare(programs, &list, |line, answer| {
+            calls += u64::from(!line.starts_with("raw_"));
+            counts.add(line, answer);
+        })?;
+        if let Some(disagreement) = disagreement {
+            println!("seed {}: disagreement after {calls} calls", options.seed);
+            report(programs, &list, &disagreement)?;
+            return Ok(Some(()));
+        }
+        if shown.elapsed() > Duration::from_secs(5) {
+            shown = Instant::now();
+            let rate = calls as f64 / start.elapsed().as_secs_f64();
+            eprintln!("{calls} calls, {rate:.0} a second, {} to go", wanted.saturating_sub(calls));
+        }
+    }
+    print_counts(&counts);
+    println!("seed {}: {calls} calls agree, in {:.1} s", options.seed, start.elapsed().as_secs_f64());
+    Ok(None)
+}
+
+/// Shrinks a disagreement and prints it.
+fn report(programs: &[Program; 2], list: &[String], disagreement: &Disagreement) -> Result<(), String> {
+    let mut trials = 0;
+    let upto = &list[..list.len().min(disagreement.at + 1)];
+    let mut parts = |part: &[String]| {
+        trials += 1;
+        if trials % 200 == 0 {
+            eprintln!("shrinking: {trials} trials, {} lines", part.len());
+        }
+        matches!(run::compare(programs, part, |_, _| ()), Ok(Some(_)))
+    };
+    let lines = if parts(upto) { shrink(upto, parts) } else { shrink(list, parts) };
+    let Some(disagreement) = run::compare(programs, &lines, |_, _| ())? else {
+        return Err("the disagreement does not come back when the lines are run again".to_string());
+    };
+    println!("the fewest lines that show it:\n");
+    for line in &lines {
+        println!("{line}");
+    }
+    println!("\nfirst:  {}\nsecond: {}", disagreement.first, disagreement.second);
+    Ok(())
+}
+
+/// Writes a list that reaches every outcome: for each outcome the fewest lines that reach it, then random lists. Each part begins
+/// with a new table or bucket and ends with a dump.
+fn replay(options: &Options, program: &Program, file: &str) -> Result<(), String> {
+    let start = Instant::now();
+    let limit = Duration::from_secs(options.seconds);
+    let mut generator = Generator::new(options.seed);
+    generator.small = true;
+    let mut counts = Counts::new();
+    let mut lines: Vec<String> = Vec::new();
+    let mut calls = 0;
+    let mut shown = start;
+    for _ in 0..TRIED {
+        if start.elapsed() >= limit {
+            break;
+        }
+        let mut list = generator.list();
+        let answers = program.answers(&list)?;
+        let unseen =
+            list.iter().zip(&answers).find_map(|(line, answer)| outcome(line, answer).filter(|o| counts.of(o) == 0));
+        if let Some(unseen) = unseen {
+            list = fewest(program, &list, &answers, &unseen);
+        } else if !counts.rare(1).is_empty() {
+            continue;
+        } else if calls >= options.calls.unwrap_or(REPLAYED) {
+            break;
+        }
+        for (line, answer) in list.iter().zip(program.answers(&list)?) {
+            counts.add(line, &answer);
+        }
+        calls += count_calls(&list);
+        list.push(if list[0].starts_with("b_") { "bdump" } else { "dump" }.to_string());
+        lines.extend(list);
+        if shown.elapsed() > Duration::from_secs(5) {
+            shown = Instant::now();
+            eprintln!("{} lines, {} outcomes to go", lines.len(), counts.rare(1).len());
+        }
+    }
+    let answers = program.answers(&lines)?;
+    let text: String = lines.iter().zip(answers).map(|(line, answer)| format!("{line}\n#= {answer}\n")).collect();
+    std::fs::write(file, text).map_err(|error| format!("{file}: {error}"))?;
+    print_counts(&counts);
+    println!("seed {}: {calls} calls, {} lines, written to {file}", options.seed, lines.len());
+    Ok(())
+}
+
+/// The fewest lines of a list, the first among them, whose last reaches an outcome.
+fn fewest(program: &Program, list: &[String], answers: &[String], wanted: &(&'static str, String)) -> Vec<String> {
+    let reaches = |(line, answer): (&String, &String)| outcome(line, answer).is_some_and(|o| o == *wanted);
+    let last = list.iter().zip(answers).position(reaches).unwrap();
+    if last == 0 {
+        return list[..1].to_vec();
+    }
+    let whole = |part: &[String]| [&list[..1], part, &list[last..=last]].concat();
+    let between = shrink(&list[1..last], |part| {
+        let whole = whole(part);
+        program.answers(&whole).is_ok_and(|answers| whole.iter().zip(&answers).next_back().is_some_and(reaches))
+    });
+    whole(&between)
+}
+
+fn count_calls(list: &[String]) -> u64 {
+    list.iter().filter(|line| !line.starts_with("raw_")).count() as u64
+}
+
+fn print_counts(counts: &Counts) {
+    for line in counts.lines() {
+        println!("{line}");
+    }
+    let missing = counts.rare(1);
+    if !missing.is_empty() {
+        println!("not reached: {}", missing.join(", "));
+    }
+}

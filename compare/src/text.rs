@@ -1,0 +1,529 @@
+//! The text of calls, answers and dumps: lines read into calls; keys, values, nodes and records written.
+
+/// A value as a call gives it and as storage keeps it: address flag, four octets, slot.
+#[derive(Clone, Copy, Debug, Default, PartialEq, Eq)]
+pub struct ValueCodes {
+    pub flag: u8,
+    pub octets: [u8; 4],
+    pub slot: u16,
+}
+
+/// A node as storage keeps it, with codes of any number.
+#[derive(Clone, Copy, Debug, Default, PartialEq, Eq)]
+pub struct NodeCodes {
+    pub key: [u8; 32],
+    pub state: u8,
+    pub direction: u8,
+    pub value: ValueCodes,
+}
+
+/// A record of an applied pending as storage keeps it.
+#[derive(Clone, Copy, Debug, PartialEq, Eq)]
+pub struct RecordCodes {
+    pub inserted: [u8; 32],
+    pub evicted: Option<NodeCodes>,
+}
+
+/// Which values `closest_values_predicate` marks. `Code` is a number alone: 0 always, 1 has an address, others out of range.
+#[derive(Clone, Debug)]
+pub enum Predicate {
+    Code(u8),
+    Net([u8; 3]),
+    Slot(u16),
+}
+
+#[derive(Clone, Debug)]
+pub enum Listing {
+    Iter,
+    NodesByDistances(Vec<u64>),
+    ClosestKeys(Vec<u8>),
+    ClosestValues(Vec<u8>),
+    ClosestValuesPredicate(Vec<u8>, Predicate),
+}
+
+/// A call on the table. Keys are bytes of any length and codes any number, since the questions are about them.
+#[derive(Clone, Debug)]
+pub enum TableCall {
+    New {
+        local: Vec<u8>,
+        timeout: u64,
+        max_incoming: u8,
+        table_filter: u8,
+        bucket_filter: u8,
+    },
+    UpdateNodeStatus {
+        now: u64,
+        key: Vec<u8>,
+        state: u8,
+        direction: u8,
+    },
+    UpdateNode {
+        now: u64,
+        key: Vec<u8>,
+        value: ValueCodes,
+        state: u8,
+    },
+    InsertOrUpdate {
+        now: u64,
+        key: Vec<u8>,
+        value: ValueCodes,
+        state: u8,
+        direction: u8,
+    },
+    Remove {
+        now: u64,
+        key: Vec<u8>,
+    },
+    Entry {
+        now: u64,
+        key: Vec<u8>,
+    },
+    PresentUpdate {
+        key: Vec<u8>,
+        state: u8,
+        direction: u8,
+    },
+    PendingUpdate {
+        key: Vec<u8>,
+        state: u8,
+        direction: u8,
+    },
+    AbsentInsert {
+        now: u64,
+        key: Vec<u8>,
+        value: ValueCodes,
+        state: u8,
+        direction: u8,
+    },
+    /// `room`: the entries that the lent output has room for, where the line says it.
+    List {
+        now: u64,
+        listing: Listing,
+        n: u64,
+        room: Option<u64>,
+    },
+    TakeAppliedPending,
+}
+
+/// A call on one bucket by itself.
+#[derive(Clone, Debug)]
+pub enum BucketCall {
+    New { timeout: u64, max_incoming: u8, filter: u8 },
+    Insert { now: u64, key: Vec<u8>, value: ValueCodes, state: u8, direction: u8 },
+    ApplyPending { now: u64 },
+    UpdateStatus { key: Vec<u8>, state: u8, direction: u8 },
+    UpdateValue { key: Vec<u8>, value: ValueCodes },
+    UpdatePending { state: u8, direction: u8 },
+    Remove { now: u64, key: Vec<u8> },
+}
+
+/// Which bucket a raw line writes: one of the table, or the bucket by itself.
+#[derive(Clone, Copy, Debug)]
+pub enum Which {
+    Index(usize),
+    Itself,
+}
+
+/// Set-up that writes bytes without asking.
+#[derive(Clone, Debug)]
+pub enum Raw {
+    Node(Which, NodeCodes),
+    FirstConnected(Which, Option<u8>),
+    Pending(Which, NodeCodes, u64),
+    Record(RecordCodes),
+    Byte(u64, u8),
+}
+
+/// `short`: what the call works on is handed over one byte short.
+#[derive(Clone, Debug)]
+pub enum Line {
+    Table { short: bool, call: TableCall },
+    Bucket { short: bool, call: BucketCall },
+    Raw(Raw),
+    Dump,
+    BucketDump,
+}
+
+impl Line {
+    /// The lines that follow a call with `--dump`: one for the answer and, after a call, one for the dump.
+    pub fn answer_lines(&self) -> usize {
+        match self {
+            Line::Table { .. } | Line::Bucket { .. } => 2,
+            Line::Raw(_) | Line::Dump | Line::BucketDump => 1,
+        }
+    }
+}
+
+/// Reads a line; `None` for one that is passed over.
+pub fn parse(line: &str) -> Result<Option<Line>, String> {
+    if line.is_empty() || line.starts_with('#') {
+        return Ok(None);
+    }
+    let (short, rest) = match line.strip_prefix("! ") {
+        Some(rest) => (true, rest),
+        None => (false, line),
+    };
+    let (name, rest) = rest.split_once(' ').map_or((rest, None), |(name, rest)| (name, Some(rest)));
+    let mut words = Words { rest };
+    let parsed = if let Some(call) = table_call(name, &mut words)? {
+        Line::Table { short, call }
+    } else if let Some(call) = bucket_call(name, &mut words)? {
+        Line::Bucket { short, call }
+    } else {
+        let line = match name {
+            "dump" => Line::Dump,
+            "bdump" => Line::BucketDump,
+            _ => Line::Raw(raw(name, &mut words)?.ok_or_else(|| format!("no call is named {name:?}"))?),
+        };
+        if short {
+            return Err(format!("'!' stands before a call, and {name} is none"));
+        }
+        line
+    };
+    match words.rest {
+        None => Ok(Some(parsed)),
+        Some(rest) => Err(format!("too many words: {rest:?}")),
+    }
+}
+
+fn table_call(name: &str, words: &mut Words) -> Result<Option<TableCall>, String> {
+    Ok(Some(match name {
+        "new" => TableCall::New {
+            local: words.key()?,
+            timeout: words.number()?,
+            max_incoming: words.code()?,
+            table_filter: words.code()?,
+            bucket_filter: words.code()?,
+        },
+        "update_node_status" => TableCall::UpdateNodeStatus {
+            now: words.number()?,
+            key: words.key()?,
+            state: words.code()?,
+            direction: words.code()?,
+        },
+        "update_node" => TableCall::UpdateNode {
+            now: words.number()?,
+            key: words.key()?,
+            value: words.value()?,
+            state: words.code()?,
+        },
+        "insert_or_update" => TableCall::InsertOrUpdate {
+            now: words.number()?,
+            key: words.key()?,
+            value: words.value()?,
+            state: words.code()?,
+            direction: words.code()?,
+        },
+        "remove" => TableCall::Remove { now: words.number()?, key: words.key()? },
+        "entry" => TableCall::Entry { now: words.number()?, key: words.key()? },
+        "present_update" => {
+            TableCall::PresentUpdate { key: words.key()?, state: words.code()?, direction: words.code()? }
+        }
+        "pending_update" => {
+            TableCall::PendingUpdate { key: words.key()?, state: words.code()?, direction: words.code()? }
+        }
+        "absent_insert" => TableCall::AbsentInsert {
+            now: words.number()?,
+            key: words.key()?,
+            value: words.value()?,
+            state: words.code()?,
+            direction: words.code()?,
+        },
+        "iter" | "nodes_by_distances" | "closest_keys" | "closest_values" | "closest_values_predicate" => {
+            TableCall::List {
+                now: words.number()?,
+                listing: match name {
+                    "iter" => Listing::Iter,
+                    "nodes_by_distances" => Listing::NodesByDistances(words.distances()?),
+                    "closest_keys" => Listing::ClosestKeys(words.key()?),
+                    "closest_values" => Listing::ClosestValues(words.key()?),
+                    _ => Listing::ClosestValuesPredicate(words.key()?, words.predicate()?),
+                },
+                n: words.number()?,
+                room: words.room()?,
+            }
+        }
+        "take_applied_pending" => TableCall::TakeAppliedPending,
+        _ => return Ok(None),
+    }))
+}
+
+fn bucket_call(name: &str, words: &mut Words) -> Result<Option<BucketCall>, String> {
+    Ok(Some(match name {
+        "b_new" => BucketCall::New { timeout: words.number()?, max_incoming: words.code()?, filter: words.code()? },
+        "b_insert" => BucketCall::Insert {
+            now: words.number()?,
+            key: words.key()?,
+            value: words.value()?,
+            state: words.code()?,
+            direction: words.code()?,
+        },
+        "b_apply_pending" => BucketCall::ApplyPending { now: words.number()? },
+        "b_update_status" => {
+            BucketCall::UpdateStatus { key: words.key()?, state: words.code()?, direction: words.code()? }
+        }
+        "b_update_value" => BucketCall::UpdateValue { key: words.key()?, value: words.value()? },
+        "b_update_pending" => BucketCall::UpdatePending { state: words.code()?, direction: words.code()? },
+        "b_remove" => BucketCall::Remove { now: words.number()?, key: words.key()? },
+        _ => return Ok(None),
+    }))
+}
+
+fn raw(name: &str, words: &mut Words) -> Result<Option<Raw>, String> {
+    Ok(Some(match name {
+        "raw_node" => Raw::Node(words.which()?, words.node()?),
+        "raw_fcp" => Raw::FirstConnected(words.which()?, words.place()?),
+        "raw_pending" => Raw::Pending(words.which()?, words.node()?, words.number()?),
+        "raw_record" => Raw::Record(RecordCodes { inserted: words.whole_key()?, evicted: words.evicted()? }),
+        "raw_byte" => Raw::Byte(words.number()?, words.code()?),
+        _ => return Ok(None),
+    }))
+}
+
+/// What is left of a line, word by word.
+struct Words<'a> {
+    rest: Option<&'a str>,
+}
+
+impl<'a> Words<'a> {
+    fn word(&mut self) -> Result<&'a str, String> {
+        let rest = self.rest.ok_or("too few words")?;
+        let (word, rest) = rest.split_once(' ').map_or((rest, None), |(word, rest)| (word, Some(rest)));
+        self.rest = rest;
+        Ok(word)
+    }
+
+    fn number(&mut self) -> Result<u64, String> {
+        number(self.word()?, u64::MAX)
+    }
+
+    fn code(&mut self) -> Result<u8, String> {
+        octet(self.word()?)
+    }
+
+    fn key(&mut self) -> Result<Vec<u8>, String> {
+        key(self.word()?)
+    }
+
+    /// A key of 32 bytes: a raw line asks no question about its length.
+    fn whole_key(&mut self) -> Result<[u8; 32], String> {
+        let key = self.key()?;
+        let length = key.len();
+        key.try_into().map_err(|_| format!("a key of {length} bytes does not fit"))
+    }
+
+    fn value(&mut self) -> Result<ValueCodes, String> {
+        let word = self.word()?;
+        let bad = || format!("no value: {word:?}");
+        let (flag, rest) = word.split_once(':').ok_or_else(bad)?;
+        let (octets, slot) = rest.split_once(':').ok_or_else(bad)?;
+        Ok(ValueCodes { flag: octet(flag)?, octets: dotted(octets)?, slot: number(slot, 65535)? as u16 })
+    }
+
+    fn node(&mut self) -> Result<NodeCodes, String> {
+        let key = self.whole_key()?;
+        let value = self.value()?;
+        Ok(NodeCodes { key, value, state: self.code()?, direction: self.code()? })
+    }
+
+    fn evicted(&mut self) -> Result<Option<NodeCodes>, String> {
+        if self.rest == Some("-") {
+            self.rest = None;
+            return Ok(None);
+        }
+        self.node().map(Some)
+    }
+
+    fn which(&mut self) -> Result<Which, String> {
+        match self.word()? {
+            "b" => Ok(Which::Itself),
+            word => Ok(Which::Index(number(word, 255)? as usize)),
+        }
+    }
+
+    fn place(&mut self) -> Result<Option<u8>, String> {
+        match self.word()? {
+            "-" => Ok(None),
+            word => Ok(Some(octet(word)?)),
+        }
+    }
+
+    fn distances(&mut self) -> Result<Vec<u64>, String> {
+        match self.word()? {
+            "-" => Ok(Vec::new()),
+            word => word.split(',').map(|d| number(d, u64::MAX)).collect(),
+        }
+    }
+
+    fn predicate(&mut self) -> Result<Predicate, String> {
+        let word = self.word()?;
+        if let Some(net) = word.strip_prefix("2:") {
+            return Ok(Predicate::Net(dotted(net)?));
+        }
+        if let Some(slot) = word.strip_prefix("3:") {
+            return Ok(Predicate::Slot(number(slot, 65535)? as u16));
+        }
+        match octet(word)? {
+            2 | 3 => Err(format!("predicate {word} lacks what it asks for")),
+            code => Ok(Predicate::Code(code)),
+        }
+    }
+
+    fn room(&mut self) -> Result<Option<u64>, String> {
+        match self.rest {
+            None => Ok(None),
+            Some(_) => {
+                let word = self.word()?;
+                let room = word.strip_prefix("out=").ok_or_else(|| format!("not out=K: {word:?}"))?;
+                number(room, u64::MAX).map(Some)
+            }
+        }
+    }
+}
+
+fn number(word: &str, most: u64) -> Result<u64, String> {
+    if word.is_empty() || !word.bytes().all(|b| b.is_ascii_digit()) {
+        return Err(format!("no number: {word:?}"));
+    }
+    match word.parse() {
+        Ok(n) if n <= most => Ok(n),
+        _ => Err(format!("{word} is more than {most}")),
+    }
+}
+
+fn octet(word: &str) -> Result<u8, String> {
+    number(word, 255).map(|n| n as u8)
+}
+
+fn dotted<const COUNT: usize>(word: &str) -> Result<[u8; COUNT], String> {
+    let octets = word.split('.').map(octet).collect::<Result<Vec<u8>, String>>()?;
+    octets.try_into().map_err(|_| format!("not {COUNT} octets: {word:?}"))
+}
+
+fn key(word: &str) -> Result<Vec<u8>, String> {
+    let bad = || format!("no key: {word:?}");
+    let digits = match word.strip_prefix(':') {
+        Some(digits) if digits.len() < 64 => format!("{digits:0>64}"),
+        Some(_) => return Err(bad()),
+        None => word.to_string(),
+    };
+    let digits: Vec<u8> =
+        digits.chars().map(|c| c.to_digit(16).map(|d| d as u8)).collect::<Option<_>>().ok_or_else(bad)?;
+    if digits.is_empty() || !digits.len().is_multiple_of(2) {
+        return Err(bad());
+    }
+    Ok(digits.chunks(2).map(|pair| pair[0] * 16 + pair[1]).collect())
+}
+
+/// Writes text to the end of a run of bytes.
+pub trait Write {
+    fn text(&mut self, text: &str);
+    fn number(&mut self, number: u64);
+    fn key(&mut self, key: &[u8; 32]);
+
+    fn value(&mut self, value: &ValueCodes) {
+        self.number(value.flag.into());
+        for (i, octet) in value.octets.iter().enumerate() {
+            self.text(if i == 0 { ":" } else { "." });
+            self.number((*octet).into());
+        }
+        self.text(":");
+        self.number(value.slot.into());
+    }
+
+    fn node(&mut self, node: &NodeCodes) {
+        self.key(&node.key);
+        self.text("/");
+        self.value(&node.value);
+        self.text("/");
+        self.status(node.state, node.direction);
+    }
+
+    fn status(&mut self, state: u8, direction: u8) {
+        self.number(state.into());
+        self.text("/");
+        self.number(direction.into());
+    }
+
+    fn record(&mut self, record: &RecordCodes) {
+        self.key(&record.inserted);
+        self.text("^");
+        match &record.evicted {
+            Some(node) => self.node(node),
+            None => self.text("-"),
+        }
+    }
+
+    /// `{fcp=PLACE nodes=[NODE NODE] pending=NODE@DEADLINE}`
+    fn bucket(
+        &mut self,
+        first_connected: Option<u8>,
+        nodes: impl Iterator<Item = NodeCodes>,
+        pending: Option<(NodeCodes, u64)>,
+    ) {
+        self.text("{fcp=");
+        match first_connected {
+            Some(place) => self.number(place.into()),
+            None => self.text("-"),
+        }
+        self.text(" nodes=[");
+        for (i, node) in nodes.enumerate() {
+            if i > 0 {
+                self.text(" ");
+            }
+            self.node(&node);
+        }
+        self.text("] pending=");
+        match pending {
+            Some((node, deadline)) => {
+                self.node(&node);
+                self.text("@");
+                self.number(deadline);
+            }
+            None => self.text("-"),
+        }
+        self.text("}");
+    }
+
+    /// ` queue=[RECORD RECORD]`
+    fn queue(&mut self, records: impl Iterator<Item = RecordCodes>) {
+        self.text(" queue=[");
+        for (i, record) in records.enumerate() {
+            if i > 0 {
+                self.text(" ");
+            }
+            self.record(&record);
+        }
+        self.text("]");
+    }
+}
+
+impl Write for Vec<u8> {
+    fn text(&mut self, text: &str) {
+        self.extend_from_slice(text.as_bytes());
+    }
+
+    fn number(&mut self, mut number: u64) {
+        let mut digits = [0; 20];
+        let mut at = digits.len();
+        loop {
+            at -= 1;
+            digits[at] = b'0' + (number % 10) as u8;
+            number /= 10;
+            if number == 0 {
+                break;
+            }
+        }
+        self.extend_from_slice(&digits[at..]);
+    }
+
+    fn key(&mut self, key: &[u8; 32]) {
+        const DIGITS: &[u8; 16] = b"0123456789abcdef";
+        let mut text = [0; 64];
+        for (pair, byte) in text.chunks_exact_mut(2).zip(key) {
+            pair[0] = DIGITS[usize::from(byte >> 4)];
+            pair[1] = DIGITS[usize::from(byte & 15)];
+        }
+        self.extend_from_slice(&text);
+    }
+}

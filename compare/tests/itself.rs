@@ -1,0 +1,81 @@
+//! The comparison finds nothing between the reference and itself, and finds and shrinks a changed answer or dump.
+
+use std::path::Path;
+use std::process::{Command, Output};
+
+const REFERENCE: &str = env!("CARGO_BIN_EXE_reference");
+
+fn compare(arguments: &[&str]) -> Output {
+    Command::new(env!("CARGO_BIN_EXE_compare")).args(arguments).output().unwrap()
+}
+
+fn has_reference() -> bool {
+    if !cfg!(reference_source) {
+        eprintln!("skipped: built without the reference");
+    }
+    cfg!(reference_source)
+}
+
+#[test]
+fn agrees_with_itself() {
+    if has_reference() {
+        let run = compare(&["--calls", "20000", "--seed", "7", REFERENCE, REFERENCE]);
+        let text = String::from_utf8(run.stdout).unwrap();
+        assert_eq!(run.status.code(), Some(0), "{text}");
+        assert!(text.contains("calls agree"), "{text}");
+    }
+}
+
+/// The fewest lines, and the first program's side, of the disagreement between the reference and an edited one.
+fn shrunk(edit: &str) -> (Vec<String>, String) {
+    let wrapper = Path::new(env!("CARGO_MANIFEST_DIR")).join("tests/changed.sh");
+    let run = Command::new(env!("CARGO_BIN_EXE_compare"))
+        .args(["--calls", "20000", "--seed", "7", REFERENCE, &format!("sh {}", wrapper.display())])
+        .env("REFERENCE", REFERENCE)
+        .env("EDIT", edit)
+        .output()
+        .unwrap();
+    let text = String::from_utf8(run.stdout).unwrap();
+    assert_eq!(run.status.code(), Some(1), "{text}");
+    let (_, shrunk) = text.split_once("the fewest lines that show it:\n\n").expect(&text);
+    let (lines, answers) = shrunk.split_once("\n\n").expect(&text);
+    let first = answers.lines().next().unwrap().strip_prefix("first:  ").unwrap();
+    (lines.lines().map(str::to_string).collect(), first.to_string())
+}
+
+#[test]
+fn finds_and_shrinks_a_changed_answer() {
+    if has_reference() {
+        let (lines, first) = shrunk("s/^UpdatedAndPromoted$/Updated/");
+        assert_eq!(first, "UpdatedAndPromoted");
+        // A disconnected node, and the call that connects it.
+        assert_eq!(lines.len(), 2, "{lines:?}");
+    }
+}
+
+#[test]
+fn finds_and_shrinks_a_changed_dump() {
+    if has_reference() {
+        let (lines, first) = shrunk("s/ queue=.*$/ queue=[]/");
+        assert!(first.starts_with("dump "), "{first}");
+        // At most: sixteen nodes, a pending, and the call that applies it.
+        assert!(lines.len() <= 19, "{lines:?}");
+    }
+}
+
+#[test]
+fn finds_a_program_that_ends_early() {
+    if has_reference() {
+        let run = compare(&["--calls", "5000", "--seed", "7", REFERENCE, "true"]);
+        let text = String::from_utf8(run.stdout).unwrap();
+        assert_eq!(run.status.code(), Some(1), "{text}");
+        assert!(text.contains("the program ended"), "{text}");
+    }
+}
+
+#[test]
+fn says_that_a_command_cannot_run() {
+    for command in ["no-such-command", "false"] {
+        assert_eq!(compare(&[command, command]).status.code(), Some(2));
+    }
+}

@@ -1,0 +1,2 @@
+-- What the contracts of the table's calls cite beside the model.
+pub mod Answers

@@ -1,0 +1,125 @@
+// Internal: what the table's calls on one key share. The questions, the key's bucket, and the bucket and its record written back.
+ghost use mathlib.Core.Path.{_≡_};
+ghost use mathlib.Core.Bool.{true};
+ghost use mathlib.Core.Option.{none, some};
+ghost use Prim.Native.Nat.{_+_, _≤_, _<_};
+ghost use lib.ListN.{length};
+ghost use Rattle.model.specs.Bytes.{number};
+ghost use Rattle.model.specs.Table.{maxRecords, indexIn};
+ghost use Rattle.model.specs.Sizes.{keySize, storageSize};
+ghost use Rattle.model.specs.Layout.{tableOf};
+ghost use Rattle.model.specs.Formed.{formed};
+ghost use Rattle.key.specs.Key.{num};
+ghost use Rattle.key.specs.Answers.{bucketIndexOf};
+ghost use Rattle.bucket.specs.Bucket.{bucketOf, Sound};
+ghost use Rattle.bucket.specs.Calls.{recordsOf, appliedCodes};
+ghost use Rattle.asked.specs.Answers.{refusal, failedOfTwo, failedOfFive, Ready, Timely, AppliedAt, roomFor, rewritten};
+use bucket::Applied;
+use bucket::AppliedPending;
+use bucket::KBucket;
+use key::BucketIndex;
+use key::Key;
+use storage::Layout;
+
+// Internal: the first failed question of 1 and 2, or 0.
+pub fn asked_storage(s: &[u8]) -> u8
+    ensures { λ r. ⌜ failedOfTwo (now (s .entry)) ≡ refusal r ⌝ }
+{
+    if s.len() != Layout::STORAGE {
+        return 1;
+    }
+    if !formed::formed(s) {
+        return 2;
+    }
+    0
+}
+
+// Internal: the first failed question of 1 to 4, or 0, where no time is given.
+pub fn asked(s: &[u8], key: &[u8], codes: bool) -> u8
+    ensures { λ r. ⌜ failedOfFive (now (key .entry)) codes none (now (s .entry)) ≡ refusal r ⌝ }
+{
+    let q = asked_storage(s);
+    if q != 0 {
+        return q;
+    }
+    if key.len() != Layout::KEY {
+        return 3;
+    }
+    if !codes {
+        return 4;
+    }
+    0
+}
+
+// Internal: the first failed question of 1 to 5, or 0.
+pub fn asked_at(s: &[u8], key: &[u8], codes: bool, time: u64) -> u8
+    ensures { λ r. ⌜ failedOfFive (now (key .entry)) codes (some time) (now (s .entry)) ≡ refusal r ⌝ }
+{
+    let q = asked(s, key, codes);
+    if q != 0 {
+        return q;
+    }
+    if 0xFFFF_FFFF_FFFF_FFFF - queue::pending_timeout(s) < time {
+        return 5;
+    }
+    0
+}
+
+// Internal: the key of 32 bytes.
+pub fn key_of(key: &[u8]) -> Key
+    requires { ⌜ length (now key) ≡ keySize ⌝ }
+    ensures { λ r. ⌜ num r ≡ number (now (key .entry)) ⌝ }
+{
+    Key::load(key, 0)
+}
+
+// Internal: the index of the key's bucket; nothing for the local key.
+pub fn index_of(s: &[u8], key: Key) -> BucketIndex
+    requires { ⌜ length (now s) ≡ storageSize ⌝ }
+    ensures { λ r. ⌜ bucketIndexOf r ≡ indexIn (tableOf (now (s .entry))) (num key) ⌝ }
+{
+    let local = queue::local_key(s);
+    local.bucket_index(key)
+}
+
+// Internal: bucket i, after its pending was applied if it is due.
+pub fn apply_at(s: &[u8], i: usize, time: u64) -> Applied
+    requires { ⌜ Ready (now s) i ⌝ }
+    requires { ⌜ Timely (now s) time ⌝ }
+    ensures { λ r. ⌜ AppliedAt (now (s .entry)) i time (r .bucket) (r .applied) ⌝ }
+{
+    let b = buckets::load_bucket(s, i);
+    b.apply_pending_sound(time)
+}
+
+// Internal: how many records an applied pending gives.
+pub fn count_of(applied: AppliedPending) -> usize
+    ensures { λ r. ⌜ (r ≡ length (recordsOf applied)) × (r ≤ 1) ⌝ }
+{
+    match applied {
+        AppliedPending::Nothing => 0,
+        AppliedPending::Inserted(_) => 1,
+        AppliedPending::Replaced(_, _) => 1,
+    }
+}
+
+// Internal: question 8 of a call that gives this record.
+pub fn has_room(s: &[u8], applied: AppliedPending) -> bool
+    requires { ⌜ (length (now s) ≡ storageSize) × (formed (now s) ≡ true) ⌝ }
+    ensures { λ r. ⌜ r ≡ roomFor (now (s .entry)) (recordsOf applied) ⌝ }
+{
+    let n = queue::record_count(s);
+    n + count_of(applied) <= Layout::MAX_RECORDS
+}
+
+// Internal: adds the record to the queue and stores bucket i.
+pub fn write_back(s: &mut [u8], i: usize, applied: AppliedPending, b: KBucket)
+    requires { ⌜ Ready (now s) i ⌝ }
+    requires { ⌜ roomFor (now s) (recordsOf applied) ≡ true ⌝ }
+    requires { ⌜ appliedCodes applied ≡ true ⌝ }
+    requires { ⌜ Sound b ⌝ }
+    ensures { λ _. ⌜ now (s .exit) ≡ rewritten (now (s .entry)) i (bucketOf b) (recordsOf applied) ⌝ }
+{
+    queue::push_record(s, applied);
+    buckets::store_bucket(s, i, b);
+}

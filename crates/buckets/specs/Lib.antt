@@ -1,0 +1,2 @@
+-- What the contracts of `buckets` cite beside the model.
+pub mod Read

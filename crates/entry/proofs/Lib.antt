@@ -1,0 +1,2 @@
+-- Laws of the entry calls.
+pub mod Kind

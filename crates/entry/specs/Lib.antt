@@ -1,0 +1,2 @@
+-- What the contracts of `entry` cite beside the model.
+pub mod Kind

@@ -1,0 +1,3 @@
+-- Laws of question 2.
+pub mod Places
+pub mod Buckets

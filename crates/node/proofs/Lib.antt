@@ -1,0 +1,3 @@
+-- Laws of values and nodes.
+pub mod Tests
+pub mod Stored

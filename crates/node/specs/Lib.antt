@@ -1,0 +1,2 @@
+-- What the declared values and nodes stand for.
+pub mod Node

@@ -1,0 +1,2 @@
+-- Laws of `order`.
+pub mod Exchange

@@ -1,0 +1,3 @@
+-- What the contracts of `order` cite beside the model.
+pub mod Exchange
+pub mod Found

@@ -1,0 +1,2 @@
+-- Lists of nodes, place by place.
+pub mod Places

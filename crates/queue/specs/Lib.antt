@@ -1,0 +1,2 @@
+-- What the contracts of `queue` cite beside the model.
+pub mod Queue

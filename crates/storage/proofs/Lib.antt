@@ -1,0 +1,2 @@
+-- Laws of the bytes of declared values and nodes.
+pub mod Nodes

@@ -1,0 +1,34 @@
+-- What the table's answers mean.
+use mathlib.Core.List.{List, [], _∷_}
+use mathlib.Core.Option.{Option, none, some}
+use Rattle.model.specs.Node as model
+use Rattle.model.specs.Table.{Answer}
+use Rattle.bucket.specs.declared.RemoveAnswer.{RemoveAnswer}
+use Rattle.bucket.specs.declared.UpdateAnswer.{UpdateAnswer}
+use Rattle.bucket.specs.declared.RemoveAnswer.the-variants as remove-answer
+use Rattle.bucket.specs.declared.UpdateAnswer.the-variants as update-answer
+use Rattle.bucket.specs.declared.NewAnswer.{NewAnswer}
+use Rattle.bucket.specs.declared.NewAnswer.the-variants as new-answer
+use Rattle.bucket.specs.Calls.{updateResultOf, recordsOf}
+use Rattle.table.specs.declared.TakeAnswer.{TakeAnswer}
+
+abbrev pub removeAnswer : RemoveAnswer → Answer
+removeAnswer (remove-answer.Refused q) = Answer.Refused q
+removeAnswer (remove-answer.Answered found) = Answer.Remove found
+
+abbrev pub updateAnswer : UpdateAnswer → Answer
+updateAnswer (update-answer.Refused q) = Answer.Refused q
+updateAnswer (update-answer.Answered r) = Answer.Update (updateResultOf r)
+
+-- the first of a list, if it has one
+abbrev pub first : {A : Type 0} → List A → Option A
+first [] = none
+first (x ∷ l) = some x
+
+abbrev pub takeAnswer : TakeAnswer → Answer
+takeAnswer (TakeAnswer.Refused q) = Answer.Refused q
+takeAnswer (TakeAnswer.Answered a) = Answer.TakeAppliedPending (first (recordsOf a))
+
+abbrev pub newAnswer : NewAnswer → Answer
+newAnswer (new-answer.Refused q) = Answer.Refused q
+newAnswer new-answer.Created = Answer.New

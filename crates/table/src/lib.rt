@@ -1,0 +1,129 @@
+// The calls of the table on lent storage (kbucket.rs): each asks its questions, then does what the model's call does.
+ghost use mathlib.Core.Path.{_≡_};
+ghost use Rattle.model.specs.Call.{Call};
+ghost use Rattle.model.specs.StepBytes.{stepBytes};
+ghost use Rattle.asked.specs.Answers.{Answers};
+ghost use Rattle.table.specs.Calls.{removeAnswer, updateAnswer, takeAnswer, newAnswer};
+use bucket::AppliedPending;
+use bucket::NewAnswer;
+use bucket::RemoveAnswer;
+use bucket::UpdateAnswer;
+use bucket::UpdateResult;
+use key::BucketIndex;
+use storage::Layout;
+
+// The oldest record of an applied pending, Nothing where the queue is empty.
+pub enum TakeAnswer {
+    Refused(u8),
+    Answered(AppliedPending),
+}
+
+// Takes the node of the key out.
+pub fn remove(s: &mut [u8], key: &[u8], time: u64) -> RemoveAnswer
+    ensures { λ r. ⌜ Answers (removeAnswer r) (now (s .exit)) (stepBytes (Call.remove (now (key .entry)) time) (now (s .entry))) ⌝ }
+{
+    let q = asked::asked_at(s, key, true, time);
+    if q != 0 {
+        return RemoveAnswer::Refused(q);
+    }
+    let k = asked::key_of(key);
+    let index = asked::index_of(s, k);
+    match index {
+        BucketIndex::Nothing => RemoveAnswer::Answered(false),
+        BucketIndex::At(i) => {
+            let a = asked::apply_at(s, i, time);
+            let applied = a.applied;
+            if !asked::has_room(s, applied) {
+                return RemoveAnswer::Refused(8);
+            }
+            let b = a.bucket;
+            let r = b.remove_sound(k, time);
+            let left = r.bucket;
+            let found = r.found;
+            asked::write_back(s, i, applied, left);
+            RemoveAnswer::Answered(found)
+        }
+    }
+}
+
+// Sets the status of the node of the key; direction 2 is none given.
+pub fn update_node_status(
+    s: &mut [u8],
+    key: &[u8],
+    state: u8,
+    direction: u8,
+    time: u64,
+) -> UpdateAnswer
+    ensures { λ r. ⌜ Answers (updateAnswer r) (now (s .exit)) (stepBytes (Call.updateNodeStatus (now (key .entry)) state direction time) (now (s .entry))) ⌝ }
+{
+    let codes = (state <= 1) & (direction <= 2);
+    let q = asked::asked_at(s, key, codes, time);
+    if q != 0 {
+        return UpdateAnswer::Refused(q);
+    }
+    let k = asked::key_of(key);
+    let index = asked::index_of(s, k);
+    match index {
+        BucketIndex::Nothing => {
+            let same = UpdateResult::NotModified;
+            UpdateAnswer::Answered(same)
+        }
+        BucketIndex::At(i) => {
+            let a = asked::apply_at(s, i, time);
+            let applied = a.applied;
+            if !asked::has_room(s, applied) {
+                return UpdateAnswer::Refused(8);
+            }
+            let b = a.bucket;
+            let r = b.update_status_sound(k, state, direction);
+            let left = r.bucket;
+            let result = r.result;
+            asked::write_back(s, i, applied, left);
+            UpdateAnswer::Answered(result)
+        }
+    }
+}
+
+// Takes the oldest record of an applied pending out of the queue.
+pub fn take_applied_pending(s: &mut [u8]) -> TakeAnswer
+    ensures { λ r. ⌜ Answers (takeAnswer r) (now (s .exit)) (stepBytes Call.takeAppliedPending (now (s .entry))) ⌝ }
+{
+    let q = asked::asked_storage(s);
+    if q != 0 {
+        return TakeAnswer::Refused(q);
+    }
+    let oldest = queue::take_record(s);
+    TakeAnswer::Answered(oldest)
+}
+
+// Makes the storage that of an empty table.
+pub fn new(
+    s: &mut [u8],
+    local_key: &[u8],
+    pending_timeout: u64,
+    max_incoming: u8,
+    table_filter: u8,
+    bucket_filter: u8,
+) -> NewAnswer
+    ensures { λ r. ⌜ Answers (newAnswer r) (now (s .exit)) (stepBytes (Call.new (now («local_key» .entry)) «pending_timeout» «max_incoming» «table_filter» «bucket_filter») (now (s .entry))) ⌝ }
+{
+    if s.len() != Layout::STORAGE {
+        return NewAnswer::Refused(1);
+    }
+    if local_key.len() != Layout::KEY {
+        return NewAnswer::Refused(3);
+    }
+    if !((max_incoming <= 16) & ((table_filter <= 1) & (bucket_filter <= 1))) {
+        return NewAnswer::Refused(4);
+    }
+    let k = asked::key_of(local_key);
+    queue::clear(
+        s,
+        k,
+        pending_timeout,
+        max_incoming,
+        table_filter,
+        bucket_filter,
+    );
+    NewAnswer::Created
+}

@@ -1,0 +1,2 @@
+-- Laws of the table filter.
+pub mod Held

@@ -1,0 +1,2 @@
+-- What the contracts of `table_filter` cite beside the model.
+pub mod Counted

@@ -1,0 +1,113 @@
+// Internal: the table filter (kbucket.rs, filter.rs) on the bytes of the storage, one value at a time.
+ghost use mathlib.Core.Path.{_≡_};
+ghost use mathlib.Core.Bool.{true};
+ghost use Prim.Native.Nat.{_+_, _≤_, _<_};
+ghost use lib.ListN.{length, getD};
+ghost use Rattle.model.specs.Bytes.{part};
+ghost use Rattle.model.specs.Filter.{counts, counted, ipFilterFails, tableLimit};
+ghost use Rattle.model.specs.Bucket.{maxNodes, nodes, lookup};
+ghost use Rattle.model.specs.Table.{numBuckets, heldNodes, isDuplicate, failsTableFilter};
+ghost use Rattle.model.specs.Sizes.{nodeSize, bucketSize, storageSize};
+ghost use Rattle.model.specs.Layout.{nodeIn, bucketIn, tableOf};
+ghost use Rattle.model.specs.Formed.{formed};
+ghost use Rattle.key.specs.Key.{num};
+ghost use Rattle.node.specs.Node.{valueOf};
+ghost use Rattle.table_filter.specs.Counted.{countedBelow};
+use key::Key;
+use node::Value;
+use storage::Layout;
+
+// How many held values that count against a value fail the table filter (filter.rs, MAX_NODES_PER_SUBNET_TABLE).
+pub const MAX_NODES_PER_SUBNET_TABLE: usize = 10;
+
+// The value of the node at `at` counts against the given one.
+fn counts_at(s: &[u8], at: usize, value: Value) -> bool
+    requires { ⌜ at + nodeSize ≤ length (now s) ⌝ }
+    ensures { λ r. ⌜ r ≡ counts (valueOf value) (nodeIn (part (now (s .entry)) at nodeSize) .value) ⌝ }
+{
+    let other = storage::load_value(s, at + Layout::VALUE_AT);
+    node::filter::counts(value, other)
+}
+
+// How many of the places below count of the bucket at `at` count against the value.
+fn counted_below(s: &[u8], at: usize, count: usize, value: Value) -> usize
+    requires { ⌜ (at + bucketSize ≤ length (now s)) × (count ≤ maxNodes) ⌝ }
+    ensures { λ r. ⌜ (r ≡ countedBelow (valueOf value) (part (now (s .entry)) at bucketSize) count) × (r ≤ maxNodes) ⌝ }
+{
+    let mut n: usize = 0;
+    let mut j: usize = 0;
+    while j < count {
+        n += counts_at(s, at + (Layout::PLACES_AT + j * Layout::NODE), value) as usize;
+        j += 1;
+    }
+    n
+}
+
+// How many of the held nodes of the bucket at `at` count against the value. The pending is not among them.
+fn counted(s: &[u8], at: usize, value: Value) -> usize
+    requires { ⌜ (at + bucketSize ≤ length (now s)) × (getD (now s) at 0 ≤ maxNodes) ⌝ }
+    ensures { λ r. ⌜ (r ≡ length (counted (valueOf value) (nodes (bucketIn (part (now (s .entry)) at bucketSize))))) × (r ≤ maxNodes) ⌝ }
+{
+    counted_below(s, at, s[at] as usize, value)
+}
+
+// Internal: the value fails the IP filter of the table. The scan ends at the limit.
+pub fn fails_table_filter(s: &[u8], value: Value) -> bool
+    requires { ⌜ (length (now s) ≡ storageSize) × (formed (now s) ≡ true) ⌝ }
+    ensures { λ r. ⌜ r ≡ ipFilterFails tableLimit (valueOf value) (heldNodes numBuckets (tableOf (now (s .entry)) .buckets)) ⌝ }
+{
+    if value.flag != 1 {
+        return false;
+    }
+    let mut n: usize = 0;
+    let mut i: usize = 0;
+    while i < model::NUM_BUCKETS {
+        n += counted(s, Layout::HEADER + i * Layout::BUCKET, value);
+        if MAX_NODES_PER_SUBNET_TABLE <= n {
+            return true;
+        }
+        i += 1;
+    }
+    false
+}
+
+// The bucket at `at` holds the key with an equal value.
+fn holds_value(s: &[u8], at: usize, key: Key, value: Value) -> bool
+    requires { ⌜ (at + bucketSize ≤ length (now s)) × (getD (now s) at 0 ≤ maxNodes) ⌝ }
+    ensures { λ r. ⌜ r ≡ isDuplicate (valueOf value) (lookup (num key) (bucketIn (part (now (s .entry)) at bucketSize))) ⌝ }
+{
+    let count = s[at] as usize;
+    let mut j: usize = 0;
+    while j < count {
+        let place = at + (Layout::PLACES_AT + j * Layout::NODE);
+        let held = Key::load(s, place);
+        if held.eq(key) {
+            let old = storage::load_value(s, place + Layout::VALUE_AT);
+            return old.eq(value);
+        }
+        j += 1;
+    }
+    false
+}
+
+// Internal: bucket i holds the key with an equal value.
+pub fn is_duplicate(s: &[u8], i: usize, key: Key, value: Value) -> bool
+    requires { ⌜ (length (now s) ≡ storageSize) × (formed (now s) ≡ true) × (i < numBuckets) ⌝ }
+    ensures { λ r. ⌜ r ≡ isDuplicate (valueOf value) (lookup (num key) (tableOf (now (s .entry)) .buckets i)) ⌝ }
+{
+    holds_value(s, Layout::HEADER + i * Layout::BUCKET, key, value)
+}
+
+// Internal: the table filter, where it is on, fails for the value of the key, whose bucket is i.
+pub fn table_filter_fails(s: &[u8], i: usize, key: Key, value: Value) -> bool
+    requires { ⌜ (length (now s) ≡ storageSize) × (formed (now s) ≡ true) × (i < numBuckets) ⌝ }
+    ensures { λ r. ⌜ r ≡ failsTableFilter (tableOf (now (s .entry))) i (num key) (valueOf value) ⌝ }
+{
+    if s[Layout::TABLE_FILTER_AT] != 1 {
+        return false;
+    }
+    if is_duplicate(s, i, key, value) {
+        return false;
+    }
+    fails_table_filter(s, value)
+}
