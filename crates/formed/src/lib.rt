@@ -37,7 +37,7 @@ fn has_key(s: &[u8], at: usize, key: Key) -> bool
     }
 }
 
-// No place below k of the bucket at `at` has the key.
+// Internal: no place below k of the bucket at `at` has the key.
 pub fn not_held(s: &[u8], at: usize, k: usize, key: Key) -> bool
     requires { ⌜ (at + bucketSize ≤ length (now s)) × (k ≤ maxNodes) ⌝ }
     ensures { λ r. ⌜ r ≡ notHeld (part (now (s .entry)) at bucketSize) k (num key) ⌝ }

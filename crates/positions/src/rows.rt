@@ -98,7 +98,7 @@ pub fn empty(max_incoming: usize, filter: u8) -> KBucket
     made.bucket
 }
 
-// Inserts n outgoing nodes of one state at time 0, with the keys from k on.
+// Internal: inserts n outgoing nodes of one state at time 0, with the keys from k on.
 pub fn fill(b: KBucket, k: u64, n: u64, state: u8) -> KBucket
     requires { ⌜ k + n ≤ 64 ⌝ }
     ensures { λ r. ⌜ r ≡ filled n k state b ⌝ }
