@@ -1,4 +1,5 @@
 -- Laws of the questions and of a call on one key.
+pub mod Due
 pub mod Questions
 pub mod OneKey
 pub mod Stored

@@ -1,28 +1,41 @@
 -- What an entry point of the table owes, and the parts in which a call on one key is carried out.
 use Prim.Native.Nat.{ℕ, _+_, _^_, _<_}
 use mathlib.Core.Path.{_≡_}
-use mathlib.Core.Bool.{Bool, true, cond}
+use mathlib.Core.Bool.{Bool, true, false, cond}
 use mathlib.Core.List.{List, [], _∷_, _++_}
 use mathlib.Core.Option.{Option, none, some}
 use lib.ListN.{length}
 use lib.Dec.{eqb, leb}
-use Rattle.model.specs.Node.{AppliedPending}
+use Rattle.model.specs.Node.{PendingNode, AppliedPending}
 use Rattle.model.specs.Bucket.{Bucket, applyPending}
 use Rattle.model.specs.Table.{Table, Answer, Effect, write, numBuckets, maxRecords}
+use Rattle.model.specs.Call.{ValueArgument}
 use Rattle.model.specs.Sizes.{keySize, storageSize}
 use Rattle.model.specs.Layout.{tableOf}
 use Rattle.model.specs.Formed.{formed}
 use Rattle.model.specs.Question.{firstFailed, deadlineFits}
 use Rattle.model.specs.StepBytes.{BytesOutcome, restore}
+use Rattle.node.specs.declared.Value.{Value}
 use Rattle.bucket.specs.declared.KBucket.{KBucket}
 use Rattle.bucket.specs.declared.AppliedPending as code
+use Rattle.bucket.specs.declared.UpdateAnswer.{UpdateAnswer}
+use Rattle.bucket.specs.declared.UpdateAnswer.the-variants as update-answer
 use Rattle.bucket.specs.Bucket.{Becomes}
-use Rattle.bucket.specs.Calls.{recordsOf, appliedCodes}
+use Rattle.bucket.specs.Calls.{recordsOf, appliedCodes, updateResultOf}
 
 -- the answer and the storage are those of the outcome
 pub record Answers (a : Answer) (s : List ℕ) (o : BytesOutcome) : Type 0 where
   pub answer : a ≡ o .answer
   pub storage : s ≡ o .storage
+
+-- what an update answers
+abbrev pub updateAnswer : UpdateAnswer → Answer
+updateAnswer (update-answer.Refused q) = Answer.Refused q
+updateAnswer (update-answer.Answered r) = Answer.Update (updateResultOf r)
+
+-- a value as a call's argument
+abbrev pub argumentOf : Value → ValueArgument
+argumentOf v = record { flag = v .flag; a = v .a; b = v .b; c = v .c; d = v .d; slot = v .slot }
 
 -- the question that a number stands for; 0 is none
 abbrev pub refusal : ℕ → Option ℕ
@@ -57,6 +70,11 @@ pub record Ready (s : List ℕ) (i : ℕ) : Type 0 where
 -- a time at which a new pending's deadline fits
 abbrev pub Timely : List ℕ → ℕ → Type 0
 Timely s now = now + tableOf s .settings .bucket .pendingTimeout < 2 ^ 64
+
+-- 01, Apply pending: when deadline ≤ now
+abbrev pub isDue : ℕ → Option PendingNode → Bool
+isDue now none = false
+isDue now (some p) = leb (p .deadline) now
 
 -- bucket i after a due pending was applied, and the record of it
 pub record AppliedAt (s : List ℕ) (i now : ℕ) (b : KBucket) (a : code.AppliedPending) : Type 0 where

@@ -5,7 +5,7 @@ ghost use mathlib.Core.Option.{none, some};
 ghost use Prim.Native.Nat.{_+_, _≤_, _<_};
 ghost use lib.ListN.{length};
 ghost use Rattle.model.specs.Bytes.{number};
-ghost use Rattle.model.specs.Table.{maxRecords, indexIn};
+ghost use Rattle.model.specs.Table.{numBuckets, maxRecords, indexIn};
 ghost use Rattle.model.specs.Sizes.{keySize, storageSize};
 ghost use Rattle.model.specs.Layout.{tableOf};
 ghost use Rattle.model.specs.Formed.{formed};
@@ -13,7 +13,7 @@ ghost use Rattle.key.specs.Key.{num};
 ghost use Rattle.key.specs.Answers.{bucketIndexOf};
 ghost use Rattle.bucket.specs.Bucket.{bucketOf, Sound};
 ghost use Rattle.bucket.specs.Calls.{recordsOf, appliedCodes};
-ghost use Rattle.asked.specs.Answers.{refusal, failedOfTwo, failedOfFive, Ready, Timely, AppliedAt, roomFor, rewritten};
+ghost use Rattle.asked.specs.Answers.{refusal, failedOfTwo, failedOfFive, Ready, Timely, isDue, AppliedAt, roomFor, rewritten};
 use bucket::Applied;
 use bucket::AppliedPending;
 use bucket::KBucket;
@@ -82,6 +82,18 @@ pub fn index_of(s: &[u8], key: Key) -> BucketIndex
     local.bucket_index(key)
 }
 
+// Internal: bucket i has a pending that is due.
+pub fn is_due(s: &[u8], i: usize, time: u64) -> bool
+    requires { ⌜ (length (now s) ≡ storageSize) × (i < numBuckets) ⌝ }
+    ensures { λ r. ⌜ r ≡ isDue time (tableOf (now (s .entry)) .buckets i .pending) ⌝ }
+{
+    let at = Layout::HEADER + i * Layout::BUCKET;
+    if s[at + Layout::PENDING_AT] != 1 {
+        return false;
+    }
+    words::get_u64(s, at + (Layout::PENDING_AT + 1 + Layout::NODE)) <= time
+}
+
 // Internal: bucket i, after its pending was applied if it is due.
 pub fn apply_at(s: &[u8], i: usize, time: u64) -> Applied
     requires { ⌜ Ready (now s) i ⌝ }
@@ -89,6 +101,12 @@ pub fn apply_at(s: &[u8], i: usize, time: u64) -> Applied
     ensures { λ r. ⌜ AppliedAt (now (s .entry)) i time (r .bucket) (r .applied) ⌝ }
 {
     let b = buckets::load_bucket(s, i);
+    if !is_due(s, i, time) {
+        return Applied {
+            bucket: b,
+            applied: AppliedPending::Nothing,
+        };
+    }
     b.apply_pending_sound(time)
 }
 

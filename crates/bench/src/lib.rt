@@ -35,28 +35,18 @@ fn node_from(k: u64, connected: bool) -> Node
     Node { key, value, status }
 }
 
-// Four disconnected and four connected nodes.
-fn half_full() -> KBucket {
+// Two disconnected and two connected nodes.
+fn four_held() -> KBucket {
     let made = KBucket::new(60000, 16, 0);
     let mut b = made.bucket;
     let mut i: u64 = 0;
-    while i < 8 {
-        let node = node_from(i + 1, 3 < i);
+    while i < 4 {
+        let node = node_from(i + 1, i % 2 == 0);
         let r = b.insert(node, 0);
         b = r.bucket;
         i += 1;
     }
     b
-}
-
-// 1 for a node, 0 for what a free place holds.
-fn stands(n: Node) -> u64
-    ensures { λ r. ⌜ r ≤ 1 ⌝ }
-{
-    if n.key.w3 != 0 {
-        return 1;
-    }
-    0
 }
 
 // 1 where the index is even, 0 where it is odd or there is none.
@@ -74,27 +64,31 @@ fn even(i: BucketIndex) -> u64
     }
 }
 
-// The internal insert of a new node into a half-full bucket, by value. Answers after how many rounds a node stood at place round % 16.
+// A round is eight calls of the internal insert by value. The first is on a bucket that holds four nodes, each other one on the bucket that
+// the call before it answered. Answers after how many rounds the bucket held twelve.
 #[no_mangle]
 pub extern "C" fn bench_insert_sound(rounds: u64) -> u64
     ensures { λ r. ⌜ r ≤ rounds ⌝ }
 {
-    let b = half_full();
-    if !b.is_sound() {
+    let start = four_held();
+    if !start.is_sound() {
         return 0;
     }
-    if 60000 < b.pending_timeout {
+    if 60000 < start.pending_timeout {
         return 0;
     }
     let mut seen: u64 = 0;
     let mut i: u64 = 0;
     while i < rounds {
-        let node = node_from(100 + i % 1024, i % 2 == 0);
-        let r = b.insert_sound(node, 0);
-        let out = r.bucket;
-        let at = (i % 16) as usize;
-        let n = out.nodes[at];
-        seen += stands(n);
+        let mut b = start;
+        let mut k: u64 = 0;
+        while k < 8 {
+            let node = node_from(100 + k, k % 2 == 0);
+            let r = b.insert_sound(node, 0);
+            b = r.bucket;
+            k += 1;
+        }
+        seen += (b.count == 12) as u64;
         i += 1;
     }
     seen
@@ -105,16 +99,19 @@ pub extern "C" fn bench_insert_sound(rounds: u64) -> u64
 pub extern "C" fn bench_insert(rounds: u64) -> u64
     ensures { λ r. ⌜ r ≤ rounds ⌝ }
 {
-    let b = half_full();
+    let start = four_held();
     let mut seen: u64 = 0;
     let mut i: u64 = 0;
     while i < rounds {
-        let node = node_from(100 + i % 1024, i % 2 == 0);
-        let r = b.insert(node, 0);
-        let out = r.bucket;
-        let at = (i % 16) as usize;
-        let n = out.nodes[at];
-        seen += stands(n);
+        let mut b = start;
+        let mut k: u64 = 0;
+        while k < 8 {
+            let node = node_from(100 + k, k % 2 == 0);
+            let r = b.insert(node, 0);
+            b = r.bucket;
+            k += 1;
+        }
+        seen += (b.count == 12) as u64;
         i += 1;
     }
     seen

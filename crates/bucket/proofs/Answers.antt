@@ -123,6 +123,15 @@ pending-test b (Waiting n d) =
 
 -- Question 2, test by test.
 
+in-turn : (d u c i w z m : Bool) → (d && ((u && (c && z)) && (i && (w && m)))) ≡ (d && (u && (c && (i && (w && (z && m))))))
+in-turn false u c i w z m = refl
+in-turn true false c i w z m = refl
+in-turn true true false i w z m = refl
+in-turn true true true i w true m = refl
+in-turn true true true false w false m = refl
+in-turn true true true true false false m = refl
+in-turn true true true true true false m = refl
+
 module _ (b : KBucket) where
   pub fails-count : leb (b .count) maxNodes ≡ false → false ≡ sound b
   unfolding sound
@@ -133,37 +142,14 @@ module _ (b : KBucket) where
     unfolding sound
     fails-first e = rw (e₁, e)
 
-    module _ (e₂ : leb (b .«first_connected_pos») (b .count) ≡ true) where
-      pub fails-different : different (map nodeOf (heldOf b)) ≡ false → false ≡ sound b
-      unfolding sound
-      fails-different e = rw (e₁, e₂, e)
-
-      module _ (e₃ : different (map nodeOf (heldOf b)) ≡ true) where
-        pub fails-disconnected : every (inState 0) (take (b .«first_connected_pos») (b .nodes)) ≡ false → false ≡ sound b
-        unfolding sound
-        fails-disconnected e = rw (e₁, e₂, e₃, e)
-
-        module _ (e₄ : every (inState 0) (take (b .«first_connected_pos») (b .nodes)) ≡ true) where
-          pub fails-connected : every (inState 1) (drop (b .«first_connected_pos») (heldOf b)) ≡ false → false ≡ sound b
-          unfolding sound
-          fails-connected e = rw (e₁, e₂, e₃, e₄, e)
-
-          module _ (e₅ : every (inState 1) (drop (b .«first_connected_pos») (heldOf b)) ≡ true) where
-            pub fails-incoming : leb (length (incomingNodes (map nodeOf (heldOf b)))) (b .«max_incoming») ≡ false → false ≡ sound b
-            unfolding sound
-            fails-incoming e = rw (e₁, e₂, e₃, e₄, e₅, e)
-
-            module _ (e₆ : leb (length (incomingNodes (map nodeOf (heldOf b)))) (b .«max_incoming») ≡ true) where
-              pub fails-pending : pendingSound (bucketOf b) (b .pending) ≡ false → false ≡ sound b
-              unfolding sound
-              fails-pending e = rw (e₁, e₂, e₃, e₄, e₅, e₆, e)
-
-              module _ (e₇ : pendingSound (bucketOf b) (b .pending) ≡ true) where
-                pub fails-zero : every isZero (drop (b .count) (take maxNodes (b .nodes))) ≡ false → false ≡ sound b
-                unfolding sound
-                fails-zero e = rw (e₁, e₂, e₃, e₄, e₅, e₆, e₇, e)
-
-                pub passes : every isZero (drop (b .count) (take maxNodes (b .nodes))) ≡ true
-                    → (leb (b .«max_incoming») maxNodes && leb (b .filter) 1) ≡ sound b
-                unfolding sound
-                passes e = rw (e₁, e₂, e₃, e₄, e₅, e₆, e₇, e)
+    pub passes : leb (b .«first_connected_pos») (b .count) ≡ true → (d p i w : Bool) → d ≡ different (map nodeOf (heldOf b))
+        → p ≡ (every (inState 0) (take (b .«first_connected_pos») (b .nodes))
+        && (every (inState 1) (drop (b .«first_connected_pos») (heldOf b)) && every isZero (drop (b .count) (take maxNodes (b .nodes)))))
+        → i ≡ leb (length (incomingNodes (map nodeOf (heldOf b)))) (b .«max_incoming») → w ≡ pendingSound (bucketOf b) (b .pending)
+        → (d && (p && (i && (w && (leb (b .«max_incoming») maxNodes && leb (b .filter) 1))))) ≡ sound b
+    unfolding sound
+    passes e₂ d p i w ed ep ei ew =
+        rw (ed, ep, ei, ew, e₁, e₂)
+        (in-turn (different (map nodeOf (heldOf b))) (every (inState 0) (take (b .«first_connected_pos») (b .nodes)))
+        (every (inState 1) (drop (b .«first_connected_pos») (heldOf b))) (leb (length (incomingNodes (map nodeOf (heldOf b)))) (b .«max_incoming»))
+        (pendingSound (bucketOf b) (b .pending)) (every isZero (drop (b .count) (take maxNodes (b .nodes)))) (leb (b .«max_incoming») maxNodes && leb (b .filter) 1))

@@ -8,17 +8,21 @@ use mathlib.Core.Option.{Option, none, some}
 use lib.ListN.{length}
 use lib.Dec.{leb}
 use borrow.Author.Tests.{le-leb, lt-leb, leb-false}
-use Rattle.model.specs.Base.{same}
+use Rattle.model.specs.Base.{same, isSome}
 use Rattle.model.specs.Value.{Value, sameValue}
 use Rattle.model.specs.Node.{Node, PendingNode, AppliedPending, connectedIncoming, withStatus}
 use Rattle.model.specs.Result.{FailureReason, BucketInsertResult, UpdateResult, isInserted}
 use Rattle.model.specs.Bucket.{Bucket, BucketSettings, maxNodes, nodes, count, isFull, lookup, holds, failsBucketFilter, incomingNodes, isMaxIncoming, withPending, put, placed, omit, takeOut, insertFull, insert, applyFull, applyDue, applyIfDue, applyPending, reinsert, statusResult, isFirst, updateStatusOf, updateStatus, revalue, updateValueOf, updateValue, remove}
 use Rattle.model.specs.Fits.{Different}
-use Rattle.laws.proofs.Tests.{split, same-self}
+use Rattle.laws.proofs.Tests.{clash, split, same-self}
 use Rattle.laws.proofs.KeepLists.{incoming-omit}
 use Rattle.laws.proofs.KeepFormed.{nodes-takeOut}
 use Rattle.places.proofs.Model.{omit-absent}
 use Rattle.laws.proofs.All.{all-left, all-right}
+
+pub none-is : {A : Type 0} (p : Option A) → isSome p ≡ false → p ≡ none
+none-is none e = refl
+none-is (some x) e = clash refl e
 
 full : (b : Bucket) → maxNodes ≤ count b → isFull b ≡ true
 unfolding isFull
@@ -66,13 +70,14 @@ module _ (s : BucketSettings) (now : ℕ) (n : Node) (b : Bucket) where
   pub full-connected : n .connected ≡ true → b .disconnected ≡ [] → insertFull s now n b (n .connected) (b .disconnected) (b .pending) ≡ (BucketInsertResult.Full, b)
   full-connected e f = full-all (n .connected) (b .disconnected) (b .pending) e f
 
-  full-waits : (u : Bool) (ds : List Node) (p : Option PendingNode) (q : PendingNode) → u ≡ true → p ≡ some q → insertFull s now n b u ds p ≡ (BucketInsertResult.Full, b)
-  full-waits u [] p q e f = rw e
-  full-waits u (d ∷ ds) p q e f = rw (e, f)
+  full-waits : (u : Bool) (ds : List Node) (p : Option PendingNode) → isSome p ≡ true → insertFull s now n b u ds p ≡ (BucketInsertResult.Full, b)
+  full-waits false ds p e = refl
+  full-waits true [] p e = refl
+  full-waits true (d ∷ ds) none e = clash e refl
+  full-waits true (d ∷ ds) (some q) e = refl
 
-  pub full-pending : (q : PendingNode) → n .connected ≡ true → b .pending ≡ some q
-      → insertFull s now n b (n .connected) (b .disconnected) (b .pending) ≡ (BucketInsertResult.Full, b)
-  full-pending q e f = full-waits (n .connected) (b .disconnected) (b .pending) q e f
+  pub full-pending : isSome (b .pending) ≡ true → insertFull s now n b (n .connected) (b .disconnected) (b .pending) ≡ (BucketInsertResult.Full, b)
+  full-pending e = full-waits (n .connected) (b .disconnected) (b .pending) e
 
   full-sets : (u : Bool) (ds : List Node) (p : Option PendingNode) (d : Node) (rest : List Node) → u ≡ true → ds ≡ d ∷ rest → p ≡ none
       → insertFull s now n b u ds p

@@ -13,9 +13,8 @@ use lib.Dec.{eqb, leb, ltb}
 use mir.Val.{boolByte}
 use borrow.Author.Tests.{ltb-true}
 use Rattle.model.specs.Base.{same, isSome}
-use Rattle.model.specs.Value.{Address, hasAddress}
 use Rattle.model.specs.Node as model
-use Rattle.model.specs.Filter.{counted, ipFilterFails}
+use Rattle.model.specs.Filter.{ipFilterFails, bucketLimit}
 use Rattle.model.specs.Bucket.{Bucket, BucketSettings, maxNodes, nodes, count, lookup, holds, failsBucketFilter, incomingNodes, isMaxIncoming, withPending, cleared, only, placed, takeOut, omit, isFirst, revalue}
 use Rattle.model.specs.Fits.{Opt}
 use Rattle.laws.proofs.KeepLists.{lookup-nodes, length-revalue}
@@ -40,10 +39,18 @@ use Rattle.bucket.proofs.Sound.{nodes-of, count-of, first-of, places-of
 pub done : {A : Type 0} (s : BucketSettings) (x : A × Bucket) (a : A) (m : Bucket) (r : KBucket) → x ≡ (a, m) → Becomes s m r → (a ≡ x .0) × Becomes s (x .1) r
 done s x a m r e b = (ap (λ y. y .0) (sym e), subst (λ (y : Bucket). Becomes s y r) (ap (λ y. y .1) (sym e)) b)
 
+-- the same where the step's answer is known by a rule y that the model's rule comes down to
+pub by-rule : {A : Type 0} (s : BucketSettings) (x y : A × Bucket) (a : A) (r : KBucket) → x ≡ y → (a ≡ y .0) × Becomes s (y .1) r → (a ≡ x .0) × Becomes s (x .1) r
+by-rule s x y a r e h = subst (λ z. (a ≡ z .0) × Becomes s (z .1) r) (sym e) h
+
 -- the same of applying a pending, with the codes of its record
 pub done-apply : {C : Type 0} (s : BucketSettings) (x : Bucket × List model.AppliedPending) (m : Bucket) (rs : List model.AppliedPending) (r : KBucket) → x ≡ (m, rs) → Becomes s m r
     → C → (rs ≡ x .1) × (Becomes s (x .0) r × C)
 done-apply s x m rs r e b codes = (ap (λ y. y .1) (sym e), (subst (λ (y : Bucket). Becomes s y r) (ap (λ y. y .0) (sym e)) b, codes))
+
+pub by-apply : {C : Type 0} (s : BucketSettings) (x : Bucket × List model.AppliedPending) (m : Bucket) (rs rs' : List model.AppliedPending) (r : KBucket) → x ≡ (m, rs)
+    → (rs' ≡ rs) × (Becomes s m r × C) → (rs' ≡ x .1) × (Becomes s (x .0) r × C)
+by-apply {C} s x m rs rs' r e h = subst (λ (z : Bucket × List model.AppliedPending). (rs' ≡ z .1) × (Becomes s (z .0) r × C)) (sym e) h
 
 -- The place of a key.
 
@@ -61,25 +68,21 @@ holds-is b s k =
 
 -- The filter and the maximum.
 
-third : (a b c : Bool) → a ≡ true → b ≡ true → c ≡ (a && (b && c))
-third a b c e f = rw (e, f)
+not-not : (t : Bool) → not (not t) ≡ t
+not-not true = refl
+not-not false = refl
 
 module _ (b : KBucket) (v : Value) where
   pub filter-off : eqb (b .filter) 1 ≡ false → false ≡ failsBucketFilter (settingsOf b) (valueOf v) (bucketOf b)
   unfolding failsBucketFilter
   filter-off e = rw e
 
-  module _ (on : eqb (b .filter) 1 ≡ true) where
-    pub filter-plain : eqb (v .flag) 1 ≡ false → false ≡ failsBucketFilter (settingsOf b) (valueOf v) (bucketOf b)
-    unfolding failsBucketFilter ipFilterFails
-    filter-plain e = rw (on, e)
-
-    pub filter-counts : eqb (v .flag) 1 ≡ true → (k : ℕ) → k ≡ length (counted (valueOf v) (map nodeOf (heldOf b)))
-        → leb 2 k ≡ failsBucketFilter (settingsOf b) (valueOf v) (bucketOf b)
-    unfolding failsBucketFilter ipFilterFails
-    filter-counts e k q =
-        ap (leb 2) (q ∙ ap (λ (ns : List model.Node). length (counted (valueOf v) ns)) (sym (nodes-of b)))
-        ∙ third (eqb (b .filter) 1) (hasAddress (valueOf v)) (leb 2 (length (counted (valueOf v) (nodes (bucketOf b))))) on (ap (λ (t : Bool). isSome {A = Address} (cond t (some (record { a = v .a; b = v .b; c = v .c; d = v .d })) none)) e)
+  pub filter-on : eqb (b .filter) 1 ≡ true → (t : Bool) → t ≡ not (ipFilterFails bucketLimit (valueOf v) (map nodeOf (heldOf b)))
+      → not t ≡ failsBucketFilter (settingsOf b) (valueOf v) (bucketOf b)
+  unfolding failsBucketFilter
+  filter-on e t q =
+      ap not q ∙ not-not (ipFilterFails bucketLimit (valueOf v) (map nodeOf (heldOf b)))
+      ∙ ap (ipFilterFails bucketLimit (valueOf v)) (sym (nodes-of b)) ∙ rw e
 
 module _ (b : KBucket) (n : model.Node) where
   pub incoming-not : (n .connected && n .incoming) ≡ false → false ≡ isMaxIncoming (settingsOf b) n (bucketOf b)

@@ -88,6 +88,11 @@ abbrev pub applyAnswerOf : ApplyAnswer → Reply (List model.AppliedPending)
 applyAnswerOf (apply-answer.Refused q) = Reply.Refused q
 applyAnswerOf (apply-answer.Answered r) = Reply.Answered (recordsOf r)
 
+-- the codes of the node that was evicted, if one was, are in range
+abbrev pub applyCodes : ApplyAnswer → Bool
+applyCodes (apply-answer.Refused q) = true
+applyCodes (apply-answer.Answered r) = appliedCodes r
+
 abbrev pub updateAnswerOf : UpdateAnswer → Reply result.UpdateResult
 updateAnswerOf (update-answer.Refused q) = Reply.Refused q
 updateAnswerOf (update-answer.Answered r) = Reply.Answered (updateResultOf r)
@@ -113,6 +118,11 @@ answered b none r = (Reply.Answered (r .0), stored (settingsOf b) (r .1))
 -- question 2, all but the index, and 4
 abbrev pub questions : KBucket → Bool → List (ℕ × Bool) → List (ℕ × Bool)
 questions b codes rest = (2, sound b) ∷ (4, codes) ∷ rest
+
+-- the number of the question that failed, 0 for none
+abbrev pub refusal : Option ℕ → ℕ
+refusal none = 0
+refusal (some q) = q
 
 -- question 5
 abbrev pub timely : KBucket → ℕ → List (ℕ × Bool)

@@ -5,16 +5,19 @@ ghost use mathlib.Core.Bool.{true, false, cond};
 ghost use mathlib.Core.Option.{Option, none, some};
 ghost use Prim.Native.Nat.{ℕ, _+_, _≤_, _<_, _^_};
 ghost use lib.Dec.{leb, eqb};
-ghost use lib.ListN.{length, take};
+ghost use lib.ListN.{length, take, getD};
+ghost use mathlib.Core.List.{[], _∷_};
+ghost use Rattle.model.specs.Base.{isSome};
 ghost use Rattle.model.specs.Value.{Value};
 ghost use Rattle.model.specs.Node.{withStatus, withValue, sameStatus};
-ghost use Rattle.model.specs.Bucket.{BucketSettings, maxNodes, emptyBucket, holds, failsBucketFilter, isMaxIncoming, placed, takeOut, insert, applyPending, applyDue, updateStatus, updateStatusOf, updateIfPending, updateValue, updateValueOf, updatePending, remove, statusResult, lookup};
+ghost use Rattle.model.specs.Bucket.{BucketSettings, maxNodes, emptyBucket, holds, failsBucketFilter, isMaxIncoming, placed, takeOut, insertFull, insert, applyPending, applyDue, updateStatus, updateStatusOf, updateIfPending, updateValue, updateValueOf, updatePending, remove, statusResult, lookup};
 ghost use Rattle.model.specs.Call.{isOne, optional};
+ghost use Rattle.model.specs.Question.{firstFailed};
 ghost use Rattle.key.specs.Key.{num, Words};
-ghost use Rattle.node.specs.Node.{valueOf, nodeOf, valueCodes, nodeCodes};
+ghost use Rattle.node.specs.Node.{valueOf, nodeOf, valueCodes, nodeCodes, zeroNode};
 ghost use Rattle.bucket.specs.declared.Pending.the-variants.{Nothing, Waiting};
 ghost use Rattle.bucket.specs.Bucket.{pendingOf, keyAt, bucketOf, settingsOf, stored, sound, Sound, Becomes, repending, clearedPending, pendingFits, PendingWords};
-ghost use Rattle.bucket.specs.Calls.{insertResultOf, updateResultOf, recordsOf, appliedCodes, insertAnswerOf, applyAnswerOf, updateAnswerOf, pendingAnswerOf, removeAnswerOf, newAnswerOf, insertCall, applyPendingCall, updateStatusCall, updateValueCall, updatePendingCall, removeCall, newCall};
+ghost use Rattle.bucket.specs.Calls.{refusal, questions, timely, insertResultOf, updateResultOf, recordsOf, appliedCodes, insertAnswerOf, applyAnswerOf, applyCodes, updateAnswerOf, pendingAnswerOf, removeAnswerOf, newAnswerOf, insertCall, applyPendingCall, updateStatusCall, updateValueCall, updatePendingCall, removeCall, newCall};
 use key::Key;
 use node::Node;
 use node::NodeStatus;
@@ -191,7 +194,7 @@ impl KBucket {
         }
     }
 
-    // internal: an empty bucket of settings that are in range.
+    // Internal: an empty bucket of settings that are in range.
     pub fn empty(pending_timeout: u64, max_incoming: usize, filter: u8) -> KBucket
         requires { ⌜ filter ≤ 1 ⌝ }
         ensures { λ r. ⌜ r ≡ stored (record { pendingTimeout = «pending_timeout»; maxIncoming = «max_incoming»; filter = isOne filter }) emptyBucket ⌝ }
@@ -210,7 +213,7 @@ impl KBucket {
         }
     }
 
-    // internal: does the bucket hold the key?
+    // Internal: does the bucket hold the key?
     pub fn holds(self, key: Key) -> bool
         requires { ⌜ Sound self ⌝ }
         ensures { λ r. ⌜ r ≡ holds (num key) (bucketOf self) ⌝ }
@@ -220,7 +223,7 @@ impl KBucket {
         places::position(nodes, 0, count, key) < count
     }
 
-    // internal: does the bucket filter fail?
+    // Internal: does the bucket filter fail?
     pub fn fails_filter(self, value: Value) -> bool
         requires { ⌜ Sound self ⌝ }
         ensures { λ r. ⌜ r ≡ failsBucketFilter (settingsOf self) (valueOf value) (bucketOf self) ⌝ }
@@ -228,15 +231,17 @@ impl KBucket {
         if self.filter != 1 {
             return false;
         }
-        if value.flag != 1 {
-            return false;
-        }
         let nodes = self.nodes;
         let count = self.count;
-        2 <= places::counted(nodes, count, value)
+        !places::ip_filter(
+            nodes,
+            count,
+            value,
+            node::filter::MAX_NODES_PER_SUBNET_BUCKET,
+        )
     }
 
-    // internal: is the node connected and incoming, with max_incoming such nodes held?
+    // Internal: is the node connected and incoming, with max_incoming such nodes held?
     pub fn is_max_incoming(self, node: Node) -> bool
         requires { ⌜ Sound self ⌝ }
         ensures { λ r. ⌜ r ≡ isMaxIncoming (settingsOf self) (nodeOf node) (bucketOf self) ⌝ }
@@ -249,7 +254,7 @@ impl KBucket {
         self.max_incoming <= places::incoming(nodes, count)
     }
 
-    // internal: another pending, and all else as it is.
+    // Internal: another pending, and all else as it is.
     pub fn with_pending(self, pending: Pending) -> KBucket
         ensures { λ r. ⌜ r ≡ repending pending self ⌝ }
     {
@@ -265,7 +270,7 @@ impl KBucket {
         }
     }
 
-    // internal: places a node where there is room: connected at the end, disconnected just before the first connected. A pending of its key
+    // Internal: places a node where there is room: connected at the end, disconnected just before the first connected. A pending of its key
     // goes.
     pub fn placed(self, node: Node) -> KBucket
         requires { ⌜ Sound self ⌝ }
@@ -304,7 +309,7 @@ impl KBucket {
         }
     }
 
-    // internal: takes out the node at place pos and closes the gap.
+    // Internal: takes out the node at place pos and closes the gap.
     pub fn taken_out(self, pos: usize) -> KBucket
         requires { ⌜ Sound self ⌝ }
         requires { ⌜ pos < self .count ⌝ }
@@ -327,7 +332,7 @@ impl KBucket {
         }
     }
 
-    // internal: inserts a node into a sound bucket.
+    // Internal: inserts a node into a sound bucket.
     pub fn insert_sound(mut self, node: Node, now: u64) -> Inserted
         requires { ⌜ Sound self ⌝ }
         requires { ⌜ nodeCodes node ≡ true ⌝ }
@@ -354,12 +359,24 @@ impl KBucket {
             };
         }
         if self.count < 16 {
-            self = self.placed(node);
+            let put = self.placed(node);
             return Inserted {
-                bucket: self,
+                bucket: put,
                 result: InsertResult::Inserted,
             };
         }
+        self.insert_full(node, now)
+    }
+
+    // Internal: what an insert of a node that is not held does with 16 held: the node becomes the pending, or nothing changes.
+    pub fn insert_full(mut self, node: Node, now: u64) -> Inserted
+        requires { ⌜ Sound self ⌝ }
+        requires { ⌜ nodeCodes node ≡ true ⌝ }
+        requires { ⌜ now + self .«pending_timeout» < 2 ^ 64 ⌝ }
+        requires { ⌜ holds (num (node .key)) (bucketOf self) ≡ false ⌝ }
+        ensures { λ r. ⌜ insertResultOf (r .result) ≡ insertFull (settingsOf self) now (nodeOf node) (bucketOf self) (nodeOf node .connected) (bucketOf self .disconnected) (bucketOf self .pending) .0 ⌝ }
+        ensures { λ r. ⌜ Becomes (settingsOf self) (insertFull (settingsOf self) now (nodeOf node) (bucketOf self) (nodeOf node .connected) (bucketOf self .disconnected) (bucketOf self .pending) .1) (r .bucket) ⌝ }
+    {
         if !node.is_connected() {
             return Inserted {
                 bucket: self,
@@ -373,25 +390,23 @@ impl KBucket {
             };
         }
         let p = self.pending;
-        match p {
-            Pending::Waiting(_, _) => Inserted {
+        if waits(p) {
+            return Inserted {
                 bucket: self,
                 result: InsertResult::Full,
-            },
-            Pending::Nothing => {
-                let first = self.nodes[0];
-                let key = first.key;
-                let deadline = now + self.pending_timeout;
-                self = self.with_pending(Pending::Waiting(node, deadline));
-                Inserted {
-                    bucket: self,
-                    result: InsertResult::Pending(key),
-                }
-            }
+            };
+        }
+        let first = self.nodes[0];
+        let key = first.key;
+        let deadline = now + self.pending_timeout;
+        self = self.with_pending(Pending::Waiting(node, deadline));
+        Inserted {
+            bucket: self,
+            result: InsertResult::Pending(key),
         }
     }
 
-    // internal: applies a due node, which is the pending no more, to a sound bucket.
+    // Internal: applies a due node, which is the pending no more, to a sound bucket.
     pub fn apply_due(mut self, node: Node, now: u64) -> Applied
         requires { ⌜ Sound self ⌝ }
         requires { ⌜ nodeCodes node ≡ true ⌝ }
@@ -428,6 +443,21 @@ impl KBucket {
                 applied: AppliedPending::Nothing,
             };
         }
+        self.evict(node)
+    }
+
+    // Internal: a node that is not held in place of the node at place 0, which is disconnected.
+    pub fn evict(mut self, node: Node) -> Applied
+        requires { ⌜ Sound self ⌝ }
+        requires { ⌜ nodeCodes node ≡ true ⌝ }
+        requires { ⌜ maxNodes ≤ self .count ⌝ }
+        requires { ⌜ holds (num (node .key)) (bucketOf self) ≡ false ⌝ }
+        requires { ⌜ isMaxIncoming (settingsOf self) (nodeOf node) (bucketOf self) ≡ false ⌝ }
+        ensures { λ r. ⌜ recordsOf (r .applied) ≡ record { inserted = num (node .key); evicted = some (nodeOf (getD (self .nodes) 0 zeroNode)) } ∷ [] ⌝ }
+        ensures { λ r. ⌜ Becomes (settingsOf self) (placed (nodeOf node) (takeOut (keyAt self 0) (bucketOf self))) (r .bucket) ⌝ }
+        ensures { λ r. ⌜ appliedCodes (r .applied) ≡ true ⌝ }
+    {
+        let key = node.key;
         let evicted = self.nodes[0];
         self = self.taken_out(0);
         self = self.placed(node);
@@ -437,7 +467,7 @@ impl KBucket {
         }
     }
 
-    // internal: applies the pending of a sound bucket when its deadline has come.
+    // Internal: applies the pending of a sound bucket when its deadline has come.
     pub fn apply_pending_sound(mut self, now: u64) -> Applied
         requires { ⌜ Sound self ⌝ }
         requires { ⌜ now + self .«pending_timeout» < 2 ^ 64 ⌝ }
@@ -464,7 +494,7 @@ impl KBucket {
         }
     }
 
-    // internal: the status step on the node at place pos of a sound bucket.
+    // Internal: the status step on the node at place pos of a sound bucket.
     pub fn status_at(mut self, pos: usize, state: u8, direction: u8) -> Updated
         requires { ⌜ Sound self ⌝ }
         requires { ⌜ pos < self .count ⌝ }
@@ -496,7 +526,7 @@ impl KBucket {
         }
     }
 
-    // internal: the pending goes, if told so.
+    // Internal: the pending goes, if told so.
     pub fn without_pending(self, go: bool) -> KBucket
         ensures { λ r. ⌜ r ≡ repending (cond go Nothing (self .pending)) self ⌝ }
     {
@@ -507,7 +537,7 @@ impl KBucket {
         self.with_pending(p)
     }
 
-    // internal: the status step on a pending of this key.
+    // Internal: the status step on a pending of this key.
     pub fn status_pending(mut self, key: Key, state: u8, direction: u8) -> Updated
         requires { ⌜ Sound self ⌝ }
         requires { ⌜ state ≤ 1 ⌝ }
@@ -538,7 +568,7 @@ impl KBucket {
         }
     }
 
-    // internal: update_status on a sound bucket; direction 2 is none given.
+    // Internal: update_status on a sound bucket; direction 2 is none given.
     pub fn update_status_sound(mut self, key: Key, state: u8, direction: u8) -> Updated
         requires { ⌜ Sound self ⌝ }
         requires { ⌜ state ≤ 1 ⌝ }
@@ -555,7 +585,7 @@ impl KBucket {
         self.status_pending(key, state, direction)
     }
 
-    // internal: the value step on the node at place pos of a sound bucket.
+    // Internal: the value step on the node at place pos of a sound bucket.
     pub fn value_at(mut self, pos: usize, value: Value) -> Updated
         requires { ⌜ Sound self ⌝ }
         requires { ⌜ pos < self .count ⌝ }
@@ -585,7 +615,7 @@ impl KBucket {
         }
     }
 
-    // internal: the value step on a pending of this key.
+    // Internal: the value step on a pending of this key.
     pub fn value_pending(mut self, key: Key, value: Value) -> Updated
         requires { ⌜ Sound self ⌝ }
         requires { ⌜ valueCodes value ≡ true ⌝ }
@@ -615,7 +645,7 @@ impl KBucket {
         }
     }
 
-    // internal: update_value on a sound bucket.
+    // Internal: update_value on a sound bucket.
     pub fn update_value_sound(mut self, key: Key, value: Value) -> Updated
         requires { ⌜ Sound self ⌝ }
         requires { ⌜ valueCodes value ≡ true ⌝ }
@@ -631,7 +661,7 @@ impl KBucket {
         self.value_pending(key, value)
     }
 
-    // internal: update_pending on a sound bucket.
+    // Internal: update_pending on a sound bucket.
     pub fn update_pending_sound(mut self, state: u8, direction: u8) -> KBucket
         requires { ⌜ Sound self ⌝ }
         requires { ⌜ state ≤ 1 ⌝ }
@@ -649,7 +679,7 @@ impl KBucket {
         }
     }
 
-    // internal: remove on a sound bucket.
+    // Internal: remove on a sound bucket.
     pub fn remove_sound(mut self, key: Key, now: u64) -> Removed
         requires { ⌜ Sound self ⌝ }
         requires { ⌜ now + self .«pending_timeout» < 2 ^ 64 ⌝ }
@@ -688,48 +718,56 @@ impl KBucket {
         if count < first {
             return false;
         }
-        if !places::all_different(nodes, count) {
-            return false;
-        }
-        if !places::in_state(nodes, 0, first, 0) {
-            return false;
-        }
-        if !places::in_state(nodes, first, count, 1) {
-            return false;
-        }
-        if self.max_incoming < places::incoming(nodes, count) {
-            return false;
-        }
+        let different = places::all_different(nodes, count);
+        let placed = places::in_places(nodes, first, count);
+        let few = places::incoming(nodes, count) <= self.max_incoming;
         let p = self.pending;
-        if !pending_sound(nodes, count, p) {
-            return false;
+        let pending = pending_sound(nodes, count, p);
+        let codes = (self.max_incoming <= 16) & (self.filter <= 1);
+        different & (placed & (few & (pending & codes)))
+    }
+
+    // Internal: the first of questions 2 and 4 that fails, or 0. `codes` is question 4.
+    pub fn asked(self, codes: bool) -> u8
+        ensures { λ r. ⌜ r ≡ refusal (firstFailed (questions self codes [])) ⌝ }
+        ensures { λ r. ⌜ (r ≡ 0 → Sound self × (codes ≡ true) × (firstFailed (questions self codes []) ≡ none)) ⌝ }
+    {
+        if !self.is_sound() {
+            return 2;
         }
-        if !places::rest_zero(nodes, count) {
-            return false;
+        if !codes {
+            return 4;
         }
-        (self.max_incoming <= 16) & (self.filter <= 1)
+        0
+    }
+
+    // Internal: the same with question 5.
+    pub fn asked_at(self, codes: bool, now: u64) -> u8
+        ensures { λ r. ⌜ r ≡ refusal (firstFailed (questions self codes (timely self now))) ⌝ }
+        ensures { λ r. ⌜ (r ≡ 0 → Sound self × (codes ≡ true) × (now + self .«pending_timeout» < 2 ^ 64) × (firstFailed (questions self codes (timely self now)) ≡ none)) ⌝ }
+    {
+        if !self.is_sound() {
+            return 2;
+        }
+        if !codes {
+            return 4;
+        }
+        if 0xFFFF_FFFF_FFFF_FFFF - self.pending_timeout < now {
+            return 5;
+        }
+        0
     }
 
     // Inserts a node: the first match of 01, Insert.
     pub fn insert(mut self, node: Node, now: u64) -> InsertReply
         ensures { λ r. ⌜ insertCall self node now ≡ (insertAnswerOf (r .answer), r .bucket) ⌝ }
     {
-        if !self.is_sound() {
+        let codes = node.in_range();
+        let q = self.asked_at(codes, now);
+        if q != 0 {
             return InsertReply {
                 bucket: self,
-                answer: InsertAnswer::Refused(2),
-            };
-        }
-        if !node.in_range() {
-            return InsertReply {
-                bucket: self,
-                answer: InsertAnswer::Refused(4),
-            };
-        }
-        if 0xFFFF_FFFF_FFFF_FFFF - self.pending_timeout < now {
-            return InsertReply {
-                bucket: self,
-                answer: InsertAnswer::Refused(5),
+                answer: InsertAnswer::Refused(q),
             };
         }
         let r = self.insert_sound(node, now);
@@ -744,17 +782,13 @@ impl KBucket {
     // Applies the pending when its deadline has come.
     pub fn apply_pending(mut self, now: u64) -> ApplyReply
         ensures { λ r. ⌜ applyPendingCall self now ≡ (applyAnswerOf (r .answer), r .bucket) ⌝ }
+        ensures { λ r. ⌜ applyCodes (r .answer) ≡ true ⌝ }
     {
-        if !self.is_sound() {
+        let q = self.asked_at(true, now);
+        if q != 0 {
             return ApplyReply {
                 bucket: self,
-                answer: ApplyAnswer::Refused(2),
-            };
-        }
-        if 0xFFFF_FFFF_FFFF_FFFF - self.pending_timeout < now {
-            return ApplyReply {
-                bucket: self,
-                answer: ApplyAnswer::Refused(5),
+                answer: ApplyAnswer::Refused(q),
             };
         }
         let r = self.apply_pending_sound(now);
@@ -770,16 +804,11 @@ impl KBucket {
     pub fn update_status(mut self, key: Key, state: u8, direction: u8) -> UpdateReply
         ensures { λ r. ⌜ updateStatusCall self key state direction ≡ (updateAnswerOf (r .answer), r .bucket) ⌝ }
     {
-        if !self.is_sound() {
+        let q = self.asked((state <= 1) & (direction <= 2));
+        if q != 0 {
             return UpdateReply {
                 bucket: self,
-                answer: UpdateAnswer::Refused(2),
-            };
-        }
-        if !((state <= 1) & (direction <= 2)) {
-            return UpdateReply {
-                bucket: self,
-                answer: UpdateAnswer::Refused(4),
+                answer: UpdateAnswer::Refused(q),
             };
         }
         let r = self.update_status_sound(key, state, direction);
@@ -795,16 +824,12 @@ impl KBucket {
     pub fn update_value(mut self, key: Key, value: Value) -> UpdateReply
         ensures { λ r. ⌜ updateValueCall self key value ≡ (updateAnswerOf (r .answer), r .bucket) ⌝ }
     {
-        if !self.is_sound() {
+        let codes = value.in_range();
+        let q = self.asked(codes);
+        if q != 0 {
             return UpdateReply {
                 bucket: self,
-                answer: UpdateAnswer::Refused(2),
-            };
-        }
-        if !value.in_range() {
-            return UpdateReply {
-                bucket: self,
-                answer: UpdateAnswer::Refused(4),
+                answer: UpdateAnswer::Refused(q),
             };
         }
         let r = self.update_value_sound(key, value);
@@ -820,16 +845,11 @@ impl KBucket {
     pub fn update_pending(mut self, status: NodeStatus) -> PendingReply
         ensures { λ r. ⌜ updatePendingCall self status ≡ (pendingAnswerOf (r .answer), r .bucket) ⌝ }
     {
-        if !self.is_sound() {
+        let q = self.asked((status.state <= 1) & (status.direction <= 1));
+        if q != 0 {
             return PendingReply {
                 bucket: self,
-                answer: PendingAnswer::Refused(2),
-            };
-        }
-        if !((status.state <= 1) & (status.direction <= 1)) {
-            return PendingReply {
-                bucket: self,
-                answer: PendingAnswer::Refused(4),
+                answer: PendingAnswer::Refused(q),
             };
         }
         self = self.update_pending_sound(status.state, status.direction);
@@ -843,16 +863,11 @@ impl KBucket {
     pub fn remove(mut self, key: Key, now: u64) -> RemoveReply
         ensures { λ r. ⌜ removeCall self key now ≡ (removeAnswerOf (r .answer), r .bucket) ⌝ }
     {
-        if !self.is_sound() {
+        let q = self.asked_at(true, now);
+        if q != 0 {
             return RemoveReply {
                 bucket: self,
-                answer: RemoveAnswer::Refused(2),
-            };
-        }
-        if 0xFFFF_FFFF_FFFF_FFFF - self.pending_timeout < now {
-            return RemoveReply {
-                bucket: self,
-                answer: RemoveAnswer::Refused(5),
+                answer: RemoveAnswer::Refused(q),
             };
         }
         let r = self.remove_sound(key, now);
@@ -865,7 +880,17 @@ impl KBucket {
     }
 }
 
-// internal: the pending, unless it is of this key.
+// Internal: is there a pending?
+pub fn waits(p: Pending) -> bool
+    ensures { λ r. ⌜ r ≡ isSome (pendingOf p) ⌝ }
+{
+    match p {
+        Pending::Nothing => false,
+        Pending::Waiting(_, _) => true,
+    }
+}
+
+// Internal: the pending, unless it is of this key.
 pub fn cleared(key: Key, p: Pending) -> Pending
     ensures { λ r. ⌜ r ≡ clearedPending (num key) p ⌝ }
 {
@@ -880,7 +905,7 @@ pub fn cleared(key: Key, p: Pending) -> Pending
     }
 }
 
-// internal: is a pending not held, and are its codes in range? A yes also tells what Rattle knows of its key.
+// Internal: is a pending not held, and are its codes in range? A yes also tells what Rattle knows of its key.
 pub fn pending_sound(nodes: [Node; 16], count: usize, p: Pending) -> bool
     requires { ⌜ count ≤ maxNodes ⌝ }
     ensures { λ r. ⌜ r ≡ pendingFits (take count nodes) p ⌝ }
@@ -903,7 +928,7 @@ fn has_codes(node: Node) -> bool
     node.in_range()
 }
 
-// internal: what a status step that places the node again answers.
+// Internal: what a status step that places the node again answers.
 pub fn status_result(old: Node, node: Node) -> UpdateResult
     ensures { λ r. ⌜ updateResultOf r ≡ statusResult (nodeOf old) (nodeOf node) none ⌝ }
 {
@@ -918,7 +943,7 @@ pub fn status_result(old: Node, node: Node) -> UpdateResult
     UpdateResult::Updated
 }
 
-// internal: do both nodes have the same state and direction?
+// Internal: do both nodes have the same state and direction?
 pub fn same_status(x: Node, y: Node) -> bool
     ensures { λ r. ⌜ r ≡ sameStatus (nodeOf x) (nodeOf y) ⌝ }
 {

@@ -1,11 +1,11 @@
 -- What the answers of the entry calls mean.
-use lib.Dec.{eqb}
+use mathlib.Core.Bool.{Bool, true, _&&_}
+use lib.Dec.{eqb, leb}
 use Rattle.model.specs.Table as model
-use Rattle.bucket.specs.declared.UpdateAnswer.{UpdateAnswer}
+use Rattle.node.specs.declared.NodeStatus.{NodeStatus}
 use Rattle.bucket.specs.declared.InsertAnswer.{InsertAnswer}
-use Rattle.bucket.specs.declared.UpdateAnswer.the-variants as update-answer
 use Rattle.bucket.specs.declared.InsertAnswer.the-variants as insert-answer
-use Rattle.bucket.specs.Calls.{updateResultOf, insertResultOf}
+use Rattle.bucket.specs.Calls.{insertResultOf}
 use Rattle.entry.specs.declared.EntryKind.{EntryKind}
 use Rattle.entry.specs.declared.EntryAnswer.{EntryAnswer}
 
@@ -19,9 +19,19 @@ abbrev pub entryAnswer : EntryAnswer → model.Answer
 entryAnswer (EntryAnswer.Refused q) = model.Answer.Refused q
 entryAnswer (EntryAnswer.Answered k) = model.Answer.Entry (kindOf k)
 
-abbrev pub updateAnswer : UpdateAnswer → model.Answer
-updateAnswer (update-answer.Refused q) = model.Answer.Refused q
-updateAnswer (update-answer.Answered r) = model.Answer.Update (updateResultOf r)
+-- 01, question 4: state and direction 0 or 1
+abbrev pub statusCodes : NodeStatus → Bool
+statusCodes s = leb (s .state) 1 && leb (s .direction) 1
+
+abbrev pub kindCodes : EntryKind → Bool
+kindCodes (EntryKind.Present s) = statusCodes s
+kindCodes (EntryKind.Pending s) = statusCodes s
+kindCodes EntryKind.Absent = true
+kindCodes EntryKind.SelfEntry = true
+
+abbrev pub entryCodes : EntryAnswer → Bool
+entryCodes (EntryAnswer.Refused q) = true
+entryCodes (EntryAnswer.Answered k) = kindCodes k
 
 abbrev pub insertAnswer : InsertAnswer → model.Answer
 insertAnswer (insert-answer.Refused q) = model.Answer.Refused q

@@ -1,17 +1,26 @@
 // The entry of a key (entry.rs): its kind and status, and the actions on it, which name the key again and apply no pending.
 ghost use mathlib.Core.Path.{_≡_};
+ghost use mathlib.Core.Bool.{true, cond};
 ghost use Rattle.model.specs.Table.{kindOf};
 ghost use Rattle.model.specs.Call.{Call};
+ghost use Rattle.model.specs.Question.{isPresent, isPending, isAbsent};
 ghost use Rattle.model.specs.StepBytes.{stepBytes};
 ghost use Rattle.key.specs.Key.{num};
 ghost use Rattle.bucket.specs.Bucket.{bucketOf, Sound};
-ghost use Rattle.asked.specs.Answers.{Answers};
+ghost use Rattle.bucket.specs.Calls.{recordsOf, appliedCodes};
+ghost use Rattle.asked.specs.Answers.{Answers, updateAnswer, argumentOf, Ready, roomFor, rewritten};
 ghost use Rattle.entry.specs.Kind as kind;
+use bucket::AppliedPending;
+use bucket::InsertAnswer;
 use bucket::KBucket;
 use bucket::Pending;
+use bucket::UpdateAnswer;
+use bucket::UpdateResult;
 use key::BucketIndex;
 use key::Key;
+use node::Node;
 use node::NodeStatus;
+use node::Value;
 
 // The kind of a key's entry, with its status.
 pub enum EntryKind {
@@ -30,6 +39,7 @@ pub enum EntryAnswer {
 pub fn kind_of(b: KBucket, key: Key) -> EntryKind
     requires { ⌜ Sound b ⌝ }
     ensures { λ r. ⌜ kind.kindOf r ≡ kindOf (num key) (bucketOf b) ⌝ }
+    ensures { λ r. ⌜ kind.kindCodes r ≡ true ⌝ }
 {
     let nodes = b.nodes;
     let count = b.count;
@@ -52,9 +62,25 @@ pub fn kind_of(b: KBucket, key: Key) -> EntryKind
     }
 }
 
+// Internal: question 8; where it passes, the record goes into the queue and bucket i is stored.
+pub fn write_if_room(s: &mut [u8], i: usize, applied: AppliedPending, b: KBucket) -> bool
+    requires { ⌜ Ready (now s) i ⌝ }
+    requires { ⌜ appliedCodes applied ≡ true ⌝ }
+    requires { ⌜ Sound b ⌝ }
+    ensures { λ r. ⌜ r ≡ roomFor (now (s .entry)) (recordsOf applied) ⌝ }
+    ensures { λ r. ⌜ now (s .exit) ≡ cond r (rewritten (now (s .entry)) i (bucketOf b) (recordsOf applied)) (now (s .entry)) ⌝ }
+{
+    if !asked::has_room(s, applied) {
+        return false;
+    }
+    asked::write_back(s, i, applied, b);
+    true
+}
+
 // The kind and status of the key, after a due pending was applied.
 pub fn entry(s: &mut [u8], key: &[u8], time: u64) -> EntryAnswer
     ensures { λ r. ⌜ Answers (kind.entryAnswer r) (now (s .exit)) (stepBytes (Call.entry (now (key .entry)) time) (now (s .entry))) ⌝ }
+    ensures { λ r. ⌜ kind.entryCodes r ≡ true ⌝ }
 {
     let q = asked::asked_at(s, key, true, time);
     if q != 0 {
@@ -70,13 +96,147 @@ pub fn entry(s: &mut [u8], key: &[u8], time: u64) -> EntryAnswer
         BucketIndex::At(i) => {
             let a = asked::apply_at(s, i, time);
             let applied = a.applied;
-            if !asked::has_room(s, applied) {
-                return EntryAnswer::Refused(8);
-            }
             let b = a.bucket;
             let found = kind_of(b, k);
-            asked::write_back(s, i, applied, b);
+            if !write_if_room(s, i, applied, b) {
+                return EntryAnswer::Refused(8);
+            }
             EntryAnswer::Answered(found)
+        }
+    }
+}
+
+// Internal: the kind is Present.
+pub fn is_present(found: EntryKind) -> bool
+    ensures { λ r. ⌜ r ≡ isPresent (kind.kindOf found) ⌝ }
+{
+    match found {
+        EntryKind::Present(_) => true,
+        EntryKind::Pending(_) => false,
+        EntryKind::Absent => false,
+        EntryKind::SelfEntry => false,
+    }
+}
+
+// Internal: the kind is Pending.
+pub fn is_pending(found: EntryKind) -> bool
+    ensures { λ r. ⌜ r ≡ isPending (kind.kindOf found) ⌝ }
+{
+    match found {
+        EntryKind::Present(_) => false,
+        EntryKind::Pending(_) => true,
+        EntryKind::Absent => false,
+        EntryKind::SelfEntry => false,
+    }
+}
+
+// Internal: the kind is Absent.
+pub fn is_absent(found: EntryKind) -> bool
+    ensures { λ r. ⌜ r ≡ isAbsent (kind.kindOf found) ⌝ }
+{
+    match found {
+        EntryKind::Present(_) => false,
+        EntryKind::Pending(_) => false,
+        EntryKind::Absent => true,
+        EntryKind::SelfEntry => false,
+    }
+}
+
+// Present: sets the status of the node; direction 2 is none given.
+pub fn present_update(s: &mut [u8], key: &[u8], state: u8, direction: u8) -> UpdateAnswer
+    ensures { λ r. ⌜ Answers (updateAnswer r) (now (s .exit)) (stepBytes (Call.presentUpdate (now (key .entry)) state direction) (now (s .entry))) ⌝ }
+{
+    let codes = (state <= 1) & (direction <= 2);
+    let q = asked::asked(s, key, codes);
+    if q != 0 {
+        return UpdateAnswer::Refused(q);
+    }
+    let k = asked::key_of(key);
+    let index = asked::index_of(s, k);
+    match index {
+        BucketIndex::Nothing => UpdateAnswer::Refused(7),
+        BucketIndex::At(i) => {
+            let b = buckets::load_bucket(s, i);
+            let found = kind_of(b, k);
+            if !is_present(found) {
+                return UpdateAnswer::Refused(7);
+            }
+            let updated = b.update_status_sound(k, state, direction);
+            let left = updated.bucket;
+            let result = updated.result;
+            let nothing = AppliedPending::Nothing;
+            asked::write_back(s, i, nothing, left);
+            UpdateAnswer::Answered(result)
+        }
+    }
+}
+
+// Pending: sets the status of the pending.
+pub fn pending_update(s: &mut [u8], key: &[u8], state: u8, direction: u8) -> UpdateAnswer
+    ensures { λ r. ⌜ Answers (updateAnswer r) (now (s .exit)) (stepBytes (Call.pendingUpdate (now (key .entry)) state direction) (now (s .entry))) ⌝ }
+{
+    let codes = (state <= 1) & (direction <= 1);
+    let q = asked::asked(s, key, codes);
+    if q != 0 {
+        return UpdateAnswer::Refused(q);
+    }
+    let k = asked::key_of(key);
+    let index = asked::index_of(s, k);
+    match index {
+        BucketIndex::Nothing => UpdateAnswer::Refused(7),
+        BucketIndex::At(i) => {
+            let b = buckets::load_bucket(s, i);
+            let found = kind_of(b, k);
+            if !is_pending(found) {
+                return UpdateAnswer::Refused(7);
+            }
+            let changed = b.update_pending_sound(state, direction);
+            let result = UpdateResult::UpdatedPending;
+            let nothing = AppliedPending::Nothing;
+            asked::write_back(s, i, nothing, changed);
+            UpdateAnswer::Answered(result)
+        }
+    }
+}
+
+// Absent: inserts the node into its bucket; the table filter is skipped.
+pub fn absent_insert(
+    s: &mut [u8],
+    key: &[u8],
+    value: Value,
+    state: u8,
+    direction: u8,
+    time: u64,
+) -> InsertAnswer
+    ensures { λ r. ⌜ Answers (kind.insertAnswer r) (now (s .exit)) (stepBytes (Call.absentInsert (now (key .entry)) (argumentOf value) state direction time) (now (s .entry))) ⌝ }
+{
+    let codes = value.in_range() & ((state <= 1) & (direction <= 1));
+    let q = asked::asked_at(s, key, codes, time);
+    if q != 0 {
+        return InsertAnswer::Refused(q);
+    }
+    let k = asked::key_of(key);
+    let index = asked::index_of(s, k);
+    match index {
+        BucketIndex::Nothing => InsertAnswer::Refused(7),
+        BucketIndex::At(i) => {
+            let b = buckets::load_bucket(s, i);
+            let found = kind_of(b, k);
+            if !is_absent(found) {
+                return InsertAnswer::Refused(7);
+            }
+            let status = NodeStatus { state, direction };
+            let node = Node {
+                key: k,
+                value,
+                status,
+            };
+            let inserted = b.insert_sound(node, time);
+            let filled = inserted.bucket;
+            let result = inserted.result;
+            let nothing = AppliedPending::Nothing;
+            asked::write_back(s, i, nothing, filled);
+            InsertAnswer::Answered(result)
         }
     }
 }

@@ -145,7 +145,7 @@ unfoldable pub applyPending : BucketSettings → ℕ → Bucket → Bucket × Li
 applyPending s now b = applyIfDue s now b (b .pending)
 
 -- 01, update_status: it inserts the node again. The bucket has a free place then and does not hold the key, so only the two tests
--- stand before the placing (proofs/Unreachable: it is `insert`).
+-- stand before the placing (crates/laws, Unreachable: it is `insert`).
 unfoldable pub reinsert : BucketSettings → Node → Bucket → Option FailureReason × Bucket
 reinsert s n b =
     cond (failsBucketFilter s (n .value) b) (some FailureReason.BucketFilter, b)

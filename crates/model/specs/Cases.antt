@@ -81,6 +81,14 @@ abbrev applied : ℕ → ℕ → List Call
 applied k zero = []
 applied k (suc n) = connected k ∷ settle k ∷ applied (suc k) n
 
+-- buckets 5 and 6 full of disconnected nodes, 48 and 80 pending since time 100, and bucket 0's node
+abbrev twoPending : List Call
+twoPending = pendingAt100 ++ (from disconnected 64 16 ++ (Call.absentInsert (key 80) (plain 80) 1 0 100 ∷ disconnected 1 ∷ []))
+
+-- bucket filter on; bucket 5 full of disconnected nodes, two of one /24, and 48 pending since time 0 with a third value of it
+abbrev thirdPending : List Call
+thirdPending = twoOfANet ++ (from disconnected 34 14 ++ (connected 48 ∷ Call.updateNode (key 48) (addressed 3 0) 2 0 ∷ []))
+
 abbrev insertOrUpdate : ℕ → Call
 insertOrUpdate k = Call.insertOrUpdate (key k) (plain k) 0 0 0
 
@@ -243,6 +251,34 @@ cases =
     ∷ Row.answers (pendingAt100 ++ (disconnected 1 ∷ []))
     (Call.list Listing.iter 1 60100 (zeros nodeSize) ∷ Call.takeAppliedPending ∷ Call.list Listing.iter 2 60100 (zeros (2 * nodeSize)) ∷ Call.takeAppliedPending ∷ [])
     (Answer.Found 1 ∷ noRecord ∷ Answer.Found 2 ∷ evicting 48 32 ∷ [])
+    -- Insert, first match: FailedFilter before TooManyIncoming, TooManyIncoming before Full
+    ∷ Row.answers (start 0 0 1 ∷ Call.absentInsert (key 32) (addressed 1 0) 0 0 0 ∷ Call.absentInsert (key 33) (addressed 2 0) 0 0 0 ∷ [])
+    (Call.absentInsert (key 34) (addressed 3 0) 1 1 0 ∷ []) (Answer.Insert BucketInsertResult.FailedFilter ∷ [])
+    ∷ Row.answers (start 0 0 0 ∷ from disconnected 32 16) (Call.absentInsert (key 48) (plain 48) 1 1 0 ∷ [])
+    (Answer.Insert BucketInsertResult.TooManyIncoming ∷ [])
+    -- a due pending is dropped: 16 held and the bucket filter fails; a free place and the filter fails; 16 held and at the maximum
+    ∷ Row.answers thirdPending (Call.entry (key 48) 60000 ∷ Call.takeAppliedPending ∷ []) (absent ∷ noRecord ∷ [])
+    ∷ Row.answers thirdPending (Call.remove (key 34) 0 ∷ Call.entry (key 48) 60000 ∷ Call.takeAppliedPending ∷ []) (Answer.Remove true ∷ absent ∷ noRecord ∷ [])
+    ∷ Row.answers (start 0 0 0 ∷ (from disconnected 32 16 ++ (connected 48 ∷ Call.pendingUpdate (key 48) 1 1 ∷ [])))
+    (Call.entry (key 48) 60000 ∷ Call.takeAppliedPending ∷ []) (absent ∷ noRecord ∷ [])
+    -- another place given Connected, or place 0 given Disconnected, leaves the pending
+    ∷ Row.answers pendingAt100 (Call.updateNodeStatus (key 33) 1 2 100 ∷ Call.updateNodeStatus (key 32) 0 2 100 ∷ Call.entry (key 48) 100 ∷ [])
+    (Answer.Update UpdateResult.UpdatedAndPromoted ∷ Answer.Update UpdateResult.NotModified ∷ pending true ∷ [])
+    -- a direction that is given is set; update_node on a pending, with a state
+    ∷ Row.answers (start 16 0 0 ∷ connected 32 ∷ []) (Call.updateNodeStatus (key 32) 1 1 0 ∷ Call.entry (key 32) 0 ∷ [])
+    (Answer.Update UpdateResult.Updated ∷ Answer.Entry (EntryKind.Present true true) ∷ [])
+    ∷ Row.answers pendingAt100 (Call.pendingUpdate (key 48) 1 1 ∷ Call.entry (key 48) 100 ∷ [])
+    (Answer.Update UpdateResult.UpdatedPending ∷ Answer.Entry (EntryKind.Pending true true) ∷ [])
+    ∷ Row.answers pendingAt100 (Call.updateNode (key 48) (plain 7) 0 100 ∷ Call.entry (key 48) 100 ∷ [])
+    (Answer.Update UpdateResult.UpdatedPending ∷ pending false ∷ [])
+    -- the applying pass of nodes_by_distances stops after a record at which the buckets that yielded one hold n; bucket 0 yields none;
+    -- the oldest record is taken first
+    ∷ Row.answers twoPending
+    (Call.list (Listing.nodesByDistances (6 ∷ 7 ∷ [])) 16 60100 (zeros (16 * nodeSize)) ∷ Call.takeAppliedPending ∷ Call.takeAppliedPending ∷ [])
+    (Answer.Found 16 ∷ evicting 48 32 ∷ noRecord ∷ [])
+    ∷ Row.answers twoPending
+    (Call.list (Listing.nodesByDistances (1 ∷ 6 ∷ 7 ∷ [])) 17 60100 (zeros (17 * nodeSize)) ∷ Call.takeAppliedPending ∷ Call.takeAppliedPending ∷ [])
+    (Answer.Found 17 ∷ evicting 48 32 ∷ evicting 80 64 ∷ [])
     -- the local key
     ∷ Row.answers (start 16 0 0 ∷ [])
     (Call.updateNodeStatus (key 0) 1 2 0 ∷ Call.updateNode (key 0) (plain 0) 1 0 ∷ insertOrUpdate 0 ∷ Call.remove (key 0) 0 ∷ Call.entry (key 0) 0 ∷ [])

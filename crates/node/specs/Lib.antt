@@ -1,2 +1,3 @@
--- What the declared values and nodes stand for.
+-- What the declared values, statuses and nodes stand for.
+pub mod Status
 pub mod Node

@@ -2,7 +2,9 @@
 ghost use mathlib.Core.Path.{_≡_};
 ghost use Rattle.model.specs.Value.{sameValue};
 ghost use Rattle.model.specs.Node.{connectedIncoming};
+ghost use Rattle.model.specs.Call.{isOne};
 ghost use Rattle.node.specs.Node.{valueOf, nodeOf, valueCodes, nodeCodes, zeroNode, isZero, restated, revalued};
+ghost use Rattle.node.specs.Status.{stateCode, directionCode, stateOf, directionOf};
 use key::Key;
 
 pub mod filter;
@@ -15,6 +17,30 @@ pub struct Value {
     pub c: u8,
     pub d: u8,
     pub slot: u16,
+}
+
+// The connection state of a node.
+pub enum ConnectionState {
+    Connected,
+    Disconnected,
+}
+
+// How the node was connected to: it contacted us, or we contacted it.
+pub enum ConnectionDirection {
+    Incoming,
+    Outgoing,
+}
+
+// What a code says: the number of the question that failed, or the state.
+pub enum StateAnswer {
+    Refused(u8),
+    Answered(ConnectionState),
+}
+
+// The same of a direction.
+pub enum DirectionAnswer {
+    Refused(u8),
+    Answered(ConnectionDirection),
 }
 
 // The status of a node in a bucket, by the codes of question 4.
@@ -30,6 +56,68 @@ pub struct Node {
     pub key: Key,
     pub value: Value,
     pub status: NodeStatus,
+}
+
+impl ConnectionState {
+    // The state of a code. Refuses a code over 1 with 4.
+    pub fn from_code(code: u8) -> StateAnswer
+        ensures { λ r. ⌜ r ≡ stateOf code ⌝ }
+    {
+        if code == 1 {
+            return StateAnswer::Answered(ConnectionState::Connected);
+        }
+        if code == 0 {
+            return StateAnswer::Answered(ConnectionState::Disconnected);
+        }
+        StateAnswer::Refused(4)
+    }
+
+    pub fn code(self) -> u8
+        ensures { λ r. ⌜ r ≡ stateCode self ⌝ }
+    {
+        match self {
+            ConnectionState::Connected => 1,
+            ConnectionState::Disconnected => 0,
+        }
+    }
+}
+
+impl ConnectionDirection {
+    // The direction of a code. Refuses a code over 1 with 4.
+    pub fn from_code(code: u8) -> DirectionAnswer
+        ensures { λ r. ⌜ r ≡ directionOf code ⌝ }
+    {
+        if code == 1 {
+            return DirectionAnswer::Answered(ConnectionDirection::Incoming);
+        }
+        if code == 0 {
+            return DirectionAnswer::Answered(ConnectionDirection::Outgoing);
+        }
+        DirectionAnswer::Refused(4)
+    }
+
+    pub fn code(self) -> u8
+        ensures { λ r. ⌜ r ≡ directionCode self ⌝ }
+    {
+        match self {
+            ConnectionDirection::Incoming => 1,
+            ConnectionDirection::Outgoing => 0,
+        }
+    }
+}
+
+impl NodeStatus {
+    pub fn is_connected(self) -> bool
+        ensures { λ r. ⌜ r ≡ isOne (self .state) ⌝ }
+    {
+        self.state == 1
+    }
+
+    pub fn is_incoming(self) -> bool
+        ensures { λ r. ⌜ r ≡ isOne (self .direction) ⌝ }
+    {
+        self.direction == 1
+    }
 }
 
 impl Value {

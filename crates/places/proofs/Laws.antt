@@ -7,14 +7,19 @@ use native.Mathlib.Nat.{le-of-suc-le-suc, not-suc-le-zero}
 use native.Mathlib.Omega.{arith}
 use native.Mathlib.Numerals.{add-one}
 use lib.ListN.{length, getD}
+use lib.Dec.{eqb, leb, ltb}
+use borrow.Author.Tests.{le-ltb, lt-ltb, leb-true, leb-false}
 use mir.Val.{boolByte}
 use lib.Seq.{slice, slice-cons, length-slice}
 use Rattle.model.specs.Base.{every, select}
 use Rattle.model.specs.Base.{same}
 use Rattle.model.specs.Fits.{All}
 use Rattle.model.specs.Node as model
+use Rattle.model.specs.Filter.{counted, ipFilterFails}
+use Rattle.laws.proofs.Tests.{split}
+use Rattle.node.specs.declared.Value.{Value}
 use Rattle.node.specs.declared.Node.{Node}
-use Rattle.node.specs.Node.{nodeOf}
+use Rattle.node.specs.Node.{nodeOf, valueOf}
 use Rattle.places.specs.Places.{before, passing, position, different}
 
 module _ {A : Type 0} (p : A → Bool) (l : List A) (n i : ℕ) (d : A) (k : i < n) (h : n ≤ length l) where
@@ -112,3 +117,35 @@ module _ (l : List Node) (n i : ℕ) (d : Node) (k : i < n) (h : n ≤ length l)
         none-passes (λ (m : Node). same (nodeOf m .key) key) (slice (suc i) n l) (rw long z'),
         add-one,
       )
+
+-- Three tests in a row.
+
+pub fails-first : (a b c : Bool) → a ≡ false → false ≡ (a && (b && c))
+fails-first a b c e = rw e
+
+pub fails-second : (a b c : Bool) → b ≡ false → false ≡ (a && (b && c))
+fails-second true b c e = rw e
+fails-second false b c e = refl
+
+pub fails-third : (a b c : Bool) → c ≡ false → false ≡ (a && (b && c))
+fails-third true true c e = rw e
+fails-third true false c e = refl
+fails-third false b c e = refl
+
+pub passes-all : (a b c : Bool) → a ≡ true → b ≡ true → c ≡ true → true ≡ (a && (b && c))
+passes-all a b c e f g = rw (e, f, g)
+
+-- The IP filter.
+
+below : (a b : ℕ) → ltb a b ≡ not (leb b a)
+below a b =
+    split (leb b a) (λ e. rw e (le-ltb a b (leb-true b a e))) (λ e. rw e (lt-ltb a b (leb-false b a e)))
+
+module _ (v : Value) (limit : ℕ) (ns : List model.Node) where
+  pub passes-plain : eqb (v .flag) 1 ≡ false → true ≡ not (ipFilterFails limit (valueOf v) ns)
+  unfolding ipFilterFails
+  passes-plain e = rw e
+
+  pub passes-counted : eqb (v .flag) 1 ≡ true → (k : ℕ) → k ≡ length (counted (valueOf v) ns) → ltb k limit ≡ not (ipFilterFails limit (valueOf v) ns)
+  unfolding ipFilterFails
+  passes-counted e k q = below k limit ∙ ap (λ (n : ℕ). not (leb limit n)) q ∙ rw e

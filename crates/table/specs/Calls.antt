@@ -1,24 +1,18 @@
 -- What the table's answers mean.
 use mathlib.Core.List.{List, [], _∷_}
 use mathlib.Core.Option.{Option, none, some}
-use Rattle.model.specs.Node as model
 use Rattle.model.specs.Table.{Answer}
 use Rattle.bucket.specs.declared.RemoveAnswer.{RemoveAnswer}
-use Rattle.bucket.specs.declared.UpdateAnswer.{UpdateAnswer}
 use Rattle.bucket.specs.declared.RemoveAnswer.the-variants as remove-answer
-use Rattle.bucket.specs.declared.UpdateAnswer.the-variants as update-answer
 use Rattle.bucket.specs.declared.NewAnswer.{NewAnswer}
 use Rattle.bucket.specs.declared.NewAnswer.the-variants as new-answer
-use Rattle.bucket.specs.Calls.{updateResultOf, recordsOf}
+use mathlib.Core.Bool.{Bool, true}
+use Rattle.bucket.specs.Calls.{recordsOf, appliedCodes}
 use Rattle.table.specs.declared.TakeAnswer.{TakeAnswer}
 
 abbrev pub removeAnswer : RemoveAnswer → Answer
 removeAnswer (remove-answer.Refused q) = Answer.Refused q
 removeAnswer (remove-answer.Answered found) = Answer.Remove found
-
-abbrev pub updateAnswer : UpdateAnswer → Answer
-updateAnswer (update-answer.Refused q) = Answer.Refused q
-updateAnswer (update-answer.Answered r) = Answer.Update (updateResultOf r)
 
 -- the first of a list, if it has one
 abbrev pub first : {A : Type 0} → List A → Option A
@@ -28,6 +22,11 @@ first (x ∷ l) = some x
 abbrev pub takeAnswer : TakeAnswer → Answer
 takeAnswer (TakeAnswer.Refused q) = Answer.Refused q
 takeAnswer (TakeAnswer.Answered a) = Answer.TakeAppliedPending (first (recordsOf a))
+
+-- 01, question 4: the codes of the node that was evicted, if one was
+abbrev pub takeCodes : TakeAnswer → Bool
+takeCodes (TakeAnswer.Refused q) = true
+takeCodes (TakeAnswer.Answered a) = appliedCodes a
 
 abbrev pub newAnswer : NewAnswer → Answer
 newAnswer (new-answer.Refused q) = Answer.Refused q

@@ -1,9 +1,10 @@
 // The calls of the table on lent storage (kbucket.rs): each asks its questions, then does what the model's call does.
 ghost use mathlib.Core.Path.{_≡_};
+ghost use mathlib.Core.Bool.{true};
 ghost use Rattle.model.specs.Call.{Call};
 ghost use Rattle.model.specs.StepBytes.{stepBytes};
-ghost use Rattle.asked.specs.Answers.{Answers};
-ghost use Rattle.table.specs.Calls.{removeAnswer, updateAnswer, takeAnswer, newAnswer};
+ghost use Rattle.asked.specs.Answers.{Answers, updateAnswer};
+ghost use Rattle.table.specs.Calls.{removeAnswer, takeAnswer, takeCodes, newAnswer};
 use bucket::AppliedPending;
 use bucket::NewAnswer;
 use bucket::RemoveAnswer;
@@ -87,6 +88,7 @@ pub fn update_node_status(
 // Takes the oldest record of an applied pending out of the queue.
 pub fn take_applied_pending(s: &mut [u8]) -> TakeAnswer
     ensures { λ r. ⌜ Answers (takeAnswer r) (now (s .exit)) (stepBytes Call.takeAppliedPending (now (s .entry))) ⌝ }
+    ensures { λ r. ⌜ takeCodes r ≡ true ⌝ }
 {
     let q = asked::asked_storage(s);
     if q != 0 {

@@ -17,9 +17,6 @@ use key::Key;
 use node::Value;
 use storage::Layout;
 
-// How many held values that count against a value fail the table filter (filter.rs, MAX_NODES_PER_SUBNET_TABLE).
-pub const MAX_NODES_PER_SUBNET_TABLE: usize = 10;
-
 // The value of the node at `at` counts against the given one.
 fn counts_at(s: &[u8], at: usize, value: Value) -> bool
     requires { ⌜ at + nodeSize ≤ length (now s) ⌝ }
@@ -63,7 +60,7 @@ pub fn fails_table_filter(s: &[u8], value: Value) -> bool
     let mut i: usize = 0;
     while i < model::NUM_BUCKETS {
         n += counted(s, Layout::HEADER + i * Layout::BUCKET, value);
-        if MAX_NODES_PER_SUBNET_TABLE <= n {
+        if node::filter::MAX_NODES_PER_SUBNET_TABLE <= n {
             return true;
         }
         i += 1;

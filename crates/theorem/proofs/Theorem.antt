@@ -1,6 +1,6 @@
 -- THE THEOREM (demand 3): for every list of calls that follows an accepted `new`, refused calls, further `new` calls and clocks that go
 -- back included, every bucket, place by place, is what the log says, and the limits hold. The log reads calls, answers and records, and
--- no bucket. The statements are those of specs/Claim and specs/Closest.
+-- no bucket. The statements are those of crates/log, specs/Claim and specs/Closest.
 use Prim.Native.Nat.{ℕ}
 use mathlib.Core.Path.{_≡_, subst⁻¹}
 use mathlib.Core.Bool.{false}

@@ -1,17 +1,27 @@
-use mathlib.Core.Path.{_≡_, sym, ap, _∙_}
+use mathlib.Core.Path.{_≡_, refl, sym, ap, _∙_}
+use mathlib.Core.Bool.{true, _&&_}
+use lib.Dec.{leb}
+use Rattle.laws.proofs.Tests.{and-left, and-right}
+use Rattle.node.specs.declared.Node.{Node}
+use Rattle.node.proofs.Stored.{stored-codes}
 use Prim.Native.Nat.{ℕ}
 use native.Mathlib.Omega.{arith}
 use lib.ListN.{getD}
 use Rattle.model.specs.Bucket.{lookup}
 use Rattle.key.specs.Key.{num}
-use Rattle.node.specs.Node.{nodeOf, zeroNode}
+use Rattle.node.specs.Node.{nodeOf, nodeCodes, zeroNode}
 use Rattle.places.specs.Places.{position}
 use Rattle.bucket.specs.Bucket.{pendingOf, heldOf, bucketOf}
-use Rattle.bucket.proofs.Steps.{found-at, absent-at, lookup-at}
+use Rattle.bucket.proofs.Steps.{found-at, absent-at, lookup-at, stored-at}
+use Rattle.bucket.proofs.Answers.{pending-stored}
 use borrow.Author.Needs.{needs}
 use Rattle.entry.proofs.Kind.{kind-held, kind-none, kind-pending, kind-other}
 use Rattle.entry.proofs.kind_of.Statement.{statement}
 use Rattle.entry.proofs.kind_of.Tie as tie
+
+status-codes : (n : Node) → nodeCodes n ≡ true → (leb (n .status .state) 1 && leb (n .status .direction) 1) ≡ true
+status-codes n h =
+    rw (and-left (leb (n .status .state) 1) _ h) (and-left (leb (n .status .direction) 1) _ (and-right (leb (n .status .state) 1) _ h))
 
 position-requires : tie.Need-position-requires
 position-requires c κs = search needs
@@ -30,8 +40,10 @@ returns c =
     let b = o .args .b in
     let k = num (o .args .key) in
     let e : i .position .result ≡ position k (heldOf b) = omega (arith, i .position .ensures) in
-    let f = found-at b (o .pre) k (i .position .result) e (h .if1 .taken) in
-    kind-held k (bucketOf b) (nodeOf (getD (b .nodes) (i .position .result) zeroNode)) (ap (λ (j : ℕ). lookup j (bucketOf b)) (sym f) ∙ lookup-at b (o .pre) (i .position .result) (h .if1 .taken))
+    let f = found-at b (o .pre) k (i .position .result) e (h .if1 .taken) in (
+      kind-held k (bucketOf b) (nodeOf (getD (b .nodes) (i .position .result) zeroNode)) (ap (λ (j : ℕ). lookup j (bucketOf b)) (sym f) ∙ lookup-at b (o .pre) (i .position .result) (h .if1 .taken)),
+      status-codes (getD (b .nodes) (i .position .result) zeroNode) (stored-codes _ (stored-at b (o .pre) (i .position .result) (h .if1 .taken))),
+    )
 
 enum-told : tie.Need-enum-told
 enum-told c = search needs
@@ -53,7 +65,7 @@ returns-2 c =
     let k = num (o .args .key) in
     let e : i .position .result ≡ position k (heldOf b) = omega (arith, i .position .ensures) in
     let absent = absent-at b (o .pre) k (i .position .result) e (h .if1 .left) in
-    kind-pending k (bucketOf b) absent _ (ap pendingOf (p .p .given .1)) (sym (q .eq .ensures) ∙ c .before .if2 .taken)
+    (kind-pending k (bucketOf b) absent _ (ap pendingOf (p .p .given .1)) (sym (q .eq .ensures) ∙ c .before .if2 .taken), status-codes (p .p .given .0 .0) (stored-codes _ (pending-stored b (o .pre) _ _ (p .p .given .1))))
 
 returns-3 : tie.Need-returns-3
 returns-3 c =
@@ -64,7 +76,7 @@ returns-3 c =
     let k = num (o .args .key) in
     let e : i .position .result ≡ position k (heldOf b) = omega (arith, i .position .ensures) in
     let absent = absent-at b (o .pre) k (i .position .result) e (h .if1 .left) in
-    kind-none k (bucketOf b) absent (ap pendingOf (c .enum-told .given .1))
+    (kind-none k (bucketOf b) absent (ap pendingOf (c .enum-told .given .1)), refl)
 
 returns-4 : tie.Need-returns-4
 returns-4 c =
@@ -77,7 +89,7 @@ returns-4 c =
     let k = num (o .args .key) in
     let e : i .position .result ≡ position k (heldOf b) = omega (arith, i .position .ensures) in
     let absent = absent-at b (o .pre) k (i .position .result) e (h .if1 .left) in
-    kind-other k (bucketOf b) absent _ (ap pendingOf (p .p .given .1)) (sym (q .eq .ensures) ∙ c .if2 .left)
+    (kind-other k (bucketOf b) absent _ (ap pendingOf (p .p .given .1)) (sym (q .eq .ensures) ∙ c .if2 .left), refl)
 
 pub kind-of-spec : {M : Type 1} → statement M
 kind-of-spec =

@@ -1,3 +1,4 @@
+use mathlib.Core.Path.{refl}
 use borrow.Author.Needs.{needs}
 use Rattle.bucket.specs.Calls.{recordsOf}
 use Rattle.asked.proofs.Questions.{refusal-none, refusal-some, passed-two}
@@ -15,7 +16,7 @@ same-length c = search needs
 returns : tie.Need-returns
 returns c =
     let i = c .before in
-    take-refused (i .before .before .before .args .s .now) _ (refusal-some _ (i .asked-storage .ensures) (c .if1 .taken))
+    (take-refused (i .before .before .before .args .s .now) _ (refusal-some _ (i .asked-storage .ensures) (c .if1 .taken)), refl)
 
 take-record-requires : tie.Need-take-record-requires
 take-record-requires c κs =
@@ -36,7 +37,7 @@ returns-2 c =
     let k = i .before .before in
     let s = k .before .args .s .now in
     let x = r .take-record .ensures in
-    take-accepted s (λ b. k .slice-known .given b .fits) (refusal-none _ (i .asked-storage .ensures) (e .if1 .left)) (recordsOf (r .take-record .result)) (x .0) _ (x .1 .1)
+    (take-accepted s (λ b. k .slice-known .given b .fits) (refusal-none _ (i .asked-storage .ensures) (e .if1 .left)) (recordsOf (r .take-record .result)) (x .0) _ (x .1 .1), x .1 .0)
 
 pub take-applied-pending-spec : {M : Type 1} → statement M
 take-applied-pending-spec =

@@ -1,4 +1,4 @@
-use mathlib.Core.Path.{_≡_, refl, sym, ap, _∙_, subst}
+use mathlib.Core.Path.{_≡_, refl, sym, _∙_, subst}
 use mathlib.Core.Bool.{false}
 use mathlib.Core.Option.{none, some}
 use Prim.Native.Nat.{ℕ, _≤_, _<_}
@@ -7,13 +7,11 @@ use lib.ListN.{getD}
 use Rattle.model.specs.Bucket as rules
 use Rattle.key.specs.Key.{num}
 use Rattle.node.specs.Node.{nodeOf, zeroNode}
-use Rattle.node.proofs.Stored.{stored-codes}
-use Rattle.bucket.specs.Bucket.{bucketOf, settingsOf, keyAt}
+use Rattle.bucket.specs.Bucket.{bucketOf, settingsOf}
 use mathlib.Core.List.{[], _∷_}
-use Rattle.laws.proofs.KeepFormed.{count-takeOut-held, takeOut-holds}
 use Rattle.bucket.proofs.Sound.{becomes-itself, count-of, formed-of}
-use Rattle.bucket.proofs.Steps.{done-apply, told, then-becomes, holds-at, none-disconnected, some-disconnected, stored-at}
-use Rattle.bucket.proofs.Rules.{due-filter, due-many, due-placed, due-connected, due-evicts, takeOut-low}
+use Rattle.bucket.proofs.Steps.{done-apply, by-apply, none-disconnected, some-disconnected}
+use Rattle.bucket.proofs.Rules.{due-filter, due-many, due-placed, due-connected, due-evicts}
 use borrow.Author.Needs.{needs}
 use Rattle.bucket.proofs.KBucket.apply_due.Statement.{statement}
 use Rattle.bucket.proofs.KBucket.apply_due.Tie as tie
@@ -26,7 +24,7 @@ fails-filter-requires c κs = search needs
 returns : tie.Need-returns
 returns c =
     let o = c .before .before .before in
-    let b = o .args .t1 in
+    let b = o .args .self in
     let s = settingsOf b in
     let m = bucketOf b in
     let n = nodeOf (o .args .node) in
@@ -43,7 +41,7 @@ is-max-incoming-requires c κs = search needs
 returns-2 : tie.Need-returns-2
 returns-2 c =
     let o = c .before .before .before .before .before in
-    let b = o .args .t1 in
+    let b = o .args .self in
     let s = settingsOf b in
     let m = bucketOf b in
     let n = nodeOf (o .args .node) in
@@ -56,22 +54,22 @@ returns-2 c =
 -- src/lib.rt:372:20
 placed-requires : tie.Need-placed-requires
 placed-requires c κs =
-    let e2 = c .before in
+    let e2 = c .before .before in
     let o = e2 .before .before .before .before .before in
     (o .pre .0, (c .if3 .taken, (o .pre .1 .0, (o .pre .1 .1 .1 .1, sym (e2 .before .is-max-incoming .ensures) ∙ e2 .if2 .left))))
 
 -- src/lib.rt:373:13
 returns-3 : tie.Need-returns-3
 returns-3 c =
-    let o = c .before .before .before .before .before .before .before in
-    let b = o .args .t1 in
+    let o = c .before .before .before .before .before .before .before .before in
+    let b = o .args .self in
     let s = settingsOf b in
     let m = bucketOf b in
     let n = nodeOf (o .args .node) in
     let now = o .args .now in
     let absent : rules.holds (num (o .args .node .key)) m ≡ false = o .pre .1 .1 .1 .1 in
     let x = rules.applyDue s now n m in
-    let e2 = c .before .before in
+    let e2 = c .before .before .before in
     let e1 = e2 .before .before in
     done-apply s x (rules.placed n m) (record { inserted = n .key; evicted = none } ∷ []) (c .placed .result)
     (due-placed s now n m absent (sym (e1 .before .fails-filter .ensures) ∙ e1 .if1 .left) (sym (e2 .before .is-max-incoming .ensures) ∙ e2 .if2 .left)
@@ -81,80 +79,49 @@ returns-3 c =
 -- src/lib.rt:379:13
 returns-4 : tie.Need-returns-4
 returns-4 c =
-    let o = c .before .before .before .before .before .before .before in
-    let b = o .args .t1 in
+    let o = c .before .before .before .before .before .before .before .before .before in
+    let b = o .args .self in
     let s = settingsOf b in
     let m = bucketOf b in
     let n = nodeOf (o .args .node) in
     let now = o .args .now in
     let absent : rules.holds (num (o .args .node .key)) m ≡ false = o .pre .1 .1 .1 .1 in
     let x = rules.applyDue s now n m in
-    let e3 = c .before in
-    let e2 = e3 .before in
+    let e3 = c .before .before in
+    let e2 = e3 .before .before in
     let e1 = e2 .before .before in
     done-apply s x m [] b
     (due-connected s now n m absent (sym (e1 .before .fails-filter .ensures) ∙ e1 .if1 .left) (sym (e2 .before .is-max-incoming .ensures) ∙ e2 .if2 .left)
     (subst (λ (k : ℕ). rules.maxNodes ≤ k) (count-of b (o .pre .0)) (e3 .if3 .left)) (none-disconnected b (o .pre .0) (c .if4 .taken)))
     (becomes-itself b (o .pre .0)) refl
 
--- src/lib.rt:384:23
-element-copy-out-evicted : tie.Need-element-copy-out-evicted
-element-copy-out-evicted c = search needs
-
--- src/lib.rt:385:16
-taken-out-requires : tie.Need-taken-out-requires
-taken-out-requires c κs = search needs
-
--- src/lib.rt:386:16
-placed-requires-2 : tie.Need-placed-requires-2
-placed-requires-2 c κs =
-    let e4 = c .before .before in
-    let e3 = e4 .before in
-    let e2 = e3 .before in
+evict-requires : tie.Need-evict-requires
+evict-requires c κs =
+    let e3 = c .before .before in
+    let e2 = e3 .before .before in
     let o = e2 .before .before .before .before .before in
-    let b = o .args .t1 in
-    let k = keyAt b 0 in
-    let x = c .taken-out .ensures in
-    let n = nodeOf (o .args .node) in
-    let fewer = count-takeOut-held k (bucketOf b) (holds-at b (o .pre .0) 0 (omega (arith, e3 .if3 .left))) in
-    let most = formed-of b (o .pre .0) .at-most in
-    let many = count-of (c .taken-out .result) (x .sound) ∙ ap rules.count (x .bucket) in (
-      x .sound,
-      (
-        omega arith,
-        (
-          o .pre .1 .0,
-          (
-            told x (λ (s : rules.BucketSettings) (m : rules.Bucket). rules.holds (num (o .args .node .key)) m) ∙ takeOut-holds (num (o .args .node .key)) k (bucketOf b) (o .pre .1 .1 .1 .1),
-            told x (λ (s : rules.BucketSettings) (m : rules.Bucket). rules.isMaxIncoming s n m)
-                ∙ takeOut-low (settingsOf b) n k (bucketOf b) (sym (e2 .before .is-max-incoming .ensures) ∙ e2 .if2 .left),
-          ),
-        ),
-      ),
-    )
+    (o .pre .0, (o .pre .1 .0, (e3 .if3 .left, (o .pre .1 .1 .1 .1, sym (e2 .before .is-max-incoming .ensures) ∙ e2 .if2 .left))))
 
--- src/lib.rt:349:5
 returns-5 : tie.Need-returns-5
 returns-5 c =
-    let o = c .before .before .before .before .before .before .before .before .before .before in
-    let b = o .args .t1 in
+    let e4 = c .before in
+    let e3 = e4 .before .before in
+    let e2 = e3 .before .before in
+    let e1 = e2 .before .before in
+    let o = e1 .before .before .before in
+    let b = o .args .self in
     let s = settingsOf b in
     let m = bucketOf b in
     let n = nodeOf (o .args .node) in
     let now = o .args .now in
     let absent : rules.holds (num (o .args .node .key)) m ≡ false = o .pre .1 .1 .1 .1 in
     let x = rules.applyDue s now n m in
-    let e4 = c .before .before .before in
-    let e3 = e4 .before in
-    let e2 = e3 .before in
-    let e1 = e2 .before .before in
     let d = nodeOf (getD (b .nodes) 0 zeroNode) in
     let rest = some-disconnected b (o .pre .0) (omega (arith, e4 .if4 .left)) in
-    done-apply s x (rules.placed n (rules.takeOut (d .key) m)) (record { inserted = n .key; evicted = some d } ∷ []) (c .placed2 .result)
+    by-apply s x (rules.placed n (rules.takeOut (d .key) m)) (record { inserted = n .key; evicted = some d } ∷ []) _ _
     (due-evicts s now n m absent (sym (e1 .before .fails-filter .ensures) ∙ e1 .if1 .left) (sym (e2 .before .is-max-incoming .ensures) ∙ e2 .if2 .left)
     (subst (λ (k : ℕ). rules.maxNodes ≤ k) (count-of b (o .pre .0)) (e3 .if3 .left)) d (rest .0) (rest .1) (o .pre .1 .1 .1 .0) (formed-of b (o .pre .0) .different))
-    (then-becomes (c .before .taken-out .ensures) (λ (s' : rules.BucketSettings) (m' : rules.Bucket). rules.placed n m') (c .placed2 .ensures))
-    (stored-codes (getD (b .nodes) 0 zeroNode) (stored-at b (o .pre .0) 0 (omega (arith, e3 .if3 .left))))
+    (c .evict .ensures)
 
 pub apply-due-spec : {M : Type 1} → statement M
 apply-due-spec =
@@ -167,7 +134,5 @@ apply-due-spec =
     placed-requires
     returns-3
     returns-4
-    element-copy-out-evicted
-    taken-out-requires
-    placed-requires-2
+    evict-requires
     returns-5)

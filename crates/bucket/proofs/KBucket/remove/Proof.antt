@@ -1,75 +1,50 @@
-use mathlib.Core.Path.{refl, sym, _∙_}
-use mathlib.Core.Bool.{true}
-use Prim.Native.Nat.{_<_, _^_}
-use native.Mathlib.Omega.{arith}
-use borrow.Author.Tests.{not-true, not-false}
-use Rattle.model.specs.Bucket as rules
-use Rattle.key.specs.Key.{num}
-use Rattle.bucket.specs.Bucket.{bucketOf, settingsOf}
-use Rattle.bucket.specs.Calls.{timely, removeCall}
-use Rattle.bucket.proofs.Entry.{asked-sound, asked-rest, asked-late, asked-timely, accepted}
 use borrow.Author.Needs.{needs}
+use mathlib.Core.Bool.{true}
+use Rattle.key.specs.Key.{num}
+use Rattle.model.specs.Bucket as rules
+use Rattle.model.specs.Question.{firstFailed}
+use Rattle.bucket.specs.Bucket.{bucketOf, settingsOf}
+use Rattle.bucket.specs.Calls.{refusal, questions, timely, removeCall}
+use Rattle.bucket.proofs.Entry.{refused, accepted}
 use Rattle.bucket.proofs.KBucket.remove.Statement.{statement}
 use Rattle.bucket.proofs.KBucket.remove.Tie as tie
 
--- the timeout is a word
-short : (c : tie.After-struct-known) → c .before .before .before .args .self .«pending_timeout» < 2 ^ 64
-short c = omega arith
+-- src/lib.rt:865:13
+asked-at-requires : tie.Need-asked-at-requires
+asked-at-requires c κs = search needs
 
--- src/lib.rt:844:13
-is-sound-requires : tie.Need-is-sound-requires
-is-sound-requires c κs = search needs
-
--- src/lib.rt:845:13
+-- src/lib.rt:867:13
 returns : tie.Need-returns
 unfolding removeCall
 returns c =
-    let i = c .before in
-    let o = i .before in
+    let q = c .before in
+    let o = q .before in
     let b = o .args .self in
     let s = settingsOf b in
     let m = bucketOf b in
     let x = rules.remove s (o .args .now) (num (o .args .key)) m in
-    asked-sound b true (timely b (o .args .now)) x (sym (i .is-sound .ensures .0) ∙ not-true _ (c .if1 .taken))
+    refused b (firstFailed (questions b true (timely b (o .args .now)))) _ x (q .asked-at .ensures .0) (c .if1 .taken)
 
--- src/lib.rt:850:12
-sub-if2 : tie.Need-sub-if2
-sub-if2 c = search needs
+-- src/lib.rt:872:13
+remove-sound-requires : tie.Need-remove-sound-requires
+remove-sound-requires c κs =
+    let q = c .before in
+    let o = q .before in
+    let k = q .asked-at .ensures .1 (c .if1 .left) in
+    (k .0, k .2)
 
--- src/lib.rt:851:13
+-- src/lib.rt:862:5
 returns-2 : tie.Need-returns-2
 unfolding removeCall
 returns-2 c =
-    let i = c .before .before .before in
-    let o = i .before in
+    let q = c .before .before .before in
+    let o = q .before in
     let b = o .args .self in
     let s = settingsOf b in
     let m = bucketOf b in
     let x = rules.remove s (o .args .now) (num (o .args .key)) m in
-    asked-rest b true (timely b (o .args .now)) x (sym (i .is-sound .ensures .0) ∙ not-false _ (c .before .before .if1 .left)) refl ∙ asked-late b (o .args .now) x (short (c .before)) (c .if2 .taken)
-
--- src/lib.rt:856:13
-remove-sound-requires : tie.Need-remove-sound-requires
-remove-sound-requires c κs =
-    let i = c .before .before .before in
-    (i .is-sound .ensures .1 (not-false _ (c .before .before .if1 .left)), omega arith)
-
--- src/lib.rt:841:5
-returns-3 : tie.Need-returns-3
-unfolding removeCall
-returns-3 c =
-    let r = c .before in
-    let e = r .before in
-    let i = c .before .before .before .before .before in
-    let o = i .before in
-    let b = o .args .self in
-    let s = settingsOf b in
-    let m = bucketOf b in
-    let x = rules.remove s (o .args .now) (num (o .args .key)) m in
-    asked-rest b true (timely b (o .args .now)) x (sym (i .is-sound .ensures .0) ∙ not-false _ (e .before .before .if1 .left)) refl ∙ asked-timely b (o .args .now) x (e .if2 .left) (short (e .before))
-    ∙ accepted b x _ (r .remove-sound .result .bucket) (r .remove-sound .ensures .0) (r .remove-sound .ensures .1)
+    let k = q .asked-at .ensures .1 (c .before .before .if1 .left) in
+    accepted b (firstFailed (questions b true (timely b (o .args .now)))) x _ (c .before .remove-sound .result .bucket) (k .3) (c .before .remove-sound .ensures .0) (c .before .remove-sound .ensures .1)
 
 pub remove-spec : {M : Type 1} → statement M
-remove-spec =
-    tie.close
-    (tie.spec is-sound-requires returns sub-if2 returns-2 remove-sound-requires returns-3)
+remove-spec = tie.close (tie.spec asked-at-requires returns remove-sound-requires returns-2)

@@ -34,8 +34,8 @@ returns c =
     let f = n .before in
     let e = f .fill .ensures ∙ ap (filled 16 32 0) (f .before .empty .ensures) in
     let p = insert-leaves 100 e (n .node-from .ensures) (i .insert .ensures) in (
-      answer-of (a .apply-pending .ensures) ∙ ap (λ (b : KBucket). applyPendingCall b 60099 .0) p ∙ not-due,
-      answer-of (c .apply-pending2 .ensures) ∙ ap (λ (b : KBucket). applyPendingCall b 60100 .0) p ∙ due,
+      answer-of (a .apply-pending .ensures .0) ∙ ap (λ (b : KBucket). applyPendingCall b 60099 .0) p ∙ not-due,
+      answer-of (c .apply-pending2 .ensures .0) ∙ ap (λ (b : KBucket). applyPendingCall b 60100 .0) p ∙ due,
     )
 
 pub row6-spec : {M : Type 1} → statement M

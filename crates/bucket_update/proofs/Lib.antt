@@ -1,0 +1,2 @@
+-- Laws of what update_node and insert_or_update do to a bucket.
+pub mod Rules

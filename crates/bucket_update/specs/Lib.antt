@@ -1,0 +1,2 @@
+-- What the contracts of `bucket_update` cite beside the model.
+pub mod Results

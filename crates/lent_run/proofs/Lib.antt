@@ -1,0 +1,2 @@
+-- What the program's calls give.
+pub mod Computed

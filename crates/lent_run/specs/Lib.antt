@@ -1,0 +1,2 @@
+-- The buckets and nodes of the program.
+pub mod Lends

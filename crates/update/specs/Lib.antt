@@ -1,0 +1,2 @@
+-- What the contracts of `update` cite beside the model.
+pub mod Calls

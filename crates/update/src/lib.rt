@@ -1,0 +1,99 @@
+// The two calls of the table that give a value (kbucket.rs). The table filter is tested on the storage as the call found it, and a due
+// pending is applied after that.
+ghost use mathlib.Core.Path.{_≡_};
+ghost use Rattle.model.specs.Call.{Call};
+ghost use Rattle.model.specs.StepBytes.{stepBytes};
+ghost use Rattle.asked.specs.Answers.{Answers, updateAnswer, argumentOf};
+ghost use Rattle.update.specs.Calls.{insertOrUpdateAnswer};
+use bucket::FailureReason;
+use bucket::UpdateAnswer;
+use bucket::UpdateResult;
+use bucket_update::InsertResult;
+use key::BucketIndex;
+use node::Node;
+use node::NodeStatus;
+use node::Value;
+
+pub enum InsertOrUpdateAnswer {
+    Refused(u8),
+    Answered(InsertResult),
+}
+
+// Updates the value of the node of the key, and its state; state 2 is none given.
+pub fn update_node(s: &mut [u8], key: &[u8], value: Value, state: u8, time: u64) -> UpdateAnswer
+    ensures { λ r. ⌜ Answers (updateAnswer r) (now (s .exit)) (stepBytes (Call.updateNode (now (key .entry)) (argumentOf value) state time) (now (s .entry))) ⌝ }
+{
+    let codes = value.in_range() & (state <= 2);
+    let q = asked::asked_at(s, key, codes, time);
+    if q != 0 {
+        return UpdateAnswer::Refused(q);
+    }
+    let k = asked::key_of(key);
+    let index = asked::index_of(s, k);
+    match index {
+        BucketIndex::Nothing => {
+            let same = UpdateResult::NotModified;
+            UpdateAnswer::Answered(same)
+        }
+        BucketIndex::At(i) => {
+            let fails = table_filter::table_filter_fails(s, i, k, value);
+            let a = asked::apply_at(s, i, time);
+            let applied = a.applied;
+            if !asked::has_room(s, applied) {
+                return UpdateAnswer::Refused(8);
+            }
+            let b = a.bucket;
+            let updated = bucket_update::update_node_in(b, fails, k, value, state, time);
+            let left = updated.bucket;
+            let result = updated.result;
+            asked::write_back(s, i, applied, left);
+            UpdateAnswer::Answered(result)
+        }
+    }
+}
+
+// Updates the node of the key, or inserts it where the key is not held.
+pub fn insert_or_update(
+    s: &mut [u8],
+    key: &[u8],
+    value: Value,
+    state: u8,
+    direction: u8,
+    time: u64,
+) -> InsertOrUpdateAnswer
+    ensures { λ r. ⌜ Answers (insertOrUpdateAnswer r) (now (s .exit)) (stepBytes (Call.insertOrUpdate (now (key .entry)) (argumentOf value) state direction time) (now (s .entry))) ⌝ }
+{
+    let codes = value.in_range() & ((state <= 1) & (direction <= 1));
+    let q = asked::asked_at(s, key, codes, time);
+    if q != 0 {
+        return InsertOrUpdateAnswer::Refused(q);
+    }
+    let k = asked::key_of(key);
+    let index = asked::index_of(s, k);
+    match index {
+        BucketIndex::Nothing => {
+            let own = InsertResult::Failed(FailureReason::InvalidSelfUpdate);
+            InsertOrUpdateAnswer::Answered(own)
+        }
+        BucketIndex::At(i) => {
+            let fails = table_filter::table_filter_fails(s, i, k, value);
+            let a = asked::apply_at(s, i, time);
+            let applied = a.applied;
+            if !asked::has_room(s, applied) {
+                return InsertOrUpdateAnswer::Refused(8);
+            }
+            let b = a.bucket;
+            let status = NodeStatus { state, direction };
+            let node = Node {
+                key: k,
+                value,
+                status,
+            };
+            let placed = bucket_update::insert_or_update_in(b, fails, node, time);
+            let filled = placed.bucket;
+            let result = placed.result;
+            asked::write_back(s, i, applied, filled);
+            InsertOrUpdateAnswer::Answered(result)
+        }
+    }
+}
