@@ -1,0 +1,2 @@
+-- Laws of nodes_by_distances.
+pub mod Answers

@@ -1,0 +1,2 @@
+-- What the contracts of `by_distances` cite beside the model.
+pub mod Early

@@ -1,0 +1,91 @@
+// nodes_by_distances (kbucket.rs): the nodes of the buckets at the distances given.
+ghost use mathlib.Core.Path.{_≡_};
+ghost use Rattle.model.specs.Call.{Call, Listing};
+ghost use Rattle.model.specs.Listing.{atLeastOne};
+ghost use Rattle.model.specs.StepBytes.{stepBytes};
+ghost use Rattle.asked.specs.Answers.{refusal};
+ghost use Rattle.found.specs.Lists.{listAnswer, Lists};
+ghost use Rattle.by_distances.specs.Early.{failedEarly};
+use found::ListAnswer;
+use found::Shape;
+use key::Key;
+use storage::Layout;
+
+// n, or 1 where it is 0.
+fn at_least_one(n: usize) -> usize
+    ensures { λ r. ⌜ r ≡ atLeastOne n ⌝ }
+{
+    if n == 0 {
+        return 1;
+    }
+    n
+}
+
+// The shape of whole nodes.
+fn node_shape() -> Shape
+    ensures { λ r. ⌜ r .form ≡ 0 ⌝ }
+{
+    let target = Key {
+        w0: 0,
+        w1: 0,
+        w2: 0,
+        w3: 0,
+    };
+    Shape {
+        form: 0,
+        target,
+        predicate: 0,
+        a: 0,
+        b: 0,
+        c: 0,
+        slot: 0,
+    }
+}
+
+// The first failed question of 1, 2, 5 and 6, or 0. room: the bytes of output.
+fn asked_early(s: &[u8], time: u64, n: usize, room: usize) -> u8
+    ensures { λ r. ⌜ failedEarly time n room (now (s .entry)) ≡ refusal r ⌝ }
+{
+    let q = asked::asked_storage(s);
+    if q != 0 {
+        return q;
+    }
+    if 0xFFFF_FFFF_FFFF_FFFF - queue::pending_timeout(s) < time {
+        return 5;
+    }
+    if found::MAX_COUNT < n {
+        return 6;
+    }
+    if room < at_least_one(n) * Layout::NODE {
+        return 6;
+    }
+    0
+}
+
+// The nodes of the buckets at the distances, in the order given, up to n, or one where n is 0: each bucket in stored order, written to
+// `out` as the bytes of a node. Distances outside 1 to 256 are dropped. Due pendings are applied first, up to the bucket whose record
+// makes n. Refused by questions 1, 2, 5, 6 and 8.
+pub fn nodes_by_distances(
+    s: &mut [u8],
+    distances: &[u64],
+    time: u64,
+    n: usize,
+    out: &mut [u8],
+) -> ListAnswer
+    ensures { λ r. ⌜ Lists (listAnswer r) (now (s .exit)) (now (out .exit)) (stepBytes (Call.list (Listing.nodesByDistances (now (distances .entry))) n time (now (out .entry))) (now (s .entry))) ⌝ }
+{
+    let room = out.len();
+    let q = asked_early(s, time, n, room);
+    if q != 0 {
+        return ListAnswer::Refused(q);
+    }
+    let records = distances::count_records(s, distances, time, n);
+    if Layout::MAX_RECORDS - queue::record_count(s) < records {
+        return ListAnswer::Refused(8);
+    }
+    distances::apply_pass(s, distances, time, n);
+    let shape = node_shape();
+    let most = at_least_one(n);
+    let count = distances::put_all(s, distances, shape, out, most);
+    ListAnswer::Found(count)
+}

@@ -1,0 +1,4 @@
+-- Laws of nodes_by_distances.
+pub mod Named
+pub mod Passes
+pub mod Written

@@ -1,0 +1,2 @@
+-- What the contracts of `distances` cite beside the model.
+pub mod Passes

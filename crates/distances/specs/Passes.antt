@@ -1,0 +1,67 @@
+-- The passes of nodes_by_distances (01, "kbucket.rs (871)"), distance by distance.
+use Prim.Native.Nat.{ℕ, _-_, _≤_}
+use mathlib.Core.Path.{_≡_}
+use mathlib.Core.Bool.{Bool, cond, not, _&&_}
+use mathlib.Core.List.{List, []}
+use mathlib.Core.Option.{Option, none, some}
+use lib.ListN.{length, getD, take}
+use lib.Dec.{eqb, leb}
+use Rattle.model.specs.Base.{joined, allBelow}
+use Rattle.model.specs.Node.{Node, AppliedPending}
+use Rattle.model.specs.Bucket.{maxNodes, count, applyPending}
+use Rattle.model.specs.Table.{Table, numBuckets}
+use Rattle.model.specs.Sizes.{storageSize}
+use Rattle.model.specs.Formed.{formed}
+use Rattle.model.specs.Listing.{applyAll, applied, appliedPass, bucketsAt}
+use Rattle.visit.specs.declared.Given.{Given}
+use Rattle.visit.specs.Passes.{visitOne}
+use Rattle.found.specs.declared.Shape.{Shape}
+use Rattle.found.specs.Shape.{shownBy}
+
+-- 01, nodes_by_distances: distances outside 1 to 256 are dropped
+unfoldable pub indexAt : ℕ → Option ℕ
+indexAt d = cond (leb 1 d && leb d numBuckets) (some (d - 1)) none
+
+-- the distance d stands among the first p
+unfoldable pub standsBefore : List ℕ → ℕ → ℕ → Bool
+standsBefore ds p d = not (allBelow p (λ j. not (eqb (getD ds j 0) d)))
+
+-- the records that the bucket gives, and what it holds if it gives any
+abbrev pub recordsAt : ℕ → Table → Option ℕ → List AppliedPending
+recordsAt now t none = []
+recordsAt now t (some i) = applyPending (t .settings .bucket) now (t .buckets i) .1
+
+abbrev pub yields : ℕ → Table → Option ℕ → Bool
+yields now t o = not (eqb (length (recordsAt now t o)) 0)
+
+abbrev pub heldAt : ℕ → Table → Option ℕ → ℕ
+heldAt now t none = 0
+heldAt now t (some i) = cond (yields now t (some i)) (count (applied now t i)) 0
+
+pub record Yields (now : ℕ) (t : Table) (o : Option ℕ) (g : Given) : Type 0 where
+  pub records : g .records ≡ length (recordsAt now t o)
+  pub held : g .count ≡ heldAt now t o
+  pub one : g .records ≤ 1
+  pub few : g .count ≤ maxNodes
+
+-- the table once the bucket has been visited
+abbrev pub nextTable : ℕ → Table → Option ℕ → Table
+nextTable now t none = t
+nextTable now t (some i) = visitOne now i t
+
+-- the table once the first p distances have been visited
+unfoldable pub tableAt : ℕ → List ℕ → ℕ → Table → Table
+tableAt now ds p t = applyAll now (bucketsAt (take p ds)) t .0
+
+-- the applying pass: the table that it leaves, and its records. seen: what the buckets that yielded a record hold so far.
+unfoldable pub distancePass : ℕ → ℕ → ℕ → List ℕ → Table → Table × List AppliedPending
+distancePass now n seen ds t = applyAll now (appliedPass now n seen (bucketsAt ds) t) t
+
+-- storage that holds a table
+pub record Holds (s : List ℕ) : Type 0 where
+  pub size : length s ≡ storageSize
+  pub formed : formed s ≡ Bool.true
+
+-- the first n nodes of the buckets named
+unfoldable pub listed : Shape → Table → ℕ → List ℕ → List Node
+listed x t n ds = take n (joined (λ i. shownBy x (t .buckets i)) (bucketsAt ds))

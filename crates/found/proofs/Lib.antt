@@ -1,0 +1,5 @@
+-- Laws of `found`.
+pub mod Items
+pub mod Run
+pub mod Shown
+pub mod Listings

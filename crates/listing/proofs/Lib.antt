@@ -1,0 +1,4 @@
+-- Laws of the listings.
+pub mod Putting
+pub mod Shapes
+pub mod Steps

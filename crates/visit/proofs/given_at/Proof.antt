@@ -1,0 +1,56 @@
+use mathlib.Core.Path.{_≡_, sym, ap, _∙_}
+use mathlib.Core.Bool.{false}
+use mathlib.Core.List.{List, []}
+use native.Mathlib.Omega.{arith}
+use lib.ListN.{length}
+use Rattle.model.specs.Node.{AppliedPending}
+use Rattle.model.specs.Bucket.{Bucket, count, applyPending}
+use Rattle.model.specs.Layout.{tableOf}
+use Rattle.asked.proofs.Due.{not-due}
+use Rattle.bucket.proofs.Sound.{count-of}
+use borrow.Author.Tests.{not-true}
+use borrow.Author.Needs.{needs}
+use Rattle.visit.proofs.given_at.Statement.{statement}
+use Rattle.visit.proofs.given_at.Tie as tie
+
+is-due-requires : tie.Need-is-due-requires
+is-due-requires c κs = search needs
+
+held-at-requires : tie.Need-held-at-requires
+held-at-requires c κs = search needs
+
+returns : tie.Need-returns
+returns c =
+    let w = c .before in
+    let a = w .before .before .before .args in
+    let t = tableOf (a .s .now) in
+    let no : w .before .is-due .result ≡ false = not-true _ (w .if1 .taken) in
+    let e : applyPending (t .settings .bucket) (a .time) (t .buckets (a .i)) ≡ (t .buckets (a .i), []) = not-due (t .settings .bucket) (a .time) (t .buckets (a .i)) (sym (w .before .is-due .ensures) ∙ no) in
+    record {
+      count = c .held-at .ensures ∙ ap (λ (r : Bucket × List AppliedPending). count (r .0)) (sym e);
+      records = ap (λ (r : Bucket × List AppliedPending). length (r .1)) (sym e);
+      one = omega arith;
+    }
+
+apply-at-requires : tie.Need-apply-at-requires
+apply-at-requires c κs = search needs
+
+count-of-requires : tie.Need-count-of-requires
+count-of-requires c κs = search needs
+
+returns-2 : tie.Need-returns-2
+returns-2 c =
+    let x = c .before .before .apply-at .ensures in
+    let b = c .before .before .apply-at .result .bucket in
+    record { count = count-of b (x .bucket .sound) ∙ ap count (x .bucket .bucket); records = c .count-of .ensures .0 ∙ ap length (x .records); one = c .count-of .ensures .1 }
+
+pub given-at-spec : {M : Type 1} → statement M
+given-at-spec =
+    tie.close
+    (tie.spec
+    is-due-requires
+    held-at-requires
+    returns
+    apply-at-requires
+    count-of-requires
+    returns-2)

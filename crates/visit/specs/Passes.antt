@@ -1,0 +1,58 @@
+-- The visit of the buckets: the pendings that are due, the records that the buckets give, and the table that is left.
+use Prim.Native.Nat.{ℕ, _+_, _-_, _≤_, _<_}
+use mathlib.Core.Path.{_≡_}
+use mathlib.Core.Bool.{Bool, false, cond, _&&_, _||_}
+use mathlib.Core.List.{List, [], _∷_}
+use mathlib.Core.Option.{Option, none, some}
+use lib.ListN.{length}
+use lib.Dec.{eqb, leb}
+use Rattle.model.specs.Node.{PendingNode, AppliedPending}
+use Rattle.model.specs.Bucket.{Bucket, count, applyPending}
+use Rattle.model.specs.Table.{Table, numBuckets, write}
+use Rattle.model.specs.Listing.{applied, applyAll, visited}
+use Rattle.model.specs.Fits.{All}
+use Rattle.visit.specs.declared.Counted.{Counted}
+use Rattle.visit.specs.declared.Given.{Given}
+
+-- the nodes that bucket i holds once its due pending is applied, and the records that it gives then
+abbrev pub held : ℕ → Table → ℕ → ℕ
+held now t i = count (applied now t i)
+
+abbrev pub records : ℕ → Table → ℕ → ℕ
+records now t i = length (applyPending (t .settings .bucket) now (t .buckets i) .1)
+
+pub record GivenAt (now : ℕ) (t : Table) (i : ℕ) (g : Given) : Type 0 where
+  pub count : g .count ≡ held now t i
+  pub records : g .records ≡ records now t i
+  pub one : g .records ≤ 1
+
+-- the records that the buckets give, each by itself; bucket 0 gives none the second time
+unfoldable pub given : (ℕ → ℕ) → Bool → List ℕ → ℕ
+given f seen [] = 0
+given f seen (i ∷ is) = cond (seen && eqb i 0) 0 (f i) + given f (seen || eqb i 0) is
+
+-- one bucket further
+pub record CountedAt (now : ℕ) (t : Table) (i : ℕ) (before after : Counted) : Type 0 where
+  pub left : after .left ≡ before .left - held now t i
+  pub zero : after .zero ≡ (before .zero || eqb i 0)
+  pub records : after .records ≡ before .records + cond (before .zero && eqb i 0) 0 (records now t i)
+  pub one : after .records ≤ before .records + 1
+
+-- the table once bucket i has been visited
+abbrev pub visitOne : ℕ → ℕ → Table → Table
+visitOne now i t = let a = applyPending (t .settings .bucket) now (t .buckets i) in write t i (a .0) (a .1)
+
+-- the table and the records once the buckets that yield n nodes have been visited
+unfoldable pub visitAll : ℕ → ℕ → List ℕ → Table → Table × List AppliedPending
+visitAll now n is t = applyAll now (visited (held now t) n is) t
+
+-- no bucket but bucket 0 stands twice
+abbrev pub Once : List ℕ → Type 0
+Once [] = Unit {0}
+Once (i ∷ is) = All (λ (j : ℕ). j ≡ i → i ≡ 0) is × Once is
+
+-- buckets of the table, in an order in which they may be visited
+pub record Course (is : List ℕ) : Type 0 where
+  pub below : All (λ (i : ℕ). i < numBuckets) is
+  pub once : Once is
+  pub short : length is ≤ numBuckets + numBuckets

@@ -1,0 +1,194 @@
+// Internal: the visit of the buckets in a listing's order. A dry run counts the records that it would give, for question 8; the applying
+// pass applies the due pendings in the storage.
+ghost use mathlib.Core.Path.{_≡_};
+ghost use mathlib.Core.Bool.{true};
+ghost use Prim.Native.Nat.{_+_, _-_, _≤_, _<_};
+ghost use lib.ListN.{length};
+ghost use Rattle.model.specs.Base.{tabulate};
+ghost use Rattle.model.specs.Bucket.{count};
+ghost use Rattle.model.specs.Table.{numBuckets, maxRecords};
+ghost use Rattle.model.specs.Sizes.{storageSize};
+ghost use Rattle.model.specs.Layout.{tableOf, bytesOf};
+ghost use Rattle.model.specs.Formed.{formed};
+ghost use Rattle.key.specs.Visits.{remaining};
+ghost use Rattle.asked.specs.Answers.{Ready, Timely};
+ghost use Rattle.visit.specs.Passes.{GivenAt, CountedAt, visitOne, visitAll, Course};
+use key::BucketIndex;
+use key::ClosestBucketsIter;
+use key::ClosestBucketsIterState;
+use key::Key;
+use storage::Layout;
+
+// What a bucket holds once its due pending is applied, and how many records it gives.
+pub struct Given {
+    pub count: usize,
+    pub records: usize,
+}
+
+// What the dry run has counted: the items that are left to find, whether bucket 0 was visited, and the records.
+pub struct Counted {
+    pub left: usize,
+    pub zero: bool,
+    pub records: usize,
+}
+
+// Internal: all buckets in turn. Distance 0 has no set bit, so that bucket 0 comes first, then the clear bits upward.
+pub fn in_turn() -> ClosestBucketsIter
+    ensures { λ r. ⌜ remaining r ≡ tabulate numBuckets (λ i. i) ⌝ }
+{
+    let distance = Key {
+        w0: 0,
+        w1: 0,
+        w2: 0,
+        w3: 0,
+    };
+    ClosestBucketsIter {
+        distance,
+        state: ClosestBucketsIterState::ZoomIn(0),
+    }
+}
+
+fn size(x: u8) -> usize
+    ensures { λ r. ⌜ r ≡ x ⌝ }
+{
+    x as usize
+}
+
+// How many nodes bucket i holds.
+fn held_at(s: &[u8], i: usize) -> usize
+    requires { ⌜ (length (now s) ≡ storageSize) × (i < numBuckets) ⌝ }
+    ensures { λ r. ⌜ r ≡ count (tableOf (now (s .entry)) .buckets i) ⌝ }
+{
+    size(s[Layout::HEADER + i * Layout::BUCKET])
+}
+
+// Internal: what bucket i gives, without writing it.
+pub fn given_at(s: &[u8], i: usize, time: u64) -> Given
+    requires { ⌜ Ready (now s) i ⌝ }
+    requires { ⌜ Timely (now s) time ⌝ }
+    ensures { λ r. ⌜ GivenAt time (tableOf (now (s .entry))) i r ⌝ }
+{
+    if !asked::is_due(s, i, time) {
+        return Given {
+            count: held_at(s, i),
+            records: 0,
+        };
+    }
+    let a = asked::apply_at(s, i, time);
+    let b = a.bucket;
+    let applied = a.applied;
+    Given {
+        count: b.count,
+        records: asked::count_of(applied),
+    }
+}
+
+// a - b, or 0 where b is more.
+fn less(a: usize, b: usize) -> usize
+    ensures { λ r. ⌜ r ≡ a - b ⌝ }
+{
+    if a < b {
+        return 0;
+    }
+    a - b
+}
+
+// The dry run, one bucket further.
+fn count_at(s: &[u8], i: usize, time: u64, c: Counted) -> Counted
+    requires { ⌜ Ready (now s) i ⌝ }
+    requires { ⌜ Timely (now s) time ⌝ }
+    requires { ⌜ c .records < numBuckets + numBuckets ⌝ }
+    ensures { λ r. ⌜ CountedAt time (tableOf (now (s .entry))) i c r ⌝ }
+{
+    let g = given_at(s, i, time);
+    let left = less(c.left, g.count);
+    if i != 0 {
+        return Counted {
+            left,
+            zero: c.zero,
+            records: c.records + g.records,
+        };
+    }
+    if c.zero {
+        return Counted {
+            left,
+            zero: true,
+            records: c.records,
+        };
+    }
+    Counted {
+        left,
+        zero: true,
+        records: c.records + g.records,
+    }
+}
+
+// Internal: how many records the visit of the buckets that yield n items would give. Nothing is written.
+pub fn count_records(s: &[u8], visit: ClosestBucketsIter, time: u64, n: usize) -> usize
+    requires { ⌜ (length (now s) ≡ storageSize) × (formed (now s) ≡ true) ⌝ }
+    requires { ⌜ Timely (now s) time ⌝ }
+    requires { ⌜ Course (remaining visit) ⌝ }
+    ensures { λ r. ⌜ r ≡ length (visitAll time n (remaining visit) (tableOf (now (s .entry))) .1) ⌝ }
+{
+    let mut it = visit;
+    let mut c = Counted {
+        left: n,
+        zero: false,
+        records: 0,
+    };
+    while 0 < c.left {
+        let next = it.next();
+        it = next.iter;
+        let index = next.index;
+        match index {
+            BucketIndex::Nothing => {
+                return c.records;
+            }
+            BucketIndex::At(i) => {
+                c = count_at(s, i, time, c);
+            }
+        }
+    }
+    c.records
+}
+
+// Internal: applies the pending of bucket i in the storage, if it is due.
+pub fn apply_in(s: &mut [u8], i: usize, time: u64)
+    requires { ⌜ Ready (now s) i ⌝ }
+    requires { ⌜ Timely (now s) time ⌝ }
+    requires { ⌜ length (visitOne time i (tableOf (now s)) .queue) ≤ maxRecords ⌝ }
+    ensures { λ _. ⌜ now (s .exit) ≡ bytesOf (visitOne time i (tableOf (now (s .entry)))) ⌝ }
+{
+    if asked::is_due(s, i, time) {
+        let a = asked::apply_at(s, i, time);
+        let applied = a.applied;
+        let b = a.bucket;
+        asked::write_back(s, i, applied, b);
+    }
+}
+
+// Internal: visits the buckets that yield n items and applies their due pendings in the storage.
+pub fn apply_all(s: &mut [u8], visit: ClosestBucketsIter, time: u64, n: usize)
+    requires { ⌜ (length (now s) ≡ storageSize) × (formed (now s) ≡ true) ⌝ }
+    requires { ⌜ Timely (now s) time ⌝ }
+    requires { ⌜ Course (remaining visit) ⌝ }
+    requires { ⌜ length (visitAll time n (remaining visit) (tableOf (now s)) .0 .queue) ≤ maxRecords ⌝ }
+    ensures { λ _. ⌜ now (s .exit) ≡ bytesOf (visitAll time n (remaining visit) (tableOf (now (s .entry))) .0) ⌝ }
+{
+    let mut it = visit;
+    let mut left = n;
+    while 0 < left {
+        let next = it.next();
+        it = next.iter;
+        let index = next.index;
+        match index {
+            BucketIndex::Nothing => {
+                return;
+            }
+            BucketIndex::At(i) => {
+                apply_in(s, i, time);
+                left = less(left, held_at(s, i));
+            }
+        }
+    }
+}
