@@ -1,11 +1,26 @@
 //! Makes the reference: the k-bucket files of sigp/discv5, read from the folder `DISCV5_SRC` and written to `OUT_DIR` with the
-//! substitutions below and nothing else. Where the files are not there, the package builds without the reference.
+//! substitutions below and nothing else. Where the files are not there, the package builds without the reference. Links the proved
+//! library into `speed`; where it is not there, or lacks a function that `speed` calls, `speed` builds without it.
 
 use std::path::{Path, PathBuf};
 use std::{env, fs};
 
 /// The folder of kbucket.rs, relative to this package, where `DISCV5_SRC` does not say another.
 const DEFAULT_SOURCE: &str = "../../shared/docs/src/src";
+
+/// The folder of the proved library, relative to this package, where `KBUCKETS_LIB` does not say another.
+const DEFAULT_LIBRARY: &str = "../target/staticlib";
+const LIBRARY: &str = "libkbuckets.a";
+/// The functions that `speed` calls.
+const EXPORTS: [&str; 7] = [
+    "kbuckets_new",
+    "kbuckets_update_node_status",
+    "kbuckets_insert_or_update",
+    "kbuckets_remove",
+    "kbuckets_iter",
+    "kbuckets_closest_keys",
+    "kbuckets_take_applied_pending",
+];
 
 /// One file of the source: where it is read and written, the texts replaced, and a child module that is appended.
 struct File {
@@ -63,6 +78,7 @@ const FILES: [File; 5] = [
 ];
 
 fn main() {
+    proved_library();
     println!("cargo::rustc-check-cfg=cfg(reference_source)");
     println!("cargo::rerun-if-env-changed=DISCV5_SRC");
     println!("cargo::rerun-if-changed=build.rs");
@@ -92,6 +108,33 @@ fn main() {
     let module = folder.join("mod.rs");
     fs::write(out.join("reference.rs"), format!("#[path = {module:?}]\npub mod kbucket;\n")).unwrap();
     println!("cargo::rustc-cfg=reference_source");
+}
+
+/// Links the proved library into `speed`.
+fn proved_library() {
+    println!("cargo::rustc-check-cfg=cfg(proved_library)");
+    println!("cargo::rerun-if-env-changed=KBUCKETS_LIB");
+    let folder = match env::var_os("KBUCKETS_LIB") {
+        Some(folder) => PathBuf::from(folder),
+        None => PathBuf::from(env::var_os("CARGO_MANIFEST_DIR").unwrap()).join(DEFAULT_LIBRARY),
+    };
+    let library = folder.join(LIBRARY);
+    println!("cargo::rerun-if-changed={}", library.display());
+    let Ok(archive) = fs::read(&library) else {
+        println!(
+            "cargo::warning=no {LIBRARY} in {}: speed is built without it; run 'rt staticlib kbuckets', or set KBUCKETS_LIB to its folder",
+            folder.display()
+        );
+        return;
+    };
+    // A name in the archive's index ends with a zero byte.
+    let has = |name: &&str| archive.windows(name.len() + 1).any(|w| w.strip_suffix(&[0]) == Some(name.as_bytes()));
+    if let Some(name) = EXPORTS.iter().find(|name| !has(name)) {
+        println!("cargo::warning={} has no {name}: speed is built without it", library.display());
+        return;
+    }
+    println!("cargo::rustc-link-arg-bin=speed={}", library.display());
+    println!("cargo::rustc-cfg=proved_library");
 }
 
 /// The text of a file with its substitutions made.

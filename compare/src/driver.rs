@@ -8,12 +8,11 @@ use crate::kbucket::{
     KBucketsTable, Key, Node, NodeStatus, UpdateResult,
 };
 use crate::layout::{self, AloneBytes, Settings, TableBytes};
+use crate::program::{Implementation, Refusal};
 use crate::stand_ins::Value;
 use crate::stand_ins::clock::{self, Instant};
 use crate::stand_ins::enr::NodeId;
-use crate::text::{
-    BucketCall, Line, Listing, NodeCodes, Predicate, Raw, RecordCodes, TableCall, ValueCodes, Which, Write,
-};
+use crate::text::{BucketCall, Listing, NodeCodes, Predicate, RecordCodes, TableCall, ValueCodes, Write};
 use std::time::Duration;
 
 pub type Table = KBucketsTable<NodeId, Value>;
@@ -37,14 +36,13 @@ struct HeldBucket {
 }
 
 /// As the Rust has it, or as bytes that a raw line wrote.
+#[derive(Clone)]
 enum Stored<Held, Bytes> {
     Held(Held),
     Bytes(Bytes),
 }
 
-/// A refusal: the number of the question.
-type Refusal = u8;
-
+#[derive(Clone)]
 pub struct Driver {
     table: Stored<HeldTable, TableBytes>,
     bucket: Stored<HeldBucket, AloneBytes>,
@@ -60,37 +58,24 @@ impl Driver {
         }
     }
 
-    /// Runs a line and writes its answer; with `dump`, also the dump that follows a call.
-    pub fn run(&mut self, line: &Line, dump: bool, out: &mut Vec<u8>) -> Result<(), String> {
-        match line {
-            Line::Table { short, call } => {
-                if let Err(question) = self.table_call(*short, call, out) {
-                    refused(question, out);
-                }
-                out.text("\n");
-                if dump {
-                    self.dump(out);
-                }
-            }
-            Line::Bucket { short, call } => {
-                if let Err(question) = self.bucket_call(*short, call, out) {
-                    refused(question, out);
-                }
-                out.text("\n");
-                if dump {
-                    self.bucket_dump(out);
-                }
-            }
-            Line::Raw(raw) => {
-                self.raw(raw)?;
-                out.text("Raw\n");
-            }
-            Line::Dump => self.dump(out),
-            Line::BucketDump => self.bucket_dump(out),
+    /// The bytes of the table.
+    pub fn storage(&self) -> Vec<u8> {
+        match &self.table {
+            Stored::Held(held) => held.bytes().0,
+            Stored::Bytes(bytes) => bytes.0.clone(),
         }
-        Ok(())
     }
 
+    /// The bytes of the bucket by itself.
+    pub fn bucket_storage(&self) -> Vec<u8> {
+        match &self.bucket {
+            Stored::Held(held) => held.bytes().0,
+            Stored::Bytes(bytes) => bytes.0.clone(),
+        }
+    }
+}
+
+impl Implementation for Driver {
     fn table_call(&mut self, short: bool, call: &TableCall, out: &mut Vec<u8>) -> Result<(), Refusal> {
         if short {
             return Err(1);
@@ -137,30 +122,6 @@ impl Driver {
         }
         let Stored::Held(held) = &mut self.bucket else { unreachable!() };
         held.call(call, out)
-    }
-
-    fn raw(&mut self, raw: &Raw) -> Result<(), String> {
-        match raw {
-            Raw::Node(Which::Index(i), node) => self.table_bytes().bucket_mut(*i).push_node(node)?,
-            Raw::Node(Which::Itself, node) => self.bucket_bytes().bucket_mut().push_node(node)?,
-            Raw::FirstConnected(Which::Index(i), place) => {
-                self.table_bytes().bucket_mut(*i).set_first_connected(*place)
-            }
-            Raw::FirstConnected(Which::Itself, place) => self.bucket_bytes().bucket_mut().set_first_connected(*place),
-            Raw::Pending(Which::Index(i), node, deadline) => {
-                self.table_bytes().bucket_mut(*i).set_pending(node, *deadline)
-            }
-            Raw::Pending(Which::Itself, node, deadline) => {
-                self.bucket_bytes().bucket_mut().set_pending(node, *deadline)
-            }
-            Raw::Record(record) => self.table_bytes().push_record(record)?,
-            Raw::Byte(offset, byte) => {
-                let bytes = &mut self.table_bytes().0;
-                let place = usize::try_from(*offset).ok().and_then(|offset| bytes.get_mut(offset));
-                *place.ok_or_else(|| format!("the storage has {} bytes", layout::STORAGE))? = *byte;
-            }
-        }
-        Ok(())
     }
 
     fn table_bytes(&mut self) -> &mut TableBytes {
@@ -654,11 +615,6 @@ fn node_of(codes: &NodeCodes) -> Node<NodeId, Value> {
 
 fn record_codes(record: &AppliedPending<NodeId, Value>) -> RecordCodes {
     RecordCodes { inserted: record.inserted.preimage().raw(), evicted: record.evicted.as_ref().map(node_codes) }
-}
-
-fn refused(question: Refusal, out: &mut Vec<u8>) {
-    out.text("Refused ");
-    out.number(question.into());
 }
 
 fn applied(record: Option<AppliedPending<NodeId, Value>>, out: &mut Vec<u8>) {

@@ -2,14 +2,16 @@
 //! comparison: random lists of calls, fed to two commands whose answers are held against each other line by line.
 
 pub mod generate;
-pub mod layout;
 pub mod outcome;
 pub mod run;
 pub mod shrink;
-pub mod text;
+
+pub use calls::{layout, program, text};
 
 #[cfg(reference_source)]
 pub mod driver;
+#[cfg(reference_source)]
+pub mod record;
 #[cfg(reference_source)]
 pub mod stand_ins;
 

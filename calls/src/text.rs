@@ -154,11 +154,65 @@ impl Line {
     }
 }
 
+/// The forms of the lines: a name, then its words.
+pub const TABLE_FORMS: [&str; 16] = [
+    "new LOCAL TIMEOUT MAX_INCOMING TABLE_FILTER BUCKET_FILTER",
+    "update_node_status NOW KEY STATE DIRECTION?",
+    "update_node NOW KEY VALUE STATE?",
+    "insert_or_update NOW KEY VALUE STATE DIRECTION",
+    "remove NOW KEY",
+    "entry NOW KEY",
+    "present_update KEY STATE DIRECTION?",
+    "pending_update KEY STATE DIRECTION",
+    "absent_insert NOW KEY VALUE STATE DIRECTION",
+    "iter NOW N",
+    "nodes_by_distances NOW DISTANCES N",
+    "closest_keys NOW TARGET N",
+    "closest_values NOW TARGET N",
+    "closest_values_predicate NOW TARGET PREDICATE N",
+    "take_applied_pending",
+    "dump",
+];
+pub const BUCKET_FORMS: [&str; 8] = [
+    "b_new TIMEOUT MAX_INCOMING BUCKET_FILTER",
+    "b_insert NOW KEY VALUE STATE DIRECTION",
+    "b_apply_pending NOW",
+    "b_update_status KEY STATE DIRECTION?",
+    "b_update_value KEY VALUE",
+    "b_update_pending STATE DIRECTION",
+    "b_remove NOW KEY",
+    "bdump",
+];
+pub const RAW_FORMS: [&str; 5] = [
+    "raw_node I KEY VALUE STATE DIRECTION",
+    "raw_fcp I PLACE",
+    "raw_pending I KEY VALUE STATE DIRECTION DEADLINE",
+    "raw_record KEY EVICTED",
+    "raw_byte OFFSET NUMBER",
+];
+
+/// The form of the line with this name.
+fn form(name: &str) -> Option<&'static str> {
+    let named = |form: &&str| form.split(' ').next() == Some(name);
+    TABLE_FORMS.into_iter().chain(BUCKET_FORMS).chain(RAW_FORMS).find(named)
+}
+
 /// Reads a line; `None` for one that is passed over.
 pub fn parse(line: &str) -> Result<Option<Line>, String> {
     if line.is_empty() || line.starts_with('#') {
         return Ok(None);
     }
+    read(line).map(Some).map_err(|fault| {
+        let call = line.strip_prefix("! ").unwrap_or(line);
+        match form(call.split(' ').next().unwrap_or(call)) {
+            Some(form) => format!("{line:?}: {fault}; its form is: {form}"),
+            None => format!("{line:?}: {fault}"),
+        }
+    })
+}
+
+/// Reads a line that is not passed over.
+fn read(line: &str) -> Result<Line, String> {
     let (short, rest) = match line.strip_prefix("! ") {
         Some(rest) => (true, rest),
         None => (false, line),
@@ -181,7 +235,7 @@ pub fn parse(line: &str) -> Result<Option<Line>, String> {
         line
     };
     match words.rest {
-        None => Ok(Some(parsed)),
+        None => Ok(parsed),
         Some(rest) => Err(format!("too many words: {rest:?}")),
     }
 }

@@ -6,15 +6,15 @@ pub const PLACES: usize = 16;
 pub const BUCKETS: usize = 256;
 pub const RECORDS: usize = 64;
 
-const KEY: usize = 32;
+pub const KEY: usize = 32;
 const TIME: usize = 8;
 const SLOT: usize = 2;
 /// Address flag, four octets, slot.
-const VALUE: usize = 5 + SLOT;
+pub const VALUE: usize = 5 + SLOT;
 /// Key, state, direction, value.
-const NODE: usize = KEY + 2 + VALUE;
+pub const NODE: usize = KEY + 2 + VALUE;
 /// Inserted key, evicted flag, evicted node.
-const RECORD: usize = KEY + 1 + NODE;
+pub const RECORD: usize = KEY + 1 + NODE;
 
 /// Count, first connected place, the places; then pending flag, pending node, deadline.
 const PENDING_AT: usize = 2 + PLACES * NODE;
@@ -75,22 +75,25 @@ fn time_in(bytes: &[u8]) -> u64 {
     u64::from_be_bytes(bytes[..TIME].try_into().unwrap())
 }
 
-fn key_in(bytes: &[u8]) -> [u8; 32] {
+/// The key, value, node or record that the first bytes hold.
+pub fn key_in(bytes: &[u8]) -> [u8; 32] {
     bytes[..KEY].try_into().unwrap()
 }
 
-fn node_in(bytes: &[u8]) -> NodeCodes {
-    let value = &bytes[KEY + 2..NODE];
-    NodeCodes {
-        key: key_in(bytes),
-        state: bytes[KEY],
-        direction: bytes[KEY + 1],
-        value: ValueCodes {
-            flag: value[0],
-            octets: value[1..5].try_into().unwrap(),
-            slot: u16::from_be_bytes(value[5..VALUE].try_into().unwrap()),
-        },
+pub fn value_in(bytes: &[u8]) -> ValueCodes {
+    ValueCodes {
+        flag: bytes[0],
+        octets: bytes[1..5].try_into().unwrap(),
+        slot: u16::from_be_bytes(bytes[5..VALUE].try_into().unwrap()),
     }
+}
+
+pub fn node_in(bytes: &[u8]) -> NodeCodes {
+    NodeCodes { key: key_in(bytes), state: bytes[KEY], direction: bytes[KEY + 1], value: value_in(&bytes[KEY + 2..]) }
+}
+
+pub fn record_in(bytes: &[u8]) -> RecordCodes {
+    RecordCodes { inserted: key_in(bytes), evicted: (bytes[KEY] == 1).then(|| node_in(&bytes[KEY + 1..])) }
 }
 
 fn write_node(node: &NodeCodes, bytes: &mut [u8]) {
@@ -217,16 +220,13 @@ impl TableBytes {
 
     /// The records of the queue, at most 64.
     pub fn records(&self) -> impl Iterator<Item = RecordCodes> {
-        self.record_parts().map(|bytes| RecordCodes {
-            inserted: key_in(bytes),
-            evicted: (bytes[KEY] == 1).then(|| node_in(&bytes[KEY + 1..])),
-        })
+        self.record_parts().map(record_in)
     }
 
     pub fn push_record(&mut self, record: &RecordCodes) -> Result<(), String> {
         let count = usize::from(self.0[RECORD_COUNT_AT]);
         if count >= RECORDS {
-            return Err("the queue has 64 records".to_string());
+            return Err("the queue already has 64 records".to_string());
         }
         let bytes = &mut self.0[RECORDS_AT + count * RECORD..][..RECORD];
         bytes.fill(0);
@@ -236,6 +236,12 @@ impl TableBytes {
             write_node(node, &mut bytes[KEY + 1..]);
         }
         self.0[RECORD_COUNT_AT] += 1;
+        Ok(())
+    }
+
+    pub fn set_byte(&mut self, offset: u64, byte: u8) -> Result<(), String> {
+        let place = usize::try_from(offset).ok().and_then(|offset| self.0.get_mut(offset));
+        *place.ok_or_else(|| format!("offset {offset} is past the {STORAGE} bytes of the storage"))? = byte;
         Ok(())
     }
 
@@ -300,7 +306,7 @@ pub fn dump_alone_settings(settings: &Settings, out: &mut Vec<u8>) {
 
 /// The bytes of a bucket by itself.
 #[derive(Clone)]
-pub struct AloneBytes(Vec<u8>);
+pub struct AloneBytes(pub Vec<u8>);
 
 impl AloneBytes {
     pub fn new(settings: &Settings) -> AloneBytes {
@@ -353,7 +359,7 @@ impl BucketBytesMut<'_> {
     pub fn push_node(&mut self, node: &NodeCodes) -> Result<(), String> {
         let count = usize::from(self.0[0]);
         if count >= PLACES {
-            return Err("the bucket has 16 nodes".to_string());
+            return Err("the bucket already has 16 nodes".to_string());
         }
         write_node(node, &mut self.0[2 + count * NODE..]);
         self.0[0] += 1;

@@ -1,0 +1,179 @@
+//! Lines are read as they are written, and bytes are written and dumped where the layout says.
+
+use calls::layout::{ALONE, AloneBytes, NODE, RECORD, STORAGE, Settings, TableBytes, bucket_at};
+use calls::text::{
+    BUCKET_FORMS, BucketCall, Line, Listing, NodeCodes, Predicate, RAW_FORMS, Raw, RecordCodes, TABLE_FORMS, TableCall,
+    ValueCodes, Which, Write, parse,
+};
+
+fn read(line: &str) -> Line {
+    parse(line).unwrap_or_else(|fault| panic!("{fault}")).unwrap_or_else(|| panic!("passed over: {line}"))
+}
+
+/// A line of a form, with a word for each of its words.
+fn example(form: &str) -> String {
+    let word = |word: &str| match word {
+        "KEY" | "LOCAL" | "TARGET" => ":4".to_string(),
+        "VALUE" => "1:10.0.0.1:7".to_string(),
+        "DISTANCES" => "3,256".to_string(),
+        "PREDICATE" => "2:10.0.0".to_string(),
+        "EVICTED" | "PLACE" => "-".to_string(),
+        _ if word.chars().any(|c| c.is_ascii_lowercase()) => word.to_string(),
+        _ => "1".to_string(),
+    };
+    form.split(' ').map(word).collect::<Vec<_>>().join(" ")
+}
+
+/// Each form has as many words as its line is read with, and a fault names the form.
+#[test]
+fn forms() {
+    for form in TABLE_FORMS.into_iter().chain(BUCKET_FORMS).chain(RAW_FORMS) {
+        let line = example(form);
+        read(&line);
+        let more = parse(&format!("{line} 1")).unwrap_err();
+        assert!(more.contains(form), "{more}");
+        if let Some((fewer, _)) = line.rsplit_once(' ') {
+            let fewer = parse(fewer).unwrap_err();
+            assert!(fewer.contains("too few words") && fewer.contains(form), "{fewer}");
+        }
+    }
+    assert!(parse("enter 0 :1").unwrap_err().contains("no call is named \"enter\""));
+}
+
+#[test]
+fn lines_that_are_passed_over() {
+    assert!(parse("").unwrap().is_none());
+    assert!(parse("# new :0 1 1 1 1").unwrap().is_none());
+    assert!(parse(" ").is_err());
+}
+
+#[test]
+fn words() {
+    let Line::Table { short: false, call: TableCall::UpdateNode { now, key, value, state } } =
+        read("update_node 18446744073709551615 :1fE 2:10.0.255.1:65535 3")
+    else {
+        panic!()
+    };
+    let mut expected = [0; 32];
+    expected[30..].copy_from_slice(&[0x01, 0xfe]);
+    assert_eq!((now, key, state), (u64::MAX, expected.to_vec(), 3));
+    assert_eq!(value, ValueCodes { flag: 2, octets: [10, 0, 255, 1], slot: 65535 });
+    let Line::Table { short: true, call: TableCall::Remove { key, .. } } = read("! remove 0 0aff") else { panic!() };
+    assert_eq!(key, [0x0a, 0xff]);
+    let Line::Table { call: TableCall::List { listing, n: 0, room: Some(9), .. }, .. } =
+        read("nodes_by_distances 0 3,257,3 0 out=9")
+    else {
+        panic!()
+    };
+    assert!(matches!(listing, Listing::NodesByDistances(distances) if distances == [3, 257, 3]));
+    let Line::Table { call: TableCall::List { listing, room: None, .. }, .. } =
+        read("closest_values_predicate 0 :1 3:7 2")
+    else {
+        panic!()
+    };
+    assert!(matches!(listing, Listing::ClosestValuesPredicate(_, Predicate::Slot(7))));
+    let Line::Bucket { short: true, call: BucketCall::New { timeout: 1, max_incoming: 2, filter: 3 } } =
+        read("! b_new 1 2 3")
+    else {
+        panic!()
+    };
+    let Line::Raw(Raw::FirstConnected(Which::Itself, None)) = read("raw_fcp b -") else { panic!() };
+}
+
+fn node(last: u8, state: u8) -> NodeCodes {
+    let mut key = [0; 32];
+    key[31] = last;
+    NodeCodes { key, state, direction: 1, value: ValueCodes { flag: 1, octets: [10, 0, 0, last], slot: 0x0102 } }
+}
+
+fn text(write: impl FnOnce(&mut Vec<u8>)) -> String {
+    let mut out = Vec::new();
+    write(&mut out);
+    String::from_utf8(out).unwrap()
+}
+
+/// Sizes and places, written out.
+#[test]
+fn places_of_the_bytes() {
+    assert_eq!((NODE, RECORD, STORAGE, ALONE), (41, 74, 186028, 718));
+    let settings = Settings { timeout: 0x0102030405060708, max_incoming: 9, table_filter: 1, bucket_filter: 1 };
+    let mut table = TableBytes::new(&[7; 32], &settings);
+    assert_eq!(table.0[..32], [7; 32]);
+    assert_eq!(table.0[32..44], [1, 2, 3, 4, 5, 6, 7, 8, 9, 1, 1, 0]);
+    table.bucket_mut(3).push_node(&node(4, 0)).unwrap();
+    table.bucket_mut(3).push_node(&node(5, 1)).unwrap();
+    let bucket = 44 + 64 * 74 + 3 * 708;
+    assert_eq!(bucket_at(3), bucket);
+    assert_eq!(table.0[bucket..bucket + 2], [2, 0], "a node leaves the first connected place");
+    assert_eq!(table.0[bucket + 2 + 41 + 31..bucket + 2 + 2 * 41], [5, 1, 1, 1, 10, 0, 0, 5, 1, 2]);
+    table.bucket_mut(3).set_first_connected(Some(1));
+    assert_eq!(table.0[bucket..bucket + 2], [2, 1]);
+    table.bucket_mut(3).set_first_connected(None);
+    assert_eq!(table.0[bucket..bucket + 2], [2, 2], "no place is the count");
+    table.bucket_mut(3).set_pending(&node(6, 1), 0x0f00);
+    let pending = bucket + 2 + 16 * 41;
+    assert_eq!((table.0[pending], table.0[pending + 1 + 31]), (1, 6));
+    assert_eq!(table.0[pending + 42..pending + 50], [0, 0, 0, 0, 0, 0, 0x0f, 0]);
+    table.push_record(&RecordCodes { inserted: [1; 32], evicted: None }).unwrap();
+    table.push_record(&RecordCodes { inserted: [2; 32], evicted: Some(node(4, 0)) }).unwrap();
+    assert_eq!((table.0[43], table.0[44 + 32], table.0[44 + 74 + 32]), (2, 0, 1));
+    assert_eq!(table.0[44 + 74 + 33..44 + 74 + 74], table.0[bucket + 2..bucket + 43]);
+}
+
+#[test]
+fn dumps() {
+    let settings = Settings { timeout: 5, max_incoming: 1, table_filter: 0, bucket_filter: 1 };
+    let mut table = TableBytes::new(&[0; 32], &settings);
+    let zeros = "0".repeat(64);
+    assert_eq!(text(|out| table.dump(out)), format!("dump local={zeros} timeout=5 max=1 tf=0 bf=1 queue=[]\n"));
+    table.bucket_mut(2).push_node(&node(4, 0)).unwrap();
+    table.bucket_mut(2).push_node(&node(5, 1)).unwrap();
+    table.bucket_mut(2).set_first_connected(Some(1));
+    table.bucket_mut(4).set_pending(&node(17, 1), 9);
+    table.push_record(&RecordCodes { inserted: [0; 32], evicted: Some(node(5, 0)) }).unwrap();
+    table.push_record(&RecordCodes { inserted: [0; 32], evicted: None }).unwrap();
+    let key = |last: &str| format!("{}{last}", "0".repeat(62));
+    let (four, five, seventeen) = (key("04"), key("05"), key("11"));
+    assert_eq!(
+        text(|out| table.dump(out)),
+        format!(
+            "dump local={zeros} timeout=5 max=1 tf=0 bf=1 \
+             b2{{fcp=1 nodes=[{four}/1:10.0.0.4:258/0/1 {five}/1:10.0.0.5:258/1/1] pending=-}} \
+             b4{{fcp=- nodes=[] pending={seventeen}/1:10.0.0.17:258/1/1@9}} \
+             queue=[{zeros}^{five}/1:10.0.0.5:258/0/1 {zeros}^-]\n"
+        )
+    );
+    let mut bucket = AloneBytes::new(&settings);
+    assert_eq!(bucket.0[708..], [0, 0, 0, 0, 0, 0, 0, 5, 1, 1]);
+    bucket.bucket_mut().push_node(&node(4, 1)).unwrap();
+    assert_eq!(
+        text(|out| bucket.dump(out)),
+        format!("bdump timeout=5 max=1 bf=1 {{fcp=0 nodes=[{four}/1:10.0.0.4:258/1/1] pending=-}}\n")
+    );
+}
+
+/// At most 16 nodes and 64 records are shown, and no more are written.
+#[test]
+fn full() {
+    let mut table = TableBytes::new(&[0; 32], &Settings::default());
+    for i in 0..16 {
+        table.bucket_mut(255).push_node(&node(i, 0)).unwrap();
+    }
+    assert!(table.bucket_mut(255).push_node(&node(16, 0)).is_err());
+    for _ in 0..64 {
+        table.push_record(&RecordCodes { inserted: [0; 32], evicted: None }).unwrap();
+    }
+    assert!(table.push_record(&RecordCodes { inserted: [0; 32], evicted: None }).is_err());
+    table.set_byte(bucket_at(255) as u64, 255).unwrap();
+    table.set_byte(43, 255).unwrap();
+    let dump = text(|out| table.dump(out));
+    assert_eq!((dump.matches("/0:").count() + dump.matches("/1:").count(), dump.matches('^').count()), (16, 64));
+    assert!(table.set_byte(186027, 1).is_ok() && table.set_byte(186028, 1).is_err());
+}
+
+#[test]
+fn numbers() {
+    for number in [0, 9, 10, 4096, u64::MAX] {
+        assert_eq!(text(|out| out.number(number)), number.to_string());
+    }
+}

@@ -1,0 +1,691 @@
+//! Nanoseconds per call of the proved library and of the routing table of sigp/discv5: both in one run, in turn, with the same keys,
+//! values and calls, and with their answers and outputs held against each other.
+
+use std::process::ExitCode;
+
+#[cfg(not(all(reference_source, proved_library)))]
+fn main() -> ExitCode {
+    if cfg!(not(reference_source)) {
+        eprintln!(
+            "speed: built without the source of sigp/discv5; set DISCV5_SRC to the folder of kbucket.rs and build again"
+        );
+    }
+    if cfg!(not(proved_library)) {
+        eprintln!(
+            "speed: built without libkbuckets.a; run 'rt staticlib kbuckets' in the repository, or set KBUCKETS_LIB to its folder, and build again"
+        );
+    }
+    ExitCode::from(2)
+}
+
+#[cfg(all(reference_source, proved_library))]
+fn main() -> ExitCode {
+    measure::main()
+}
+
+#[cfg(all(reference_source, proved_library))]
+mod measure {
+    use compare::driver::{Table, key_of, new_table};
+    use compare::kbucket::{
+        ConnectionDirection, ConnectionState, FailureReason, InsertResult, Key, NodeStatus, UpdateResult,
+    };
+    use compare::layout::{BUCKETS, PLACES, STORAGE, Settings};
+    use compare::stand_ins::enr::NodeId;
+    use compare::stand_ins::{Value, clock};
+    use std::alloc::{GlobalAlloc, Layout, System};
+    use std::hint::black_box;
+    use std::process::ExitCode;
+    use std::sync::atomic::{AtomicUsize, Ordering::Relaxed};
+    use std::time::Instant;
+
+    const HELP: &str = "speed [ROUNDS]
+
+Prints nanoseconds per call of the proved library and of sigp/discv5. Question 2 and the reference: the least time of ROUNDS (60)
+rounds. Rest: the median, over all calls of all rounds, of the call's time less question 2's just before and after it. Library: the
+sum of question 2 and rest. A call of the reference is too short to be timed by itself; a pass of 64 (32, 4) calls is.";
+
+    const ROUNDS: usize = 60;
+    /// Calls in a timed pass: on one key, of `iter`.
+    const CALLS: usize = 64;
+    const ITER_CALLS: usize = 4;
+    /// Calls in a timed pass of inserts and of removes, each in another bucket.
+    const CHANGES: usize = 32;
+    /// Keys asked of `closest_keys`, nodes of `iter`.
+    const CLOSEST: usize = 16;
+    const ALL: usize = 4096;
+    const KEY: usize = 32;
+    const NODE: usize = 41;
+    const ANSWER: usize = 74;
+    const NOW: u64 = 1;
+    const TIMEOUT: u64 = 60_000;
+
+    // As include/kbuckets.h declares them.
+    unsafe extern "C" {
+        fn kbuckets_new(
+            storage: *mut u8,
+            storage_len: usize,
+            local_key: *const u8,
+            local_key_len: usize,
+            pending_timeout: u64,
+            max_incoming: u8,
+            table_filter: u8,
+            bucket_filter: u8,
+        ) -> u32;
+        fn kbuckets_update_node_status(
+            storage: *mut u8,
+            storage_len: usize,
+            key: *const u8,
+            key_len: usize,
+            state: u8,
+            direction: u8,
+            now: u64,
+        ) -> u32;
+        fn kbuckets_insert_or_update(
+            storage: *mut u8,
+            storage_len: usize,
+            key: *const u8,
+            key_len: usize,
+            flag: u8,
+            a: u8,
+            b: u8,
+            c: u8,
+            d: u8,
+            slot: u16,
+            state: u8,
+            direction: u8,
+            now: u64,
+            answer: *mut u8,
+            answer_len: usize,
+        ) -> u32;
+        fn kbuckets_remove(storage: *mut u8, storage_len: usize, key: *const u8, key_len: usize, now: u64) -> u32;
+        fn kbuckets_iter(
+            storage: *mut u8,
+            storage_len: usize,
+            n: usize,
+            now: u64,
+            output: *mut u8,
+            output_len: usize,
+        ) -> u32;
+        fn kbuckets_closest_keys(
+            storage: *mut u8,
+            storage_len: usize,
+            target: *const u8,
+            target_len: usize,
+            n: usize,
+            now: u64,
+            output: *mut u8,
+            output_len: usize,
+        ) -> u32;
+        fn kbuckets_take_applied_pending(
+            storage: *mut u8,
+            storage_len: usize,
+            answer: *mut u8,
+            answer_len: usize,
+        ) -> u32;
+    }
+
+    /// Counts the bytes that are allocated.
+    struct Counting;
+
+    static ALLOCATED: AtomicUsize = AtomicUsize::new(0);
+
+    // SAFETY: the system's allocator does the work.
+    unsafe impl GlobalAlloc for Counting {
+        unsafe fn alloc(&self, layout: Layout) -> *mut u8 {
+            ALLOCATED.fetch_add(layout.size(), Relaxed);
+            unsafe { System.alloc(layout) }
+        }
+
+        unsafe fn dealloc(&self, place: *mut u8, layout: Layout) {
+            ALLOCATED.fetch_sub(layout.size(), Relaxed);
+            unsafe { System.dealloc(place, layout) }
+        }
+    }
+
+    #[global_allocator]
+    static ALLOCATOR: Counting = Counting;
+
+    fn nanoseconds(start: Instant) -> f64 {
+        start.elapsed().as_nanos() as f64
+    }
+
+    /// The least of the numbers noted.
+    struct Least(f64);
+
+    impl Default for Least {
+        fn default() -> Least {
+            Least(f64::MAX)
+        }
+    }
+
+    impl Least {
+        fn note(&mut self, number: f64) {
+            self.0 = self.0.min(number);
+        }
+    }
+
+    fn median(numbers: &mut [f64]) -> f64 {
+        numbers.sort_by(f64::total_cmp);
+        numbers[numbers.len() / 2]
+    }
+
+    /// A key and its value, in the forms of both sides.
+    struct Peer {
+        key: [u8; KEY],
+        reference_key: Key<NodeId>,
+        octets: [u8; 4],
+        slot: u16,
+    }
+
+    /// The calls that are timed. Nodes are connected and outgoing. Answers are the library's codes.
+    trait Side {
+        type Times: Default;
+
+        /// Makes and times the call for each of the peers; its answers are kept.
+        fn pass(
+            &mut self,
+            peers: &[Peer],
+            answers: &mut Vec<u32>,
+            times: &mut Self::Times,
+            call: impl FnMut(&mut Self, &Peer) -> u32,
+        );
+        fn insert_or_update(&mut self, peer: &Peer, slot: u16) -> u32;
+        fn update_node_status(&mut self, peer: &Peer) -> u32;
+        fn remove(&mut self, peer: &Peer) -> u32;
+        fn closest_keys(&mut self, target: &Peer, output: &mut [u8]) -> u32;
+        fn iter(&mut self, output: &mut [u8]) -> u32;
+    }
+
+    struct Library {
+        storage: Vec<u8>,
+        answer: [u8; ANSWER],
+    }
+
+    impl Library {
+        fn new(local: &[u8; KEY], settings: &Settings) -> Library {
+            let mut storage = vec![0; STORAGE];
+            // SAFETY, here and below: as kbuckets.h asks, each pointer goes with the length of its bytes, and none overlap.
+            let answer = unsafe {
+                kbuckets_new(
+                    storage.as_mut_ptr(),
+                    STORAGE,
+                    local.as_ptr(),
+                    KEY,
+                    settings.timeout,
+                    settings.max_incoming,
+                    settings.table_filter,
+                    settings.bucket_filter,
+                )
+            };
+            assert!(answer == 0);
+            Library { storage, answer: [0; ANSWER] }
+        }
+
+        /// The queue is empty: take_applied_pending asks questions 1 and 2 and does nothing more.
+        fn question_2(&mut self) -> f64 {
+            let start = Instant::now();
+            let answer = unsafe {
+                kbuckets_take_applied_pending(self.storage.as_mut_ptr(), STORAGE, self.answer.as_mut_ptr(), ANSWER)
+            };
+            let took = nanoseconds(start);
+            assert!(answer == 0);
+            took
+        }
+    }
+
+    /// The least time of question 2, and what each call takes beyond it.
+    #[derive(Default)]
+    struct LibraryTimes {
+        question_2: Least,
+        rest: Vec<f64>,
+    }
+
+    impl Side for Library {
+        type Times = LibraryTimes;
+
+        /// Question 2 is timed before and after each call.
+        fn pass(
+            &mut self,
+            peers: &[Peer],
+            answers: &mut Vec<u32>,
+            times: &mut LibraryTimes,
+            mut call: impl FnMut(&mut Library, &Peer) -> u32,
+        ) {
+            answers.clear();
+            let mut before = self.question_2();
+            for peer in peers {
+                let start = Instant::now();
+                answers.push(call(self, black_box(peer)));
+                let took = nanoseconds(start);
+                let after = self.question_2();
+                times.question_2.note(after);
+                times.rest.push(took - (before + after) / 2.0);
+                before = after;
+            }
+        }
+
+        fn insert_or_update(&mut self, peer: &Peer, slot: u16) -> u32 {
+            let [a, b, c, d] = peer.octets;
+            let (storage, key, answer) = (self.storage.as_mut_ptr(), peer.key.as_ptr(), self.answer.as_mut_ptr());
+            unsafe {
+                kbuckets_insert_or_update(storage, STORAGE, key, KEY, 1, a, b, c, d, slot, 1, 0, NOW, answer, ANSWER)
+            }
+        }
+
+        fn update_node_status(&mut self, peer: &Peer) -> u32 {
+            unsafe {
+                kbuckets_update_node_status(self.storage.as_mut_ptr(), STORAGE, peer.key.as_ptr(), KEY, 1, 0, NOW)
+            }
+        }
+
+        fn remove(&mut self, peer: &Peer) -> u32 {
+            unsafe { kbuckets_remove(self.storage.as_mut_ptr(), STORAGE, peer.key.as_ptr(), KEY, NOW) }
+        }
+
+        fn closest_keys(&mut self, target: &Peer, output: &mut [u8]) -> u32 {
+            let (storage, key, room) = (self.storage.as_mut_ptr(), target.key.as_ptr(), output.len());
+            unsafe { kbuckets_closest_keys(storage, STORAGE, key, KEY, CLOSEST, NOW, output.as_mut_ptr(), room) }
+        }
+
+        fn iter(&mut self, output: &mut [u8]) -> u32 {
+            unsafe { kbuckets_iter(self.storage.as_mut_ptr(), STORAGE, ALL, NOW, output.as_mut_ptr(), output.len()) }
+        }
+    }
+
+    const STATUS: NodeStatus =
+        NodeStatus { state: ConnectionState::Connected, direction: ConnectionDirection::Outgoing };
+
+    fn failed(reason: FailureReason) -> u32 {
+        16 + match reason {
+            FailureReason::TooManyIncoming => 0,
+            FailureReason::BucketFilter => 1,
+            FailureReason::TableFilter => 2,
+            FailureReason::KeyNonExistent => 3,
+            FailureReason::BucketFull => 4,
+            FailureReason::InvalidSelfUpdate => 5,
+        }
+    }
+
+    impl Side for Table {
+        type Times = Least;
+
+        /// A call is too short to be timed by itself.
+        fn pass(
+            &mut self,
+            peers: &[Peer],
+            answers: &mut Vec<u32>,
+            times: &mut Least,
+            mut call: impl FnMut(&mut Table, &Peer) -> u32,
+        ) {
+            answers.clear();
+            let start = Instant::now();
+            for peer in peers {
+                answers.push(call(self, black_box(peer)));
+            }
+            times.note(nanoseconds(start) / peers.len() as f64);
+        }
+
+        fn insert_or_update(&mut self, peer: &Peer, slot: u16) -> u32 {
+            let value = Value { address: Some(peer.octets.into()), slot };
+            match Table::insert_or_update(self, &peer.reference_key, value, STATUS) {
+                InsertResult::Inserted => 0,
+                InsertResult::Pending { .. } => 1,
+                InsertResult::StatusUpdated { promoted_to_connected } => 2 + u32::from(promoted_to_connected),
+                InsertResult::ValueUpdated => 4,
+                InsertResult::Updated { promoted_to_connected } => 5 + u32::from(promoted_to_connected),
+                InsertResult::UpdatedPending => 7,
+                InsertResult::Failed(reason) => failed(reason),
+            }
+        }
+
+        fn update_node_status(&mut self, peer: &Peer) -> u32 {
+            match Table::update_node_status(self, &peer.reference_key, STATUS.state, Some(STATUS.direction)) {
+                UpdateResult::NotModified => 0,
+                UpdateResult::Updated => 1,
+                UpdateResult::UpdatedAndPromoted => 2,
+                UpdateResult::UpdatedPending => 3,
+                UpdateResult::Failed(reason) => failed(reason),
+            }
+        }
+
+        fn remove(&mut self, peer: &Peer) -> u32 {
+            Table::remove(self, &peer.reference_key).into()
+        }
+
+        fn closest_keys(&mut self, target: &Peer, output: &mut [u8]) -> u32 {
+            let mut count = 0;
+            for (key, entry) in Table::closest_keys(self, &target.reference_key).zip(output.chunks_exact_mut(KEY)) {
+                entry.copy_from_slice(&key.preimage().raw());
+                count += 1;
+            }
+            count
+        }
+
+        fn iter(&mut self, output: &mut [u8]) -> u32 {
+            let mut count = 0;
+            for (found, entry) in Table::iter(self).zip(output.chunks_exact_mut(NODE)) {
+                let value = found.node.value;
+                entry[..KEY].copy_from_slice(&found.node.key.preimage().raw());
+                entry[KEY] = found.status.is_connected().into();
+                entry[KEY + 1] = found.status.is_incoming().into();
+                entry[KEY + 2] = value.address.is_some().into();
+                entry[KEY + 3..KEY + 7].copy_from_slice(&value.address.map_or([0; 4], |address| address.octets()));
+                entry[KEY + 7..].copy_from_slice(&value.slot.to_be_bytes());
+                count += 1;
+            }
+            count
+        }
+    }
+
+    struct Random(u64);
+
+    impl Random {
+        fn next(&mut self) -> u64 {
+            self.0 ^= self.0 << 13;
+            self.0 ^= self.0 >> 7;
+            self.0 ^= self.0 << 17;
+            self.0
+        }
+
+        fn key(&mut self) -> [u8; KEY] {
+            std::array::from_fn(|_| (self.next() >> 32) as u8)
+        }
+
+        /// A key of bucket i.
+        fn key_of_bucket(&mut self, local: &[u8; KEY], i: usize) -> [u8; KEY] {
+            let mut distance = self.key();
+            let (byte, bit) = (KEY - 1 - i / 8, i % 8);
+            distance[..byte].fill(0);
+            distance[byte] = distance[byte] & ((1 << bit) - 1) | 1 << bit;
+            std::array::from_fn(|j| local[j] ^ distance[j])
+        }
+    }
+
+    /// Peer `number`, in a /24 of its own.
+    fn peer(key: [u8; KEY], number: usize) -> Peer {
+        let [.., b, c] = number.to_be_bytes();
+        Peer { key, reference_key: key_of(&key), octets: [10, b, c, 1], slot: number as u16 }
+    }
+
+    #[derive(Clone, Copy, PartialEq, Eq)]
+    enum Call {
+        UpdateNodeStatus,
+        SameValue,
+        OtherValue,
+        Insert,
+        Full,
+        Remove,
+        ClosestKeys,
+        Iter,
+    }
+
+    impl Call {
+        const EACH: [Call; 8] = [
+            Call::UpdateNodeStatus,
+            Call::SameValue,
+            Call::OtherValue,
+            Call::Insert,
+            Call::Full,
+            Call::Remove,
+            Call::ClosestKeys,
+            Call::Iter,
+        ];
+
+        fn name(self) -> &'static str {
+            match self {
+                Call::UpdateNodeStatus => "update_node_status",
+                Call::SameValue => "insert_or_update, held key, same value",
+                Call::OtherValue => "insert_or_update, held key, other value",
+                Call::Insert => "insert_or_update, new key, room",
+                Call::Full => "insert_or_update, new key, full bucket",
+                Call::Remove => "remove",
+                Call::ClosestKeys => "closest_keys, 16",
+                Call::Iter => "iter, n 4096",
+            }
+        }
+
+        /// A call that a filter can make slower.
+        fn filtered(self) -> bool {
+            matches!(self, Call::UpdateNodeStatus | Call::SameValue | Call::OtherValue | Call::Insert | Call::Full)
+        }
+    }
+
+    /// The two tables, and the peers of the calls.
+    struct Setup {
+        name: String,
+        library: Library,
+        reference: Table,
+        reference_bytes: usize,
+        held: usize,
+        /// Held, drawn at random.
+        drawn: Vec<Peer>,
+        /// Of different buckets; all held, or none where no node is held.
+        changing: Vec<Peer>,
+        /// Not held, of full buckets.
+        outside: Vec<Peer>,
+        targets: Vec<Peer>,
+        rows: Vec<Row>,
+    }
+
+    struct Row {
+        call: Call,
+        library: LibraryTimes,
+        reference: Least,
+    }
+
+    impl Setup {
+        /// At most `most` nodes in each of the buckets from `first` on.
+        fn new(first: usize, most: usize, filter: u8) -> Setup {
+            let mut random = Random(88_172_645_463_325_252);
+            let local = random.key();
+            let settings = Settings { timeout: TIMEOUT, max_incoming: 16, table_filter: filter, bucket_filter: filter };
+            let mut library = Library::new(&local, &settings);
+            let mut reference = new_table(&local, &settings);
+            let mut peers: Vec<Vec<Peer>> = Vec::new();
+            let mut number = 0;
+            for i in first..BUCKETS {
+                let mut of_bucket: Vec<Peer> = Vec::new();
+                let capacity = if i < 4 { most.min(1 << i) } else { most };
+                while of_bucket.len() < capacity {
+                    let new = peer(random.key_of_bucket(&local, i), number);
+                    if of_bucket.iter().all(|p| p.key != new.key) {
+                        assert!(library.insert_or_update(&new, new.slot) == 0);
+                        assert!(Side::insert_or_update(&mut reference, &new, new.slot) == 0);
+                        of_bucket.push(new);
+                        number += 1;
+                    }
+                }
+                peers.push(of_bucket);
+            }
+            let before = ALLOCATED.load(Relaxed);
+            let copy = reference.clone();
+            let reference_bytes = size_of::<Table>() + ALLOCATED.load(Relaxed) - before;
+            drop(copy);
+            let held = number;
+            let again = |p: &Peer| peer(p.key, p.slot.into());
+            let drawn = match held {
+                0 => Vec::new(),
+                _ => (0..CALLS)
+                    .map(|_| {
+                        let of_bucket = &peers[random.next() as usize % peers.len()];
+                        again(&of_bucket[random.next() as usize % of_bucket.len()])
+                    })
+                    .collect(),
+            };
+            let changing = match held {
+                0 => (BUCKETS - CHANGES..BUCKETS)
+                    .enumerate()
+                    .map(|(n, i)| peer(random.key_of_bucket(&local, i), n))
+                    .collect(),
+                _ => (0..CHANGES).map(|n| again(&peers[peers.len() - 1 - n][n % most])).collect(),
+            };
+            let outside = match most {
+                PLACES if held > 0 => (0..CALLS)
+                    .map(|n| {
+                        let i = BUCKETS - 1 - random.next() as usize % (BUCKETS - first.max(8));
+                        peer(random.key_of_bucket(&local, i), held + n)
+                    })
+                    .collect(),
+                _ => Vec::new(),
+            };
+            let targets = (0..CALLS).map(|_| peer(random.key(), 0)).collect();
+            let rows = Call::EACH
+                .into_iter()
+                .filter(|call| match call {
+                    Call::UpdateNodeStatus | Call::SameValue | Call::OtherValue => held > 0,
+                    Call::Full => most == PLACES && held > 0,
+                    _ => true,
+                })
+                .filter(|call| filter == 0 || call.filtered())
+                .map(|call| Row { call, library: LibraryTimes::default(), reference: Least::default() })
+                .collect();
+            let buckets = peers.len();
+            let name = format!(
+                "{held} nodes{}, filters {}",
+                if held == 0 { String::new() } else { format!(", at most {most} in each of {buckets} buckets") },
+                if filter == 0 { "off" } else { "on" }
+            );
+            Setup { name, library, reference, reference_bytes, held, drawn, changing, outside, targets, rows }
+        }
+
+        /// One round: each call on one side, then on the other.
+        fn round(&mut self, outputs: &mut [Output; 2]) {
+            let peers = Peers {
+                drawn: &self.drawn,
+                changing: &self.changing,
+                outside: &self.outside,
+                targets: &self.targets,
+                held: self.held > 0,
+            };
+            let [one, other] = outputs;
+            for row in &mut self.rows {
+                let (library, reference) = (&mut self.library, &mut self.reference);
+                peers.timed(library, row.call, one, &mut row.library);
+                peers.timed(reference, row.call, other, &mut row.reference);
+                assert!(one.answers == other.answers, "{}: the answers differ", row.call.name());
+                assert!(one.bytes == other.bytes, "{}: the outputs differ", row.call.name());
+            }
+        }
+    }
+
+    /// The answers of a pass, and the output of its last call.
+    struct Output {
+        answers: Vec<u32>,
+        bytes: Vec<u8>,
+    }
+
+    struct Peers<'a> {
+        drawn: &'a [Peer],
+        changing: &'a [Peer],
+        outside: &'a [Peer],
+        targets: &'a [Peer],
+        held: bool,
+    }
+
+    impl Peers<'_> {
+        /// Two passes. The table is at rest again afterwards, up to the order of its buckets, which is the same on both sides.
+        fn timed<S: Side>(&self, side: &mut S, call: Call, output: &mut Output, times: &mut S::Times) {
+            let Output { answers, bytes } = output;
+            for other in [1 << 15, 0] {
+                match call {
+                    Call::UpdateNodeStatus => side.pass(self.drawn, answers, times, |s, p| s.update_node_status(p)),
+                    Call::SameValue => side.pass(self.drawn, answers, times, |s, p| s.insert_or_update(p, p.slot)),
+                    Call::OtherValue => {
+                        side.pass(self.drawn, answers, times, |s, p| s.insert_or_update(p, p.slot ^ other))
+                    }
+                    Call::Full => side.pass(self.outside, answers, times, |s, p| s.insert_or_update(p, p.slot)),
+                    Call::Insert => self.changes(side, answers, times, &mut S::Times::default()),
+                    Call::Remove => self.changes(side, answers, &mut S::Times::default(), times),
+                    Call::ClosestKeys => {
+                        bytes.fill(0);
+                        let keys = &mut bytes[..CLOSEST * KEY];
+                        side.pass(self.targets, answers, times, |s, p| s.closest_keys(p, keys))
+                    }
+                    Call::Iter => {
+                        bytes.fill(0);
+                        side.pass(&self.targets[..ITER_CALLS], answers, times, |s, _| s.iter(bytes))
+                    }
+                }
+            }
+        }
+
+        /// Takes the changing peers out and puts them in again, or the other way round where no node is held.
+        fn changes<S: Side>(&self, side: &mut S, answers: &mut Vec<u32>, insert: &mut S::Times, remove: &mut S::Times) {
+            if !self.held {
+                side.pass(self.changing, answers, insert, |s, p| s.insert_or_update(p, p.slot));
+            }
+            side.pass(self.changing, answers, remove, |s, p| s.remove(p));
+            if self.held {
+                side.pass(self.changing, answers, insert, |s, p| s.insert_or_update(p, p.slot));
+            }
+        }
+    }
+
+    #[inline(never)]
+    fn plain_sum(bytes: &[u8]) -> u64 {
+        bytes.iter().map(|byte| u64::from(*byte)).sum()
+    }
+
+    pub fn main() -> ExitCode {
+        let rounds = match std::env::args().nth(1).map(|word| word.parse()) {
+            None => ROUNDS,
+            Some(Ok(rounds)) => rounds,
+            Some(Err(_)) => {
+                println!("{HELP}");
+                return ExitCode::SUCCESS;
+            }
+        };
+        clock::set(Some(NOW));
+        let mut setups = [
+            Setup::new(BUCKETS, PLACES, 0),
+            Setup::new(193, PLACES, 0),
+            Setup::new(4, 4, 0),
+            Setup::new(0, PLACES, 0),
+            Setup::new(BUCKETS, PLACES, 1),
+            Setup::new(193, PLACES, 1),
+            Setup::new(0, PLACES, 1),
+        ];
+        let mut outputs = [(); 2].map(|_| Output { answers: Vec::new(), bytes: vec![0; ALL * NODE] });
+        let (mut sum, mut reading) = (Least::default(), Least::default());
+        for _ in 0..rounds {
+            for setup in &mut setups {
+                setup.round(&mut outputs);
+                for _ in 0..CALLS {
+                    let start = Instant::now();
+                    black_box(plain_sum(black_box(&setup.library.storage)));
+                    sum.note(nanoseconds(start));
+                    reading.note(nanoseconds(Instant::now()));
+                }
+            }
+        }
+        for setup in &mut setups {
+            let [one, other] = &mut outputs;
+            let found = [setup.library.iter(&mut one.bytes), Side::iter(&mut setup.reference, &mut other.bytes)];
+            assert!(found == [setup.held as u32; 2] && one.bytes == other.bytes, "{}: the tables differ", setup.name);
+        }
+        let Least(reading) = reading;
+        println!(
+            "ns per call, {rounds} rounds; a plain sum of the {STORAGE} bytes (rustc, 64-bit): {:.0}",
+            sum.0 - reading
+        );
+        for setup in &mut setups {
+            println!("\n{}", setup.name);
+            println!(
+                "  {:<40} {:>8} {:>10} {:>8} {:>9} {:>10} {:>11}",
+                "", "library", "question 2", "rest", "reference", "rest / ref", "whole / ref"
+            );
+            for row in &mut setup.rows {
+                let (question_2, rest) = (row.library.question_2.0 - reading, median(&mut row.library.rest));
+                let (whole, reference) = (question_2 + rest, row.reference.0);
+                println!(
+                    "  {:<40} {whole:>8.0} {question_2:>10.0} {rest:>8.0} {reference:>9.0} {:>10.2} {:>11.1}",
+                    row.call.name(),
+                    rest / reference,
+                    whole / reference
+                );
+            }
+            println!("  bytes: library {STORAGE}, reference {}", setup.reference_bytes);
+        }
+        ExitCode::SUCCESS
+    }
+}

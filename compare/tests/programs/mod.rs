@@ -1,0 +1,76 @@
+//! What every program that answers calls must do: the files of calls with their answers, and bad lines.
+
+use std::io::Write;
+use std::path::Path;
+use std::process::{Command, Output, Stdio};
+
+/// Runs a program on a text of calls.
+pub fn run(program: &str, arguments: &[&str], text: &str) -> Output {
+    let mut command = Command::new(program);
+    command.args(arguments).stdin(Stdio::piped()).stdout(Stdio::piped()).stderr(Stdio::piped());
+    let mut child = command.spawn().unwrap();
+    let mut input = child.stdin.take().unwrap();
+    let text = text.to_string();
+    // A program that ends at a bad line stops reading.
+    let feeding = std::thread::spawn(move || drop(input.write_all(text.as_bytes())));
+    let output = child.wait_with_output().unwrap();
+    feeding.join().unwrap();
+    output
+}
+
+/// Runs a program on a file of calls in which '#= ANSWER' follows each call, and holds the answers against it.
+pub fn answers_as_written(program: &str, file: &str) {
+    let path = Path::new(env!("CARGO_MANIFEST_DIR")).join("../compare/tests").join(file);
+    let text = std::fs::read_to_string(&path).unwrap();
+    let calls: Vec<&str> = text.lines().filter(|line| !line.is_empty() && !line.starts_with('#')).collect();
+    let expected: Vec<&str> = text.lines().filter_map(|line| line.strip_prefix("#= ")).collect();
+    let run = run(program, &[], &text);
+    assert!(run.status.success(), "{}", String::from_utf8_lossy(&run.stderr));
+    let answers = String::from_utf8(run.stdout).unwrap();
+    let answers: Vec<&str> = answers.lines().collect();
+    assert_eq!(calls.len(), expected.len(), "each call has an expected answer");
+    assert_eq!(calls.len(), answers.len(), "each call has an answer");
+    for ((call, expected), answer) in calls.iter().zip(expected).zip(answers) {
+        assert_eq!(answer, expected, "{call}");
+    }
+}
+
+/// Lines that are no call, and raw lines that do not fit.
+const BAD_LINES: [&str; 26] = [
+    "no_such_call",
+    "entry 0",
+    "entry 0 :1 2",
+    "entry  0 :1",
+    "entry 0 :1 ",
+    "entry -1 :1",
+    "entry +1 :1",
+    "entry 18446744073709551616 :1",
+    "entry 0 :g",
+    "entry 0 123",
+    "entry 0 :0000000000000000000000000000000000000000000000000000000000000001",
+    "new :0 10 256 0 0",
+    "update_node 0 :1 1:1.2.3:4 0",
+    "update_node 0 :1 1:1.2.3.256:4 0",
+    "update_node 0 :1 1:1.2.3.4:65536 0",
+    "iter 0 1 room=1",
+    "entry 0 :1 out=1",
+    "nodes_by_distances 0 1,,2 1",
+    "closest_values_predicate 0 :1 2 1",
+    "closest_values_predicate 0 :1 3:65536 1",
+    "! dump",
+    "raw_node 256 :1 0:0.0.0.0:0 0 0",
+    "raw_node 0 01 0:0.0.0.0:0 0 0",
+    "raw_fcp 0 256",
+    "raw_byte 186028 1",
+    "raw_byte 0 256",
+];
+
+/// A bad line ends the program with a message that names it; what came before stands.
+pub fn refuses_bad_lines(program: &str) {
+    for line in BAD_LINES {
+        let run = run(program, &[], &format!("# a note\n\ntake_applied_pending\n{line}\nentry 0 :0\n"));
+        assert!(!run.status.success(), "{line}");
+        assert_eq!(String::from_utf8_lossy(&run.stdout), "None\n", "{line}");
+        assert!(String::from_utf8_lossy(&run.stderr).contains("line 4: "), "{line}");
+    }
+}

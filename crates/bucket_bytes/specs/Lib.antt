@@ -1,0 +1,2 @@
+-- A bucket by itself as bytes.
+pub mod Lent

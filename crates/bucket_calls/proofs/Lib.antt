@@ -1,0 +1,2 @@
+-- Laws of the calls on a bucket by itself.
+pub mod Outcome

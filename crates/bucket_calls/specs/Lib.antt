@@ -1,0 +1,2 @@
+-- What the calls on a bucket by itself return and leave.
+pub mod Calls

@@ -1,0 +1,2 @@
+-- Laws of the codes and of an answer's bytes.
+pub mod Put

@@ -1,0 +1,50 @@
+-- What an export returns and leaves, for every storage and every argument.
+use Prim.Native.Nat.{ℕ}
+use mathlib.Core.Path.{_≡_}
+use mathlib.Core.Bool.{Bool, cond, _&&_}
+use mathlib.Core.List.{List, [], _∷_}
+use mathlib.Core.Option.{Option, none, some}
+use lib.ListN.{length}
+use lib.Dec.{eqb, leb}
+use Rattle.model.specs.Bytes.{splice}
+use Rattle.model.specs.Call.{Call}
+use Rattle.model.specs.Question.{firstFailed}
+use Rattle.model.specs.StepBytes.{allQuestions, stepBytes}
+use Rattle.codes.specs.Codes.{refusedCode, answerCode, answerBytes, answerSize}
+
+-- the return code, and what the lent memory holds after the call
+pub record Exported : Type 0 where
+  pub code : ℕ
+  pub storage : List ℕ
+  pub output : List ℕ
+
+-- the code and the storage are those of the outcome
+pub record Leaves (r : ℕ) (s : List ℕ) (o : Exported) : Type 0 where
+  pub code : r ≡ o .code
+  pub storage : s ≡ o .storage
+
+-- and so is the output
+pub record Writes (r : ℕ) (s out : List ℕ) (o : Exported) : Type 0 where
+  pub code : r ≡ o .code
+  pub storage : s ≡ o .storage
+  pub output : out ≡ o .output
+
+-- a call whose answer is its code alone
+unfoldable pub exported : Call → List ℕ → Exported
+exported c s = let o = stepBytes c s in record { code = answerCode (o .answer); storage = o .storage; output = o .output }
+
+-- the questions, with room for the answer's bytes asked in 6's turn
+abbrev pub withRoom : Bool → List (ℕ × Bool) → List (ℕ × Bool)
+withRoom room [] = []
+withRoom room (q ∷ qs) = (q .0, cond (eqb (q .0) 6) (q .1 && room) (q .1)) ∷ withRoom room qs
+
+-- a refusal is its number alone; all lent memory keeps its bytes
+abbrev pub unlessRefused : Option ℕ → Call → List ℕ → List ℕ → Exported
+unlessRefused (some q) c answer s = record { code = refusedCode q; storage = s; output = answer }
+unlessRefused none c answer s =
+    let o = stepBytes c s in
+    record { code = answerCode (o .answer); storage = o .storage; output = splice answer 0 (answerBytes (o .answer)) }
+
+-- a call whose answer can carry a key or a record: its bytes stand at the front of `answer`
+unfoldable pub exportedWith : Call → List ℕ → List ℕ → Exported
+exportedWith c answer s = unlessRefused (firstFailed (withRoom (leb answerSize (length answer)) (allQuestions c s))) c answer s

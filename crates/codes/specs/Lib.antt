@@ -1,0 +1,3 @@
+-- What the exports return.
+pub mod Codes
+pub mod Exported

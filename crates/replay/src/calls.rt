@@ -1,0 +1,207 @@
+// A record's call, made through the exports. Each answers the code.
+use crate::record;
+use crate::record::Arguments;
+
+// The code where a record cannot be read: no call answers it.
+const UNREADABLE: u32 = 0xffff_ffff;
+
+// What the output or the answer holds before a call.
+const FILL: u8 = 165;
+
+fn set(s: &mut [u8], at: usize, x: u8) {
+    if at < s.len() {
+        s[at] = x;
+    }
+}
+
+// Fills the first n bytes.
+pub fn fill(s: &mut [u8], n: usize) {
+    let mut i = 0;
+    while i < n {
+        set(s, i, FILL);
+        i += 1;
+    }
+}
+
+// Writes the record's bytes to the storage or the bucket, for what no call leaves.
+fn write(s: &mut [u8], r: &[u8]) -> u32 {
+    let at = record::number_of_eight(r, 56) as usize;
+    let n = record::byte(r, 1) as usize;
+    if 200000 < at {
+        return UNREADABLE;
+    }
+    if 48 < n {
+        return UNREADABLE;
+    }
+    let mut i: usize = 0;
+    while i < n {
+        set(s, at + i, record::byte(r, 80 + i));
+        i += 1;
+    }
+    0
+}
+
+fn nodes_by_distances(
+    s: &mut [u8],
+    distances: &[u64],
+    count: usize,
+    x: Arguments,
+    out: &mut [u8],
+) -> u32 {
+    if distances.len() < count {
+        return UNREADABLE;
+    }
+    kbuckets::kbuckets_nodes_by_distances(s, &distances[0..count], x.n, x.time, out)
+}
+
+fn by_distances(r: &[u8], s: &mut [u8], out: &mut [u8]) -> u32 {
+    let distances = record::distances(r);
+    let count = record::byte(r, 1) as usize;
+    let x = record::read_arguments(r);
+    nodes_by_distances(s, &distances, count, x, out)
+}
+
+fn status_call(call: u8, s: &mut [u8], key: &[u8], x: Arguments) -> u32 {
+    match call {
+        1 => kbuckets::kbuckets_new(s, key, x.time, x.state, x.direction, x.flag),
+        2 => kbuckets::kbuckets_update_node_status(s, key, x.state, x.direction, x.time),
+        5 => kbuckets::kbuckets_remove(s, key, x.time),
+        6 => kbuckets::kbuckets_entry(s, key, x.time),
+        7 => kbuckets::kbuckets_present_update(s, key, x.state, x.direction),
+        8 => kbuckets::kbuckets_pending_update(s, key, x.state, x.direction),
+        _ => UNREADABLE,
+    }
+}
+
+fn value_call(call: u8, s: &mut [u8], key: &[u8], x: Arguments, out: &mut [u8]) -> u32 {
+    match call {
+        3 => kbuckets::kbuckets_update_node(
+            s,
+            key,
+            x.flag,
+            x.a,
+            x.b,
+            x.c,
+            x.d,
+            x.slot,
+            x.state,
+            x.time,
+        ),
+        4 => kbuckets::kbuckets_insert_or_update(
+            s,
+            key,
+            x.flag,
+            x.a,
+            x.b,
+            x.c,
+            x.d,
+            x.slot,
+            x.state,
+            x.direction,
+            x.time,
+            out,
+        ),
+        9 => kbuckets::kbuckets_absent_insert(
+            s,
+            key,
+            x.flag,
+            x.a,
+            x.b,
+            x.c,
+            x.d,
+            x.slot,
+            x.state,
+            x.direction,
+            x.time,
+            out,
+        ),
+        _ => UNREADABLE,
+    }
+}
+
+fn listing_call(call: u8, s: &mut [u8], key: &[u8], x: Arguments, out: &mut [u8]) -> u32 {
+    match call {
+        10 => kbuckets::kbuckets_iter(s, x.n, x.time, out),
+        12 => kbuckets::kbuckets_closest_keys(s, key, x.n, x.time, out),
+        13 => kbuckets::kbuckets_closest_values(s, key, x.n, x.time, out),
+        14 => kbuckets::kbuckets_closest_values_predicate(
+            s,
+            key,
+            x.flag,
+            x.a,
+            x.b,
+            x.c,
+            x.slot,
+            x.n,
+            x.time,
+            out,
+        ),
+        15 => kbuckets::kbuckets_take_applied_pending(s, out),
+        _ => UNREADABLE,
+    }
+}
+
+fn bucket_call(call: u8, s: &mut [u8], key: &[u8], x: Arguments, out: &mut [u8]) -> u32 {
+    match call {
+        17 => kbuckets::kbuckets_b_new(s, x.time, x.state, x.direction),
+        18 => kbuckets::kbuckets_b_insert(
+            s,
+            key,
+            x.flag,
+            x.a,
+            x.b,
+            x.c,
+            x.d,
+            x.slot,
+            x.state,
+            x.direction,
+            x.time,
+            out,
+        ),
+        19 => kbuckets::kbuckets_b_apply_pending(s, x.time, out),
+        20 => kbuckets::kbuckets_b_update_status(s, key, x.state, x.direction),
+        21 => kbuckets::kbuckets_b_update_value(s, key, x.flag, x.a, x.b, x.c, x.d, x.slot),
+        22 => kbuckets::kbuckets_b_update_pending(s, x.state, x.direction),
+        23 => kbuckets::kbuckets_b_remove(s, key, x.time),
+        _ => UNREADABLE,
+    }
+}
+
+// The call on the bytes that are handed over.
+fn on_part(r: &[u8], s: &mut [u8], out: &mut [u8]) -> u32 {
+    let call = record::byte(r, 0);
+    if call == 11 {
+        return by_distances(r, s, out);
+    }
+    let end = record::byte(r, 1) as usize + 2;
+    if r.len() < end {
+        return UNREADABLE;
+    }
+    let x = record::read_arguments(r);
+    if (call == 3) | (call == 4) | (call == 9) {
+        return value_call(call, s, &r[2..end], x, out);
+    }
+    if call < 10 {
+        return status_call(call, s, &r[2..end], x);
+    }
+    if call < 16 {
+        return listing_call(call, s, &r[2..end], x, out);
+    }
+    bucket_call(call, s, &r[2..end], x, out)
+}
+
+// The call on a table or a bucket, of which as much is handed over as the record says.
+pub fn made(r: &[u8], s: &mut [u8], out: &mut [u8]) -> u32 {
+    if record::byte(r, 0) % 16 == 0 {
+        return write(s, r);
+    }
+    let size = record::number_of_four(r, 52) as usize;
+    let room = record::number_of_four(r, 64) as usize;
+    if s.len() < size {
+        return UNREADABLE;
+    }
+    if out.len() < room {
+        return UNREADABLE;
+    }
+    on_part(r, &mut s[0..size], &mut out[0..room])
+}

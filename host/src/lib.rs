@@ -1,0 +1,30 @@
+//! The routing table of k-buckets that is proved to meet its contract, for Rust. [`KBucketsTable`] and [`KBucket`] own their bytes and
+//! have the methods, names and answers of sigp/discv5's; times are milliseconds, given by the caller. [`lent`] has the same calls on
+//! bytes that the caller keeps, with keys of any length and codes of any number, as the library takes them.
+//!
+//! ```
+//! use kbuckets::{ConnectionDirection, ConnectionState, InsertResult, KBucketsTable, NodeStatus, Settings, Value};
+//!
+//! let mut table = KBucketsTable::new([0; 32], Settings { pending_timeout: 60_000, max_incoming: 8, ..Settings::default() })?;
+//! let mut key = [0; 32];
+//! key[31] = 4;
+//! let status = NodeStatus { state: ConnectionState::Connected, direction: ConnectionDirection::Outgoing };
+//! let value = Value { address: Some([10, 0, 0, 1].into()), slot: 7 };
+//! assert_eq!(table.insert_or_update(&key, value, status, 1000)?, InsertResult::Inserted);
+//! assert_eq!(table.closest_keys(&[0; 32], 16, 1000)?, [key]);
+//! # Ok::<(), kbuckets::Refusal>(())
+//! ```
+
+mod answers;
+mod bucket;
+mod ffi;
+#[cfg(test)]
+mod header;
+pub mod lent;
+mod node;
+mod table;
+
+pub use answers::{AppliedPending, BucketInsertResult, Entry, FailureReason, InsertResult, Refusal, UpdateResult};
+pub use bucket::KBucket;
+pub use node::{ClosestValue, ConnectionDirection, ConnectionState, Key, Node, NodeStatus, PredicateValue, Value};
+pub use table::{KBucketsTable, Predicate, Settings};

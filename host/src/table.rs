@@ -1,0 +1,228 @@
+//! A table that owns its storage.
+
+use crate::answers::{AppliedPending, BucketInsertResult, Entry, InsertResult, Refusal, UpdateResult};
+use crate::lent::{self, MAX_COUNT, PredicateCodes, RecordCodes, STORAGE_BYTES};
+use crate::node::{
+    ClosestValue, ConnectionDirection, ConnectionState, Key, NOT_GIVEN, Node, NodeStatus, PredicateValue, Value,
+};
+use calls::layout::{self, KEY, TableBytes};
+use std::fmt;
+
+/// What a table is made with. Filters are off and `max_incoming` is 0 where nothing is said.
+#[derive(Clone, Copy, Debug, Default, PartialEq, Eq)]
+pub struct Settings {
+    /// How long a pending node waits, in milliseconds.
+    pub pending_timeout: u64,
+    /// The most connected incoming nodes in a bucket: 0 to 16.
+    pub max_incoming: u8,
+    /// At most 10 unequal values of a /24 in the table.
+    pub table_filter: bool,
+    /// At most 2 unequal values of a /24 in a bucket.
+    pub bucket_filter: bool,
+}
+
+/// Which values `closest_values_predicate` marks.
+#[derive(Clone, Copy, Debug, PartialEq, Eq)]
+pub enum Predicate {
+    Always,
+    HasAddress,
+    /// The address is in this /24.
+    InNet([u8; 3]),
+    Slot(u16),
+}
+
+/// The routing table. `now` is a count of milliseconds that the caller gives; it may go back. Each method changes nothing where it is
+/// refused.
+#[derive(Clone, PartialEq, Eq)]
+pub struct KBucketsTable {
+    storage: Vec<u8>,
+}
+
+impl KBucketsTable {
+    /// An empty table; refused where `max_incoming` is above 16.
+    pub fn new(local_key: Key, settings: Settings) -> Result<KBucketsTable, Refusal> {
+        let mut storage = vec![0; STORAGE_BYTES];
+        let Settings { pending_timeout, max_incoming, table_filter, bucket_filter } = settings;
+        let (table_filter, bucket_filter) = (table_filter.into(), bucket_filter.into());
+        lent::new(&mut storage, &local_key, pending_timeout, max_incoming, table_filter, bucket_filter)?;
+        Ok(KBucketsTable { storage })
+    }
+
+    /// A table from the bytes of one, as [`KBucketsTable::storage`] gives them. Bytes that are no table's are refused by each call.
+    pub fn from_storage(storage: Vec<u8>) -> KBucketsTable {
+        KBucketsTable { storage }
+    }
+
+    /// The bytes of the table, which may be kept and compared.
+    pub fn storage(&self) -> &[u8] {
+        &self.storage
+    }
+
+    /// Sets the status of a node or of a pending node.
+    pub fn update_node_status(
+        &mut self,
+        key: &Key,
+        state: ConnectionState,
+        direction: Option<ConnectionDirection>,
+        now: u64,
+    ) -> Result<UpdateResult, Refusal> {
+        lent::update_node_status(&mut self.storage, key, state as u8, given(direction.map(|d| d as u8)), now)
+    }
+
+    /// Sets the value of a node, and its state where one is given.
+    pub fn update_node(
+        &mut self,
+        key: &Key,
+        value: Value,
+        state: Option<ConnectionState>,
+        now: u64,
+    ) -> Result<UpdateResult, Refusal> {
+        lent::update_node(&mut self.storage, key, value.into(), given(state.map(|s| s as u8)), now)
+    }
+
+    /// Inserts a node, or sets status and value of one that is there.
+    pub fn insert_or_update(
+        &mut self,
+        key: &Key,
+        value: Value,
+        status: NodeStatus,
+        now: u64,
+    ) -> Result<InsertResult, Refusal> {
+        let NodeStatus { state, direction } = status;
+        lent::insert_or_update(&mut self.storage, key, value.into(), state as u8, direction as u8, now)
+    }
+
+    /// Takes a node out; `false` where there is none.
+    pub fn remove(&mut self, key: &Key, now: u64) -> Result<bool, Refusal> {
+        lent::remove(&mut self.storage, key, now)
+    }
+
+    pub fn entry(&mut self, key: &Key, now: u64) -> Result<Entry, Refusal> {
+        lent::entry(&mut self.storage, key, now)
+    }
+
+    /// The action on a key that is [`Entry::Present`].
+    pub fn present_update(
+        &mut self,
+        key: &Key,
+        state: ConnectionState,
+        direction: Option<ConnectionDirection>,
+    ) -> Result<UpdateResult, Refusal> {
+        lent::present_update(&mut self.storage, key, state as u8, given(direction.map(|d| d as u8)))
+    }
+
+    /// The action on a key that is [`Entry::Pending`].
+    pub fn pending_update(&mut self, key: &Key, status: NodeStatus) -> Result<UpdateResult, Refusal> {
+        lent::pending_update(&mut self.storage, key, status.state as u8, status.direction as u8)
+    }
+
+    /// The action on a key that is [`Entry::Absent`]; the table filter is skipped.
+    pub fn absent_insert(
+        &mut self,
+        key: &Key,
+        value: Value,
+        status: NodeStatus,
+        now: u64,
+    ) -> Result<BucketInsertResult, Refusal> {
+        let NodeStatus { state, direction } = status;
+        lent::absent_insert(&mut self.storage, key, value.into(), state as u8, direction as u8, now)
+    }
+
+    /// The first n nodes, bucket by bucket.
+    pub fn iter(&mut self, n: usize, now: u64) -> Result<Vec<Node>, Refusal> {
+        let mut output = room(n, lent::ITER_ENTRY);
+        let count = lent::iter(&mut self.storage, n, now, &mut output)?;
+        Ok(entries(&output, lent::ITER_ENTRY, count, node))
+    }
+
+    /// The first n nodes at these log2 distances; at n = 0 still one.
+    pub fn nodes_by_distances(&mut self, distances: &[u64], n: usize, now: u64) -> Result<Vec<Node>, Refusal> {
+        let mut output = room(n.max(1), lent::NODES_BY_DISTANCES_ENTRY);
+        let count = lent::nodes_by_distances(&mut self.storage, distances, n, now, &mut output)?;
+        Ok(entries(&output, lent::NODES_BY_DISTANCES_ENTRY, count, node))
+    }
+
+    /// The n keys nearest to the target, nearest first.
+    pub fn closest_keys(&mut self, target: &Key, n: usize, now: u64) -> Result<Vec<Key>, Refusal> {
+        let mut output = room(n, lent::CLOSEST_KEYS_ENTRY);
+        let count = lent::closest_keys(&mut self.storage, target, n, now, &mut output)?;
+        Ok(entries(&output, lent::CLOSEST_KEYS_ENTRY, count, layout::key_in))
+    }
+
+    pub fn closest_values(&mut self, target: &Key, n: usize, now: u64) -> Result<Vec<ClosestValue>, Refusal> {
+        let mut output = room(n, lent::CLOSEST_VALUES_ENTRY);
+        let count = lent::closest_values(&mut self.storage, target, n, now, &mut output)?;
+        Ok(entries(&output, lent::CLOSEST_VALUES_ENTRY, count, |bytes| ClosestValue {
+            key: layout::key_in(bytes),
+            value: layout::value_in(&bytes[KEY..]).into(),
+        }))
+    }
+
+    pub fn closest_values_predicate(
+        &mut self,
+        target: &Key,
+        predicate: Predicate,
+        n: usize,
+        now: u64,
+    ) -> Result<Vec<PredicateValue>, Refusal> {
+        let mut output = room(n, lent::CLOSEST_VALUES_PREDICATE_ENTRY);
+        let count = lent::closest_values_predicate(&mut self.storage, target, predicate.into(), n, now, &mut output)?;
+        Ok(entries(&output, lent::CLOSEST_VALUES_PREDICATE_ENTRY, count, |bytes| PredicateValue {
+            key: layout::key_in(bytes),
+            predicate_match: bytes[KEY] == 1,
+            value: layout::value_in(&bytes[KEY + 1..]).into(),
+        }))
+    }
+
+    /// Takes the oldest record of a pending node that was applied.
+    pub fn take_applied_pending(&mut self) -> Result<Option<AppliedPending>, Refusal> {
+        Ok(lent::take_applied_pending(&mut self.storage)?.map(AppliedPending::from))
+    }
+}
+
+/// The dump of the storage, as kbtable writes it.
+impl fmt::Debug for KBucketsTable {
+    fn fmt(&self, f: &mut fmt::Formatter<'_>) -> fmt::Result {
+        if self.storage.len() != STORAGE_BYTES {
+            return write!(f, "no table: {} bytes", self.storage.len());
+        }
+        let mut dump = Vec::new();
+        TableBytes(self.storage.clone()).dump(&mut dump);
+        f.write_str(String::from_utf8_lossy(&dump).trim_end())
+    }
+}
+
+impl From<Predicate> for PredicateCodes {
+    fn from(predicate: Predicate) -> PredicateCodes {
+        match predicate {
+            Predicate::Always => PredicateCodes { predicate: 0, ..PredicateCodes::default() },
+            Predicate::HasAddress => PredicateCodes { predicate: 1, ..PredicateCodes::default() },
+            Predicate::InNet(net) => PredicateCodes { predicate: 2, net, slot: 0 },
+            Predicate::Slot(slot) => PredicateCodes { predicate: 3, net: [0; 3], slot },
+        }
+    }
+}
+
+impl From<RecordCodes> for AppliedPending {
+    fn from(record: RecordCodes) -> AppliedPending {
+        AppliedPending { inserted: record.inserted, evicted: record.evicted.map(Node::from) }
+    }
+}
+
+/// The code of an option.
+fn given(code: Option<u8>) -> u8 {
+    code.unwrap_or(NOT_GIVEN)
+}
+
+/// An output for n entries; a greater n than the most is refused, whatever the output.
+fn room(n: usize, entry: usize) -> Vec<u8> {
+    vec![0; n.min(MAX_COUNT) * entry]
+}
+
+fn entries<T>(output: &[u8], entry: usize, count: usize, read: impl Fn(&[u8]) -> T) -> Vec<T> {
+    output.chunks_exact(entry).take(count).map(read).collect()
+}
+
+fn node(bytes: &[u8]) -> Node {
+    layout::node_in(bytes).into()
+}

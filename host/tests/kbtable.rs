@@ -1,0 +1,98 @@
+//! The tool answers the twelve positions and the questions of document 01, refuses bad lines, and explains itself.
+
+#[path = "../../compare/tests/programs/mod.rs"]
+mod programs;
+
+const KBTABLE: &str = env!("CARGO_BIN_EXE_kbtable");
+
+fn answers(arguments: &[&str], text: &str) -> String {
+    let run = programs::run(KBTABLE, arguments, text);
+    assert!(run.status.success(), "{}", String::from_utf8_lossy(&run.stderr));
+    String::from_utf8(run.stdout).unwrap()
+}
+
+#[test]
+fn twelve_positions() {
+    programs::answers_as_written(KBTABLE, "rows.txt");
+}
+
+#[test]
+fn questions() {
+    programs::answers_as_written(KBTABLE, "questions.txt");
+}
+
+/// Each outcome of each call, by the fewest lines that reach it, as the Rust answers them.
+#[test]
+fn outcomes() {
+    programs::answers_as_written(KBTABLE, "../../host/tests/outcomes.txt");
+}
+
+#[test]
+fn example() {
+    programs::answers_as_written(KBTABLE, "../../host/examples/slash24.calls");
+}
+
+#[test]
+fn bad_lines() {
+    programs::refuses_bad_lines(KBTABLE);
+}
+
+#[test]
+fn a_message_says_what_is_wrong() {
+    let run = programs::run(KBTABLE, &[], "new :0 10 16 0 0\nremove :4\n");
+    assert_eq!(run.status.code(), Some(1));
+    assert_eq!(String::from_utf8(run.stdout).unwrap(), "New\n");
+    assert_eq!(
+        String::from_utf8(run.stderr).unwrap(),
+        "kbtable: line 2: \"remove :4\": no number: \":4\"; its form is: remove NOW KEY\n"
+    );
+    let run = programs::run(KBTABLE, &["--dmup"], "dump\n");
+    assert_eq!(run.status.code(), Some(1));
+    assert!(run.stdout.is_empty());
+    assert!(String::from_utf8(run.stderr).unwrap().contains("\"--dmup\" is no option; see kbtable --help"));
+}
+
+/// The example of --help is a command that runs and finds the node.
+#[test]
+fn help() {
+    let help = answers(&["--help"], "");
+    for name in ["insert_or_update", "closest_values_predicate", "b_apply_pending", "raw_record", "--dump", "out=K"] {
+        assert!(help.contains(name), "{name}");
+    }
+    let example = help.lines().find(|line| line.ends_with("| kbtable")).unwrap();
+    let folder = std::path::Path::new(KBTABLE).parent().unwrap();
+    let path = format!("{}:{}", folder.display(), std::env::var("PATH").unwrap());
+    let run = std::process::Command::new("sh").args(["-c", example]).env("PATH", path).output().unwrap();
+    let answers = String::from_utf8(run.stdout).unwrap();
+    assert_eq!(answers, format!("New\nInserted\nList 1 {:0>64}\n", 4));
+}
+
+/// A dump follows each call on the table, bdump each b_ call; nothing follows a raw line or a dump.
+#[test]
+fn dumps() {
+    let answers = answers(
+        &["--dump"],
+        "raw_node b :1 0:0.0.0.0:1 0 0\nraw_fcp b -\ndump\nb_remove 0 :1\nbdump\nentry 0 :0\n! b_new 1 1 1\n! new :1 1 1 1 1\n",
+    );
+    let dump = format!("dump local={:0>64} timeout=0 max=0 tf=0 bf=0 queue=[]", 0);
+    let bdump = "bdump timeout=0 max=0 bf=0 {fcp=- nodes=[] pending=-}";
+    let expected =
+        ["Raw", "Raw", &dump, "true", bdump, bdump, "SelfEntry", &dump, "Refused 1", bdump, "Refused 1", &dump];
+    assert_eq!(answers.lines().collect::<Vec<_>>(), expected);
+}
+
+/// An answer comes before the next line is read.
+#[test]
+fn answers_at_once() {
+    use std::io::{BufRead, BufReader, Write};
+    use std::process::{Command, Stdio};
+    let mut child = Command::new(KBTABLE).stdin(Stdio::piped()).stdout(Stdio::piped()).spawn().unwrap();
+    let mut input = child.stdin.take().unwrap();
+    let mut output = BufReader::new(child.stdout.take().unwrap()).lines();
+    for (call, answer) in [("new :0 1 1 0 0", "New"), ("entry 0 :0", "SelfEntry")] {
+        writeln!(input, "{call}").unwrap();
+        assert_eq!(output.next().unwrap().unwrap(), answer);
+    }
+    drop(input);
+    assert!(child.wait().unwrap().success());
+}

@@ -1,0 +1,182 @@
+//! The wrapper: owned tables and buckets, and the calls on lent bytes.
+
+use kbuckets::lent::{self, PredicateCodes, ValueCodes};
+use kbuckets::{
+    AppliedPending, BucketInsertResult, ClosestValue, ConnectionDirection, ConnectionState, Entry, FailureReason,
+    InsertResult, KBucket, KBucketsTable, Node, NodeStatus, Predicate, PredicateValue, Refusal, Settings, UpdateResult,
+    Value,
+};
+
+fn key(first: u8, last: u8) -> [u8; 32] {
+    let mut key = [0; 32];
+    key[0] = first;
+    key[31] = last;
+    key
+}
+
+fn value(last: u8) -> Value {
+    Value { address: Some([10, 0, 0, last].into()), slot: 256 + u16::from(last) }
+}
+
+const CONNECTED: NodeStatus =
+    NodeStatus { state: ConnectionState::Connected, direction: ConnectionDirection::Outgoing };
+const DISCONNECTED: NodeStatus =
+    NodeStatus { state: ConnectionState::Disconnected, direction: ConnectionDirection::Incoming };
+
+fn node(key: [u8; 32], value: Value, status: NodeStatus) -> Node {
+    Node { key, value, status }
+}
+
+/// A full bucket, a node that waits for the place of the only disconnected one, and what becomes of both.
+#[test]
+fn pending() -> Result<(), Refusal> {
+    let settings = Settings { pending_timeout: 50, max_incoming: 1, ..Settings::default() };
+    let mut table = KBucketsTable::new([0; 32], settings)?;
+    assert_eq!(table.insert_or_update(&key(128, 0), value(0), DISCONNECTED, 0)?, InsertResult::Inserted);
+    for i in 1..16 {
+        assert_eq!(table.absent_insert(&key(128, i), value(i), CONNECTED, 0)?, BucketInsertResult::Inserted);
+    }
+    let waiting = key(128, 16);
+    let result = table.insert_or_update(&waiting, value(16), CONNECTED, 100)?;
+    assert_eq!(result, InsertResult::Pending { disconnected: key(128, 0) });
+    assert_eq!(table.entry(&waiting, 149)?, Entry::Pending(CONNECTED));
+    assert_eq!(table.pending_update(&waiting, DISCONNECTED)?, UpdateResult::UpdatedPending);
+    assert_eq!(table.entry(&waiting, 149)?, Entry::Pending(DISCONNECTED));
+    assert_eq!(table.take_applied_pending()?, None);
+    assert_eq!(table.entry(&waiting, 150)?, Entry::Present(DISCONNECTED));
+    let evicted = Some(node(key(128, 0), value(0), DISCONNECTED));
+    assert_eq!(table.take_applied_pending()?, Some(AppliedPending { inserted: waiting, evicted }));
+    assert_eq!(table.take_applied_pending()?, None);
+    assert_eq!(table.present_update(&waiting, ConnectionState::Connected, None)?, UpdateResult::UpdatedAndPromoted);
+    assert_eq!(table.entry(&key(128, 0), 150)?, Entry::Absent);
+    assert_eq!(table.entry(&[0; 32], 150)?, Entry::SelfEntry);
+    assert!(table.remove(&waiting, 150)?);
+    assert!(!table.remove(&waiting, 150)?);
+    Ok(())
+}
+
+#[test]
+fn updates() -> Result<(), Refusal> {
+    let mut table = KBucketsTable::new([0; 32], Settings { table_filter: true, ..Settings::default() })?;
+    let one = key(0, 1);
+    assert_eq!(table.update_node(&one, value(1), None, 0)?, UpdateResult::Failed(FailureReason::KeyNonExistent));
+    assert_eq!(table.insert_or_update(&one, value(1), DISCONNECTED, 0)?, InsertResult::Inserted);
+    assert_eq!(table.update_node(&one, value(1), None, 0)?, UpdateResult::NotModified);
+    assert_eq!(table.update_node(&one, value(2), Some(ConnectionState::Disconnected), 0)?, UpdateResult::Updated);
+    let incoming = Some(ConnectionDirection::Incoming);
+    let result = table.update_node_status(&one, ConnectionState::Connected, incoming, 0)?;
+    assert_eq!(result, UpdateResult::Failed(FailureReason::TooManyIncoming));
+    assert_eq!(table.entry(&one, 0)?, Entry::Absent);
+    Ok(())
+}
+
+#[test]
+fn listings() -> Result<(), Refusal> {
+    let mut table = KBucketsTable::new([0; 32], Settings::default())?;
+    let none = Value { address: None, slot: 9 };
+    let held = [node(key(0, 2), value(2), CONNECTED), node(key(0, 4), none, DISCONNECTED)];
+    for node in held {
+        assert_eq!(table.insert_or_update(&node.key, node.value, node.status, 0)?, InsertResult::Inserted);
+    }
+    assert_eq!(table.iter(4096, 0)?, held);
+    assert_eq!(table.iter(1, 0)?, held[..1]);
+    assert_eq!(table.iter(0, 0)?, []);
+    assert_eq!(table.nodes_by_distances(&[3, 2, 257, 3], 9, 0)?, [held[1], held[0], held[1]]);
+    assert_eq!(table.nodes_by_distances(&[3], 0, 0)?, held[1..]);
+    assert_eq!(table.nodes_by_distances(&[], 9, 0)?, []);
+    let target = key(0, 6);
+    assert_eq!(table.closest_keys(&target, 9, 0)?, [key(0, 4), key(0, 2)]);
+    let values = held.map(|node| ClosestValue { key: node.key, value: node.value });
+    assert_eq!(table.closest_values(&target, 9, 0)?, [values[1], values[0]]);
+    for (predicate, expected) in [
+        (Predicate::Always, [true, true]),
+        (Predicate::HasAddress, [false, true]),
+        (Predicate::InNet([10, 0, 0]), [false, true]),
+        (Predicate::InNet([10, 0, 1]), [false, false]),
+        (Predicate::Slot(9), [true, false]),
+    ] {
+        let found = table.closest_values_predicate(&target, predicate, 9, 0)?;
+        let marked = |node: Node, predicate_match| PredicateValue { key: node.key, value: node.value, predicate_match };
+        assert_eq!(found, [marked(held[1], expected[0]), marked(held[0], expected[1])]);
+    }
+    Ok(())
+}
+
+/// A refused call is its question, and the bytes stay.
+#[test]
+fn refusals() -> Result<(), Refusal> {
+    let too_many = Settings { max_incoming: 17, ..Settings::default() };
+    assert_eq!(KBucketsTable::new([0; 32], too_many).err(), Some(Refusal::Code));
+    assert_eq!(KBucket::new(0, 17, false).err(), Some(Refusal::Code));
+    let mut table = KBucketsTable::new([0; 32], Settings { pending_timeout: 1, ..Settings::default() })?;
+    assert_eq!(table.insert_or_update(&key(0, 2), value(2), CONNECTED, 0)?, InsertResult::Inserted);
+    let before = table.clone();
+    assert_eq!(table.remove(&key(0, 2), u64::MAX), Err(Refusal::Time));
+    assert_eq!(table.iter(4097, 0), Err(Refusal::Output));
+    assert_eq!(table.iter(usize::MAX, 0), Err(Refusal::Output));
+    assert_eq!(table.pending_update(&key(0, 2), CONNECTED), Err(Refusal::Kind));
+    let absent = table.absent_insert(&key(0, 2), value(2), CONNECTED, 0);
+    assert_eq!(absent, Err(Refusal::Kind));
+    assert_eq!(table, before);
+    let held = format!(" b1{{fcp=0 nodes=[{:0>64}/1:10.0.0.2:258/1/0] pending=-}} queue=[]", 2);
+    assert!(format!("{table:?}").ends_with(&held));
+    let mut kept = KBucketsTable::from_storage(table.storage().to_vec());
+    assert_eq!(kept.closest_keys(&[0; 32], 1, 0)?, [key(0, 2)]);
+    let mut bytes = table.storage().to_vec();
+    bytes.pop();
+    assert_eq!(format!("{:?}", KBucketsTable::from_storage(bytes.clone())), "no table: 186027 bytes");
+    assert_eq!(KBucketsTable::from_storage(bytes.clone()).take_applied_pending(), Err(Refusal::Size));
+    bytes.push(1);
+    assert_eq!(KBucketsTable::from_storage(bytes).take_applied_pending(), Err(Refusal::Form));
+    Ok(())
+}
+
+/// Bytes past the entries that are found stay; where the call is refused, all do.
+#[test]
+fn lent_output() -> Result<(), Refusal> {
+    let mut storage = vec![0; lent::STORAGE_BYTES];
+    let none = ValueCodes { flag: 0, octets: [0; 4], slot: 5 };
+    lent::insert_or_update(&mut storage, &key(0, 2), none, 1, 0, 0)?;
+    let mut output = [0xaa; 3 * lent::CLOSEST_VALUES_PREDICATE_ENTRY + 7];
+    let slot = PredicateCodes { predicate: 3, net: [0; 3], slot: 5 };
+    let refused = lent::closest_values_predicate(&mut storage, &[0; 32], slot, 4, 0, &mut output);
+    assert_eq!(refused, Err(Refusal::Output));
+    assert!(output.iter().all(|byte| *byte == 0xaa));
+    assert_eq!(lent::closest_values_predicate(&mut storage, &[0; 32], slot, 3, 0, &mut output)?, 1);
+    let mut entry = key(0, 2).to_vec();
+    entry.extend([1, 0, 0, 0, 0, 0, 0, 5]);
+    assert_eq!(output[..lent::CLOSEST_VALUES_PREDICATE_ENTRY], entry);
+    assert!(output[lent::CLOSEST_VALUES_PREDICATE_ENTRY..].iter().all(|byte| *byte == 0xaa));
+    assert_eq!(lent::remove(&mut storage, &[0; 31], 0), Err(Refusal::Key));
+    assert_eq!(lent::update_node_status(&mut storage, &key(0, 2), 2, 0, 0), Err(Refusal::Code));
+    Ok(())
+}
+
+#[test]
+fn bucket_by_itself() -> Result<(), Refusal> {
+    let mut bucket = KBucket::new(50, 1, true)?;
+    assert_eq!(bucket.insert(node(key(0, 1), value(1), DISCONNECTED), 0)?, BucketInsertResult::Inserted);
+    assert_eq!(bucket.insert(node(key(0, 1), value(1), DISCONNECTED), 0)?, BucketInsertResult::NodeExists);
+    assert_eq!(bucket.insert(node(key(9, 2), value(2), CONNECTED), 0)?, BucketInsertResult::Inserted);
+    assert_eq!(bucket.insert(node(key(7, 3), value(3), CONNECTED), 0)?, BucketInsertResult::FailedFilter);
+    let none = |slot| Value { address: None, slot };
+    for i in 3..17 {
+        let inserted = bucket.insert(node(key(0, i), none(i.into()), CONNECTED), 0)?;
+        assert_eq!(inserted, BucketInsertResult::Inserted);
+    }
+    let waiting = node(key(0, 17), none(17), CONNECTED);
+    assert_eq!(bucket.insert(waiting, 0)?, BucketInsertResult::Pending { disconnected: key(0, 1) });
+    assert_eq!(bucket.insert(node(key(0, 18), none(18), CONNECTED), 0)?, BucketInsertResult::Full);
+    bucket.update_pending(DISCONNECTED)?;
+    assert_eq!(bucket.apply_pending(49)?, None);
+    let evicted = Some(node(key(0, 1), value(1), DISCONNECTED));
+    assert_eq!(bucket.apply_pending(50)?, Some(AppliedPending { inserted: key(0, 17), evicted }));
+    assert_eq!(bucket.update_value(&key(0, 17), none(1))?, UpdateResult::Updated);
+    let promoted = bucket.update_status(&key(0, 17), ConnectionState::Connected, None)?;
+    assert_eq!(promoted, UpdateResult::UpdatedAndPromoted);
+    assert!(bucket.remove(&key(0, 17), 50)?);
+    assert!(format!("{bucket:?}").starts_with("bdump timeout=50 max=1 bf=1 {fcp=0 nodes=["));
+    let mut kept = KBucket::from_bytes(bucket.bytes()[1..].to_vec());
+    assert_eq!(kept.remove(&key(0, 17), 50), Err(Refusal::Size));
+    Ok(())
+}

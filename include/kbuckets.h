@@ -1,0 +1,279 @@
+/* The routing table (k-buckets) of Discovery v5, on storage lent by the host. Link with libkbuckets.a (x86-64).
+ *
+ * Lent memory. Each run of bytes is handed over as a pointer and its length. A pointer is never null, not even with length 0. Runs that
+ * are lent to one call do not overlap; while it runs nobody else writes them, nor reads those that it may write. No call keeps a pointer,
+ * allocates, blocks or has state of its own: a table is its storage and nothing else.
+ *
+ * Numbers in the storage are big-endian, and its unused bytes are zero. Keys are 32 bytes. A table's or a bucket's bytes may be copied,
+ * written to disk and compared; only the calls write them, and a call finds bytes that are not well-formed (question 2).
+ *
+ * What a call returns. KBUCKETS_REFUSED + q: question q failed, the first to fail, and all lent memory keeps its bytes. Otherwise a number
+ * below KBUCKETS_REFUSED: the answer's code, or the number of entries that a listing found. */
+#ifndef KBUCKETS_H
+#define KBUCKETS_H
+
+#include <stddef.h>
+#include <stdint.h>
+
+#ifdef __cplusplus
+extern "C" {
+#endif
+
+/* Sizes in bytes, each from the others. */
+enum {
+    KBUCKETS_KEY_BYTES = 32,
+    KBUCKETS_TIME_BYTES = 8,
+    KBUCKETS_SLOT_BYTES = 2,
+    /* address flag, four octets, slot */
+    KBUCKETS_VALUE_BYTES = 5 + KBUCKETS_SLOT_BYTES,
+    /* key, state, direction, value */
+    KBUCKETS_NODE_BYTES = KBUCKETS_KEY_BYTES + 2 + KBUCKETS_VALUE_BYTES,
+    /* inserted key, evicted flag, evicted node (zero where the flag is 0) */
+    KBUCKETS_RECORD_BYTES = KBUCKETS_KEY_BYTES + 1 + KBUCKETS_NODE_BYTES,
+
+    KBUCKETS_MAX_NODES = 16,
+    KBUCKETS_NUM_BUCKETS = 256,
+    KBUCKETS_MAX_RECORDS = 64,
+
+    /* count, first connected place (the count where no node is connected), the places; pending flag, pending node, deadline */
+    KBUCKETS_STORED_BUCKET_BYTES =
+        2 + KBUCKETS_MAX_NODES * KBUCKETS_NODE_BYTES + 1 + KBUCKETS_NODE_BYTES + KBUCKETS_TIME_BYTES,
+    /* local key, pending timeout, max_incoming, table filter, bucket filter, record count, records */
+    KBUCKETS_HEADER_BYTES =
+        KBUCKETS_KEY_BYTES + KBUCKETS_TIME_BYTES + 4 + KBUCKETS_MAX_RECORDS * KBUCKETS_RECORD_BYTES,
+    /* the storage of a table, 186028: the header, then the buckets 0 to 255 */
+    KBUCKETS_STORAGE_BYTES = KBUCKETS_HEADER_BYTES + KBUCKETS_NUM_BUCKETS * KBUCKETS_STORED_BUCKET_BYTES,
+    /* a bucket by itself, 718: a bucket, then pending timeout, max_incoming, filter */
+    KBUCKETS_BUCKET_BYTES = KBUCKETS_STORED_BUCKET_BYTES + KBUCKETS_TIME_BYTES + 2,
+
+    /* what `answer` must have room for, 74: a record */
+    KBUCKETS_ANSWER_BYTES = KBUCKETS_RECORD_BYTES,
+
+    /* one entry of a listing's output: a node; a node; a key; key and value; key, match (0 or 1) and value */
+    KBUCKETS_ITER_ENTRY_BYTES = KBUCKETS_NODE_BYTES,
+    KBUCKETS_NODES_BY_DISTANCES_ENTRY_BYTES = KBUCKETS_NODE_BYTES,
+    KBUCKETS_CLOSEST_KEYS_ENTRY_BYTES = KBUCKETS_KEY_BYTES,
+    KBUCKETS_CLOSEST_VALUES_ENTRY_BYTES = KBUCKETS_KEY_BYTES + KBUCKETS_VALUE_BYTES,
+    KBUCKETS_CLOSEST_VALUES_PREDICATE_ENTRY_BYTES = KBUCKETS_KEY_BYTES + 1 + KBUCKETS_VALUE_BYTES,
+
+    /* the most entries that a listing may be asked for */
+    KBUCKETS_MAX_COUNT = 4096
+};
+
+/* A slot of the host's record store. */
+typedef uint16_t kbuckets_slot;
+
+/* Codes of the arguments. */
+enum {
+    KBUCKETS_DISCONNECTED = 0, /* state */
+    KBUCKETS_CONNECTED = 1,
+    KBUCKETS_OUTGOING = 0, /* direction */
+    KBUCKETS_INCOMING = 1,
+    KBUCKETS_NOT_GIVEN = 2, /* a state or direction, where a call says that it takes this */
+    KBUCKETS_NO_ADDRESS = 0, /* address flag; the octets are zero then */
+    KBUCKETS_ADDRESS = 1,
+    KBUCKETS_FILTER_OFF = 0,
+    KBUCKETS_FILTER_ON = 1,
+    KBUCKETS_ALWAYS = 0, /* predicate */
+    KBUCKETS_HAS_ADDRESS = 1,
+    KBUCKETS_ADDRESS_IN_NET = 2, /* the address is in the /24 of a, b, c */
+    KBUCKETS_SLOT_EQUALS = 3
+};
+
+/* Refusals. The questions are asked in this order; questions about things that a call lacks are skipped. */
+enum {
+    KBUCKETS_REFUSED = 0x10000,
+    KBUCKETS_REFUSED_SIZE = KBUCKETS_REFUSED + 1,   /* the storage, or the bucket, has another length */
+    KBUCKETS_REFUSED_FORM = KBUCKETS_REFUSED + 2,   /* it holds no well-formed table, or bucket (not asked by `new`) */
+    KBUCKETS_REFUSED_KEY = KBUCKETS_REFUSED + 3,    /* a key is not 32 bytes */
+    KBUCKETS_REFUSED_CODE = KBUCKETS_REFUSED + 4,   /* a code is out of range */
+    KBUCKETS_REFUSED_TIME = KBUCKETS_REFUSED + 5,   /* now + the pending timeout is above 2^64 - 1 */
+    KBUCKETS_REFUSED_OUTPUT = KBUCKETS_REFUSED + 6, /* n is above 4096, or the output or the answer is too short */
+    KBUCKETS_REFUSED_KIND = KBUCKETS_REFUSED + 7,   /* the key is not of the kind that the entry action needs */
+    KBUCKETS_REFUSED_QUEUE = KBUCKETS_REFUSED + 8   /* the call would leave more than 64 records in the queue */
+};
+
+/* Why an update or an insert failed: an answer KBUCKETS_FAILED + reason. */
+enum {
+    KBUCKETS_FAILED = 16,
+    KBUCKETS_FAILED_TOO_MANY_INCOMING = KBUCKETS_FAILED + 0,
+    KBUCKETS_FAILED_BUCKET_FILTER = KBUCKETS_FAILED + 1,
+    KBUCKETS_FAILED_TABLE_FILTER = KBUCKETS_FAILED + 2,
+    KBUCKETS_FAILED_KEY_NON_EXISTENT = KBUCKETS_FAILED + 3,
+    KBUCKETS_FAILED_BUCKET_FULL = KBUCKETS_FAILED + 4,
+    KBUCKETS_FAILED_INVALID_SELF_UPDATE = KBUCKETS_FAILED + 5
+};
+
+/* UpdateResult, or one of KBUCKETS_FAILED_.. */
+enum {
+    KBUCKETS_UPDATE_NOT_MODIFIED = 0,
+    KBUCKETS_UPDATE_UPDATED = 1,
+    KBUCKETS_UPDATE_UPDATED_AND_PROMOTED = 2,
+    KBUCKETS_UPDATE_UPDATED_PENDING = 3
+};
+
+/* InsertResult of kbuckets_insert_or_update, or one of KBUCKETS_FAILED_.. */
+enum {
+    KBUCKETS_INSERT_INSERTED = 0,
+    KBUCKETS_INSERT_PENDING = 1, /* the key of the node that will be evicted stands in the first 32 bytes of `answer` */
+    KBUCKETS_INSERT_STATUS_UPDATED = 2,
+    KBUCKETS_INSERT_STATUS_UPDATED_AND_PROMOTED = 3,
+    KBUCKETS_INSERT_VALUE_UPDATED = 4,
+    KBUCKETS_INSERT_UPDATED = 5,
+    KBUCKETS_INSERT_UPDATED_AND_PROMOTED = 6,
+    KBUCKETS_INSERT_UPDATED_PENDING = 7
+};
+
+/* InsertResult of a bucket: kbuckets_absent_insert, kbuckets_b_insert */
+enum {
+    KBUCKETS_BUCKET_INSERT_INSERTED = 0,
+    KBUCKETS_BUCKET_INSERT_PENDING = 1, /* the key of the node that will be evicted stands in the first 32 bytes of `answer` */
+    KBUCKETS_BUCKET_INSERT_FAILED_FILTER = 2,
+    KBUCKETS_BUCKET_INSERT_TOO_MANY_INCOMING = 3,
+    KBUCKETS_BUCKET_INSERT_FULL = 4,
+    KBUCKETS_BUCKET_INSERT_NODE_EXISTS = 5
+};
+
+/* The kind of an entry. To Present and Pending, 2 * state + direction is added. */
+enum {
+    KBUCKETS_ENTRY_ABSENT = 0,
+    KBUCKETS_ENTRY_SELF = 1,
+    KBUCKETS_ENTRY_PRESENT = 16,
+    KBUCKETS_ENTRY_PENDING = 32
+};
+
+/* kbuckets_remove, kbuckets_b_remove */
+enum {
+    KBUCKETS_REMOVE_NOT_HELD = 0,
+    KBUCKETS_REMOVE_REMOVED = 1
+};
+
+/* kbuckets_take_applied_pending, kbuckets_b_apply_pending */
+enum {
+    KBUCKETS_APPLIED_NONE = 0,
+    KBUCKETS_APPLIED_RECORD = 1 /* the record's 74 bytes stand in `answer`: inserted key, evicted flag, evicted node */
+};
+
+/* The table. `storage` is KBUCKETS_STORAGE_BYTES; `now` is a count of milliseconds, and may go back. A pending whose deadline has come is
+ * applied by the first call about its bucket that is given `now` and is no entry action; each one applied is a record in the queue. A
+ * value is address flag, octets a, b, c, d, and slot. */
+
+/* Makes the storage, whatever it held, that of an empty table. max_incoming: 0 to 16. Answers 0. Questions 1, 3, 4. */
+uint32_t kbuckets_new(
+    uint8_t *storage, size_t storage_len, const uint8_t *local_key, size_t local_key_len, uint64_t pending_timeout,
+    uint8_t max_incoming, uint8_t table_filter, uint8_t bucket_filter);
+
+/* Sets the status of the key's node, which moves behind the others of its state, or of the key's pending. direction: also NOT_GIVEN. Where
+ * it fails for another reason than KEY_NON_EXISTENT the node is taken out. The local key answers NOT_MODIFIED.
+ * Answers an UpdateResult. Questions 1 to 5, 8. */
+uint32_t kbuckets_update_node_status(
+    uint8_t *storage, size_t storage_len, const uint8_t *key, size_t key_len, uint8_t state, uint8_t direction, uint64_t now);
+
+/* Sets the value of the key's node or pending, and the state where it is given (state: also NOT_GIVEN). Where it fails for another reason
+ * than KEY_NON_EXISTENT the node is taken out. The local key answers NOT_MODIFIED. Answers an UpdateResult. Questions 1 to 5, 8. */
+uint32_t kbuckets_update_node(
+    uint8_t *storage, size_t storage_len, const uint8_t *key, size_t key_len, uint8_t flag, uint8_t a, uint8_t b, uint8_t c, uint8_t d,
+    kbuckets_slot slot, uint8_t state, uint64_t now);
+
+/* Inserts a node, or sets status and value of the key's node. The local key answers FAILED_INVALID_SELF_UPDATE. Where setting either
+ * fails, or the table filter does, the key's node is taken out. `answer` is at least KBUCKETS_ANSWER_BYTES; only its first 32 bytes are
+ * written, and only where the answer is PENDING. Answers an InsertResult. Questions 1 to 6, 8. */
+uint32_t kbuckets_insert_or_update(
+    uint8_t *storage, size_t storage_len, const uint8_t *key, size_t key_len, uint8_t flag, uint8_t a, uint8_t b, uint8_t c, uint8_t d,
+    kbuckets_slot slot, uint8_t state, uint8_t direction, uint64_t now, uint8_t *answer, size_t answer_len);
+
+/* Takes the key's node out. A pending of the key stays. Answers REMOVE_REMOVED, or REMOVE_NOT_HELD, as for the local key.
+ * Questions 1, 2, 3, 5, 8. */
+uint32_t kbuckets_remove(uint8_t *storage, size_t storage_len, const uint8_t *key, size_t key_len, uint64_t now);
+
+/* What the key is in the table. Answers ENTRY_ABSENT, ENTRY_SELF (the local key), ENTRY_PRESENT + 2 * state + direction or
+ * ENTRY_PENDING + 2 * state + direction. Questions 1, 2, 3, 5, 8. */
+uint32_t kbuckets_entry(uint8_t *storage, size_t storage_len, const uint8_t *key, size_t key_len, uint64_t now);
+
+/* The entry actions. Each names the key again, applies no pending, and is refused with KIND where the key is not of its kind. */
+
+/* Of a Present key: sets the status, as kbuckets_update_node_status. direction: also NOT_GIVEN.
+ * Answers an UpdateResult. Questions 1 to 4, 7. */
+uint32_t kbuckets_present_update(
+    uint8_t *storage, size_t storage_len, const uint8_t *key, size_t key_len, uint8_t state, uint8_t direction);
+
+/* Of a Pending key: sets the pending's status. Answers UPDATE_UPDATED_PENDING. Questions 1 to 4, 7. */
+uint32_t kbuckets_pending_update(
+    uint8_t *storage, size_t storage_len, const uint8_t *key, size_t key_len, uint8_t state, uint8_t direction);
+
+/* Of an Absent key: inserts a node; the table filter is skipped. `answer` as for kbuckets_insert_or_update.
+ * Answers a bucket's InsertResult. Questions 1 to 7. */
+uint32_t kbuckets_absent_insert(
+    uint8_t *storage, size_t storage_len, const uint8_t *key, size_t key_len, uint8_t flag, uint8_t a, uint8_t b, uint8_t c, uint8_t d,
+    kbuckets_slot slot, uint8_t state, uint8_t direction, uint64_t now, uint8_t *answer, size_t answer_len);
+
+/* The listings. Each writes at most n entries to `output`, one behind the other, and answers how many it found. The output has room for n
+ * entries (one, in kbuckets_nodes_by_distances at n = 0); bytes past the entries found stay. The due pendings of the buckets visited are
+ * applied first. */
+
+/* All nodes, bucket by bucket, each in stored order. Questions 1, 2, 5, 6, 8. */
+uint32_t kbuckets_iter(uint8_t *storage, size_t storage_len, size_t n, uint64_t now, uint8_t *output, size_t output_len);
+
+/* The nodes of the buckets at these log2 distances, in the order given, repeats included. Distances outside 1 to 256 are dropped; n = 0
+ * still gives one node. Questions 1, 2, 5, 6, 8. */
+uint32_t kbuckets_nodes_by_distances(
+    uint8_t *storage, size_t storage_len, const uint64_t *distances, size_t distances_len, size_t n, uint64_t now, uint8_t *output,
+    size_t output_len);
+
+/* The keys nearest to the target, nearest first. When the local key and the target are equal or their last bits differ, the node of bucket
+ * 0 stands a second time right behind itself; so it does in the two calls below. Questions 1, 2, 3, 5, 6, 8. */
+uint32_t kbuckets_closest_keys(
+    uint8_t *storage, size_t storage_len, const uint8_t *target, size_t target_len, size_t n, uint64_t now, uint8_t *output,
+    size_t output_len);
+
+/* The same, each key with its value. Questions 1, 2, 3, 5, 6, 8. */
+uint32_t kbuckets_closest_values(
+    uint8_t *storage, size_t storage_len, const uint8_t *target, size_t target_len, size_t n, uint64_t now, uint8_t *output,
+    size_t output_len);
+
+/* The same, each with a byte that says whether the value matches the predicate. a, b, c are looked at for ADDRESS_IN_NET only, slot for
+ * SLOT_EQUALS only. Questions 1 to 6, 8. */
+uint32_t kbuckets_closest_values_predicate(
+    uint8_t *storage, size_t storage_len, const uint8_t *target, size_t target_len, uint8_t predicate, uint8_t a, uint8_t b, uint8_t c,
+    kbuckets_slot slot, size_t n, uint64_t now, uint8_t *output, size_t output_len);
+
+/* Takes the oldest record of an applied pending out of the queue. `answer` is at least KBUCKETS_ANSWER_BYTES. Answers APPLIED_RECORD with
+ * the record in `answer`, or APPLIED_NONE. Questions 1, 2, 6. */
+uint32_t kbuckets_take_applied_pending(uint8_t *storage, size_t storage_len, uint8_t *answer, size_t answer_len);
+
+/* A bucket by itself. `bucket` is KBUCKETS_BUCKET_BYTES: what a table stores of a bucket, then pending timeout, max_incoming and filter.
+ * Question 2 asks nothing of the index of its keys. */
+
+/* Makes the bytes, whatever they were, an empty bucket. max_incoming: 0 to 16. Answers 0. Questions 1, 4. */
+uint32_t kbuckets_b_new(uint8_t *bucket, size_t bucket_len, uint64_t pending_timeout, uint8_t max_incoming, uint8_t filter);
+
+/* Inserts a node, or makes it the pending. `answer` as for kbuckets_insert_or_update. Answers a bucket's InsertResult. Questions 1 to 6. */
+uint32_t kbuckets_b_insert(
+    uint8_t *bucket, size_t bucket_len, const uint8_t *key, size_t key_len, uint8_t flag, uint8_t a, uint8_t b, uint8_t c, uint8_t d,
+    kbuckets_slot slot, uint8_t state, uint8_t direction, uint64_t now, uint8_t *answer, size_t answer_len);
+
+/* Applies the pending if its deadline has come. Answers APPLIED_RECORD with the record in `answer`, or APPLIED_NONE where none is due or
+ * it was dropped. Questions 1, 2, 5, 6. */
+uint32_t kbuckets_b_apply_pending(uint8_t *bucket, size_t bucket_len, uint64_t now, uint8_t *answer, size_t answer_len);
+
+/* Sets the status of the key's node or pending. direction: also NOT_GIVEN. Answers an UpdateResult. Questions 1 to 4. */
+uint32_t kbuckets_b_update_status(
+    uint8_t *bucket, size_t bucket_len, const uint8_t *key, size_t key_len, uint8_t state, uint8_t direction);
+
+/* Sets the value of the key's node or pending. Answers an UpdateResult. Questions 1 to 4. */
+uint32_t kbuckets_b_update_value(
+    uint8_t *bucket, size_t bucket_len, const uint8_t *key, size_t key_len, uint8_t flag, uint8_t a, uint8_t b, uint8_t c, uint8_t d,
+    kbuckets_slot slot);
+
+/* Sets the status of the pending, if there is one. Answers 0. Questions 1, 2, 4. */
+uint32_t kbuckets_b_update_pending(uint8_t *bucket, size_t bucket_len, uint8_t state, uint8_t direction);
+
+/* Takes the key's node out, then applies a due pending, without a record. Answers REMOVE_REMOVED or REMOVE_NOT_HELD; with NOT_HELD nothing
+ * is applied. Questions 1, 2, 3, 5. */
+uint32_t kbuckets_b_remove(uint8_t *bucket, size_t bucket_len, const uint8_t *key, size_t key_len, uint64_t now);
+
+#ifdef __cplusplus
+}
+#endif
+
+#endif

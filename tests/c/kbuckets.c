@@ -1,0 +1,240 @@
+/* Uses libkbuckets.a through its header: every export, every refusal, and the rows of document 01 that a host can see. */
+#include "kbuckets.h"
+
+#include <stdio.h>
+#include <string.h>
+
+#ifdef __cplusplus
+#define ASSERT_SIZE(n, m) static_assert((n) == (m), #n)
+#else
+#define ASSERT_SIZE(n, m) _Static_assert((n) == (m), #n)
+#endif
+
+ASSERT_SIZE(KBUCKETS_STORAGE_BYTES, 186028);
+ASSERT_SIZE(KBUCKETS_BUCKET_BYTES, 718);
+ASSERT_SIZE(KBUCKETS_ANSWER_BYTES, 74);
+ASSERT_SIZE(KBUCKETS_ITER_ENTRY_BYTES, 41);
+ASSERT_SIZE(KBUCKETS_NODES_BY_DISTANCES_ENTRY_BYTES, 41);
+ASSERT_SIZE(KBUCKETS_CLOSEST_KEYS_ENTRY_BYTES, 32);
+ASSERT_SIZE(KBUCKETS_CLOSEST_VALUES_ENTRY_BYTES, 39);
+ASSERT_SIZE(KBUCKETS_CLOSEST_VALUES_PREDICATE_ENTRY_BYTES, 40);
+
+static unsigned checks, failures;
+
+static void check(int line, uint64_t got, uint64_t expected) {
+    checks++;
+    if (got != expected) {
+        failures++;
+        printf("line %d: %llx, expected %llx\n", line, (unsigned long long)got, (unsigned long long)expected);
+    }
+}
+
+#define CHECK(got, expected) check(__LINE__, (uint64_t)(got), (uint64_t)(expected))
+
+static uint8_t table[KBUCKETS_STORAGE_BYTES], before[KBUCKETS_STORAGE_BYTES];
+static uint8_t bucket[KBUCKETS_BUCKET_BYTES];
+static uint8_t answer[KBUCKETS_ANSWER_BYTES + 1];
+static uint8_t output[KBUCKETS_MAX_COUNT * KBUCKETS_NODE_BYTES];
+static uint8_t key[KBUCKETS_KEY_BYTES];
+
+enum { TIMEOUT = 60000, UNTOUCHED = 0xA5 };
+
+/* The key of a number; with local key zero, a key is its distance. */
+static const uint8_t *of(unsigned n) {
+    memset(key, 0, sizeof key);
+    key[30] = (uint8_t)(n >> 8);
+    key[31] = (uint8_t)n;
+    return key;
+}
+
+static unsigned last(const uint8_t *k) {
+    for (int i = 0; i < 30; i++) CHECK(k[i], 0);
+    return (unsigned)k[30] << 8 | k[31];
+}
+
+static void new_table(void) {
+    uint8_t zero[KBUCKETS_KEY_BYTES] = {0};
+    CHECK(kbuckets_new(table, sizeof table, zero, sizeof zero, TIMEOUT, 16, KBUCKETS_FILTER_OFF, KBUCKETS_FILTER_OFF), 0);
+}
+
+static uint32_t put(unsigned n, uint8_t state, uint8_t direction, uint64_t now) {
+    return kbuckets_insert_or_update(
+        table, sizeof table, of(n), KBUCKETS_KEY_BYTES, KBUCKETS_NO_ADDRESS, 0, 0, 0, 0, (kbuckets_slot)n, state, direction, now, answer,
+        sizeof answer);
+}
+
+static void refusals(void) {
+    uint8_t target[KBUCKETS_KEY_BYTES] = {0};
+    memset(table, UNTOUCHED, sizeof table);
+    CHECK(kbuckets_iter(table, sizeof table, 1, 0, output, sizeof output), KBUCKETS_REFUSED_FORM);
+    CHECK(kbuckets_new(table, sizeof table - 1, target, 32, 0, 16, 0, 0), KBUCKETS_REFUSED_SIZE);
+    CHECK(kbuckets_new(table, sizeof table, target, 31, 0, 16, 0, 0), KBUCKETS_REFUSED_KEY);
+    CHECK(kbuckets_new(table, sizeof table, target, 32, 0, 17, 0, 0), KBUCKETS_REFUSED_CODE);
+    for (size_t i = 0; i < sizeof table; i += 997) CHECK(table[i], UNTOUCHED);
+    new_table();
+    memcpy(before, table, sizeof table);
+    CHECK(kbuckets_remove(table, sizeof table, target, 33, 0), KBUCKETS_REFUSED_KEY);
+    CHECK(kbuckets_remove(table, sizeof table, target, 32, UINT64_MAX), KBUCKETS_REFUSED_TIME);
+    CHECK(kbuckets_entry(table, sizeof table - 1, target, 32, 0), KBUCKETS_REFUSED_SIZE);
+    CHECK(kbuckets_update_node_status(table, sizeof table, target, 32, 2, 0, 0), KBUCKETS_REFUSED_CODE);
+    CHECK(kbuckets_update_node_status(table, sizeof table, target, 32, 1, 3, 0), KBUCKETS_REFUSED_CODE);
+    CHECK(kbuckets_update_node(table, sizeof table, target, 32, 0, 0, 0, 0, 1, 0, 2, 0), KBUCKETS_REFUSED_CODE);
+    CHECK(kbuckets_iter(table, sizeof table, 4097, 0, output, sizeof output), KBUCKETS_REFUSED_OUTPUT);
+    CHECK(kbuckets_closest_keys(table, sizeof table, target, 32, 3, 0, output, 95), KBUCKETS_REFUSED_OUTPUT);
+    CHECK(kbuckets_closest_values(table, sizeof table, target, 32, 1, 0, output, 38), KBUCKETS_REFUSED_OUTPUT);
+    CHECK(kbuckets_closest_values_predicate(table, sizeof table, target, 32, 4, 0, 0, 0, 0, 1, 0, output, 40), KBUCKETS_REFUSED_CODE);
+    uint64_t distances[1] = {1};
+    CHECK(kbuckets_nodes_by_distances(table, sizeof table, distances, 1, 0, 0, output, 40), KBUCKETS_REFUSED_OUTPUT);
+    memset(answer, UNTOUCHED, sizeof answer);
+    CHECK(kbuckets_take_applied_pending(table, sizeof table, answer, 73), KBUCKETS_REFUSED_OUTPUT);
+    CHECK(kbuckets_take_applied_pending(table, 5, answer, 73), KBUCKETS_REFUSED_SIZE);
+    CHECK(kbuckets_insert_or_update(table, sizeof table, of(4), 32, 0, 0, 0, 0, 0, 4, 1, 0, 0, answer, 73), KBUCKETS_REFUSED_OUTPUT);
+    CHECK(kbuckets_insert_or_update(table, sizeof table, of(4), 32, 2, 0, 0, 0, 0, 4, 1, 0, 0, answer, 73), KBUCKETS_REFUSED_CODE);
+    CHECK(kbuckets_absent_insert(table, sizeof table, of(4), 32, 0, 0, 0, 0, 0, 4, 1, 0, 0, answer, 73), KBUCKETS_REFUSED_OUTPUT);
+    CHECK(kbuckets_present_update(table, sizeof table, of(4), 32, 1, 0), KBUCKETS_REFUSED_KIND);
+    CHECK(kbuckets_pending_update(table, sizeof table, of(4), 32, 1, 0), KBUCKETS_REFUSED_KIND);
+    CHECK(kbuckets_absent_insert(table, sizeof table, of(0), 32, 0, 0, 0, 0, 0, 4, 1, 0, 0, answer, 74), KBUCKETS_REFUSED_KIND);
+    CHECK(memcmp(before, table, sizeof table), 0);
+    for (size_t i = 0; i < sizeof answer; i++) CHECK(answer[i], UNTOUCHED);
+}
+
+/* Rows 3, 4 and 11, and the answers on the local key. */
+static void listings(void) {
+    new_table();
+    CHECK(put(0, 1, 0, 0), KBUCKETS_FAILED_INVALID_SELF_UPDATE);
+    CHECK(kbuckets_entry(table, sizeof table, of(0), 32, 0), KBUCKETS_ENTRY_SELF);
+    CHECK(kbuckets_remove(table, sizeof table, of(0), 32, 0), KBUCKETS_REMOVE_NOT_HELD);
+    CHECK(kbuckets_update_node_status(table, sizeof table, of(0), 32, 1, KBUCKETS_NOT_GIVEN, 0), KBUCKETS_UPDATE_NOT_MODIFIED);
+    CHECK(put(1, 1, 0, 0), KBUCKETS_INSERT_INSERTED);
+    CHECK(put(4, 0, 1, 0), KBUCKETS_INSERT_INSERTED);
+    CHECK(put(6, 1, 1, 0), KBUCKETS_INSERT_INSERTED);
+    CHECK(kbuckets_entry(table, sizeof table, of(4), 32, 0), KBUCKETS_ENTRY_PRESENT + 1);
+    CHECK(kbuckets_entry(table, sizeof table, of(6), 32, 0), KBUCKETS_ENTRY_PRESENT + 3);
+    CHECK(kbuckets_entry(table, sizeof table, of(2), 32, 0), KBUCKETS_ENTRY_ABSENT);
+    memset(output, UNTOUCHED, sizeof output);
+    CHECK(kbuckets_closest_keys(table, sizeof table, of(5), 32, 9, 0, output, sizeof output), 4);
+    CHECK(last(output), 4);
+    CHECK(last(output + 32), 6);
+    CHECK(last(output + 64), 1);
+    CHECK(last(output + 96), 1);
+    CHECK(output[128], UNTOUCHED);
+    CHECK(kbuckets_closest_values(table, sizeof table, of(5), 32, 2, 0, output, sizeof output), 2);
+    CHECK(last(output + KBUCKETS_CLOSEST_VALUES_ENTRY_BYTES), 6);
+    CHECK(output[38], 4);
+    CHECK(
+        kbuckets_closest_values_predicate(
+            table, sizeof table, of(5), 32, KBUCKETS_SLOT_EQUALS, 0, 0, 0, 6, 3, 0, output, sizeof output),
+        3);
+    CHECK(output[32], 0);
+    CHECK(output[KBUCKETS_CLOSEST_VALUES_PREDICATE_ENTRY_BYTES + 32], 1);
+    CHECK(kbuckets_iter(table, sizeof table, 9, 0, output, sizeof output), 3);
+    CHECK(last(output), 1);
+    CHECK(last(output + KBUCKETS_ITER_ENTRY_BYTES), 4);
+    CHECK(last(output + 2 * KBUCKETS_ITER_ENTRY_BYTES), 6);
+    CHECK(kbuckets_remove(table, sizeof table, of(6), 32, 0), KBUCKETS_REMOVE_REMOVED);
+    CHECK(kbuckets_remove(table, sizeof table, of(1), 32, 0), KBUCKETS_REMOVE_REMOVED);
+    uint64_t distances[3] = {3, 3, 257};
+    CHECK(kbuckets_nodes_by_distances(table, sizeof table, distances, 3, 5, 0, output, sizeof output), 2);
+    CHECK(last(output), 4);
+    CHECK(last(output + KBUCKETS_NODES_BY_DISTANCES_ENTRY_BYTES), 4);
+    CHECK(kbuckets_nodes_by_distances(table, sizeof table, distances, 3, 0, 0, output, KBUCKETS_NODE_BYTES), 1);
+}
+
+/* Rows 6 and 9, in a table: a pending, its actions, and its record. */
+static void pendings(void) {
+    new_table();
+    CHECK(put(256, 0, 0, 100), KBUCKETS_INSERT_INSERTED);
+    for (unsigned i = 1; i < 16; i++) CHECK(put(256 + i, 1, 0, 100), KBUCKETS_INSERT_INSERTED);
+    memset(answer, UNTOUCHED, sizeof answer);
+    CHECK(kbuckets_absent_insert(table, sizeof table, of(300), 32, 0, 0, 0, 0, 0, 7, 1, 0, 100, answer, sizeof answer), KBUCKETS_BUCKET_INSERT_PENDING);
+    CHECK(last(answer), 256);
+    CHECK(answer[32], UNTOUCHED);
+    CHECK(put(301, 1, 0, 100), KBUCKETS_FAILED_BUCKET_FULL);
+    CHECK(kbuckets_entry(table, sizeof table, of(300), 32, 60099), KBUCKETS_ENTRY_PENDING + 2);
+    CHECK(kbuckets_pending_update(table, sizeof table, of(300), 32, 1, 1), KBUCKETS_UPDATE_UPDATED_PENDING);
+    CHECK(kbuckets_update_node(table, sizeof table, of(300), 32, 0, 0, 0, 0, 0, 8, KBUCKETS_NOT_GIVEN, 60099), KBUCKETS_UPDATE_UPDATED_PENDING);
+    CHECK(kbuckets_entry(table, sizeof table, of(300), 32, 60100), KBUCKETS_ENTRY_PRESENT + 3);
+    CHECK(kbuckets_present_update(table, sizeof table, of(300), 32, 0, KBUCKETS_NOT_GIVEN), KBUCKETS_UPDATE_UPDATED);
+    CHECK(kbuckets_present_update(table, sizeof table, of(300), 32, 1, KBUCKETS_OUTGOING), KBUCKETS_UPDATE_UPDATED_AND_PROMOTED);
+    CHECK(put(300, 1, 0, 60100), KBUCKETS_INSERT_VALUE_UPDATED);
+    CHECK(put(300, 1, 0, 60100), KBUCKETS_INSERT_UPDATED);
+    CHECK(put(300, 0, 0, 60100), KBUCKETS_INSERT_STATUS_UPDATED);
+    CHECK(put(300, 1, 0, 60100), KBUCKETS_INSERT_STATUS_UPDATED_AND_PROMOTED);
+    CHECK(kbuckets_take_applied_pending(table, sizeof table, answer, sizeof answer), KBUCKETS_APPLIED_RECORD);
+    CHECK(last(answer), 300);
+    CHECK(answer[32], 1);
+    CHECK(last(answer + 33), 256);
+    CHECK(answer[73], 0);
+    CHECK(answer[72], 1);
+    CHECK(answer[74], UNTOUCHED);
+    CHECK(kbuckets_take_applied_pending(table, sizeof table, answer, sizeof answer), KBUCKETS_APPLIED_NONE);
+    CHECK(kbuckets_update_node(table, sizeof table, of(256), 32, 0, 0, 0, 0, 0, 8, 1, 60100), KBUCKETS_FAILED_KEY_NON_EXISTENT);
+}
+
+static uint32_t b_put(unsigned n, uint8_t state, uint8_t direction, uint64_t now) {
+    return kbuckets_b_insert(bucket, sizeof bucket, of(n), 32, 0, 0, 0, 0, 0, (kbuckets_slot)n, state, direction, now, answer, sizeof answer);
+}
+
+/* Rows 6, 8, 9, 10 and 12, on a bucket by itself. */
+static void buckets(void) {
+    memset(bucket, UNTOUCHED, sizeof bucket);
+    CHECK(kbuckets_b_remove(bucket, sizeof bucket, of(1), 32, 0), KBUCKETS_REFUSED_FORM);
+    CHECK(kbuckets_b_new(bucket, sizeof bucket + 1, TIMEOUT, 16, 0), KBUCKETS_REFUSED_SIZE);
+    CHECK(kbuckets_b_new(bucket, sizeof bucket, TIMEOUT, 17, 0), KBUCKETS_REFUSED_CODE);
+    CHECK(bucket[0], UNTOUCHED);
+    CHECK(kbuckets_b_new(bucket, sizeof bucket, TIMEOUT, 0, 0), 0);
+    CHECK(b_put(1, 1, 1, 0), KBUCKETS_BUCKET_INSERT_TOO_MANY_INCOMING);
+    CHECK(b_put(1, 0, 1, 0), KBUCKETS_BUCKET_INSERT_INSERTED);
+    CHECK(b_put(1, 0, 1, 0), KBUCKETS_BUCKET_INSERT_NODE_EXISTS);
+    CHECK(kbuckets_b_insert(bucket, sizeof bucket, of(2), 31, 2, 0, 0, 0, 0, 0, 0, 0, 0, answer, 0), KBUCKETS_REFUSED_KEY);
+    CHECK(kbuckets_b_insert(bucket, sizeof bucket, of(2), 32, 2, 0, 0, 0, 0, 0, 0, 0, 0, answer, 0), KBUCKETS_REFUSED_CODE);
+    CHECK(kbuckets_b_insert(bucket, sizeof bucket, of(2), 32, 0, 0, 0, 0, 0, 0, 0, 0, UINT64_MAX, answer, 0), KBUCKETS_REFUSED_TIME);
+    CHECK(kbuckets_b_insert(bucket, sizeof bucket, of(2), 32, 0, 0, 0, 0, 0, 0, 0, 0, 0, answer, 73), KBUCKETS_REFUSED_OUTPUT);
+
+    CHECK(kbuckets_b_new(bucket, sizeof bucket, TIMEOUT, 16, 0), 0);
+    CHECK(b_put(1, 1, 0, 0), 0);
+    CHECK(b_put(2, 1, 0, 0), 0);
+    CHECK(kbuckets_b_update_status(bucket, sizeof bucket, of(1), 32, 1, KBUCKETS_NOT_GIVEN), KBUCKETS_UPDATE_NOT_MODIFIED);
+    CHECK(last(bucket + 2), 2);
+    CHECK(last(bucket + 2 + KBUCKETS_NODE_BYTES), 1);
+    CHECK(kbuckets_b_update_value(bucket, sizeof bucket, of(1), 32, 1, 10, 0, 0, 1, 1), KBUCKETS_UPDATE_UPDATED);
+    CHECK(kbuckets_b_update_value(bucket, sizeof bucket, of(1), 32, 1, 10, 0, 0, 1, 1), KBUCKETS_UPDATE_NOT_MODIFIED);
+    CHECK(kbuckets_b_update_value(bucket, sizeof bucket, of(9), 32, 1, 10, 0, 0, 1, 1), KBUCKETS_FAILED_KEY_NON_EXISTENT);
+    CHECK(kbuckets_b_remove(bucket, sizeof bucket, of(9), 32, 0), KBUCKETS_REMOVE_NOT_HELD);
+    CHECK(kbuckets_b_remove(bucket, sizeof bucket, of(1), 32, 0), KBUCKETS_REMOVE_REMOVED);
+    CHECK(bucket[0], 1);
+
+    CHECK(kbuckets_b_new(bucket, sizeof bucket, TIMEOUT, 16, 0), 0);
+    CHECK(b_put(1, 0, 0, 100), 0);
+    for (unsigned i = 2; i <= 16; i++) CHECK(b_put(i, 1, 0, 100), 0);
+    CHECK(b_put(17, 0, 0, 100), KBUCKETS_BUCKET_INSERT_FULL);
+    CHECK(b_put(17, 1, 0, 100), KBUCKETS_BUCKET_INSERT_PENDING);
+    CHECK(last(answer), 1);
+    CHECK(b_put(18, 1, 0, 100), KBUCKETS_BUCKET_INSERT_FULL);
+    CHECK(kbuckets_b_update_pending(bucket, sizeof bucket, 2, 0), KBUCKETS_REFUSED_CODE);
+    CHECK(kbuckets_b_update_pending(bucket, sizeof bucket, 0, 1), 0);
+    CHECK(kbuckets_b_apply_pending(bucket, sizeof bucket, 60099, answer, sizeof answer), KBUCKETS_APPLIED_NONE);
+    CHECK(kbuckets_b_apply_pending(bucket, sizeof bucket, 60100, answer, 73), KBUCKETS_REFUSED_OUTPUT);
+    CHECK(kbuckets_b_apply_pending(bucket, sizeof bucket, 60100, answer, sizeof answer), KBUCKETS_APPLIED_RECORD);
+    CHECK(last(answer), 17);
+    CHECK(answer[32], 1);
+    CHECK(last(answer + 33), 1);
+    CHECK(last(bucket + 2), 17);
+    bucket[1]++;
+    CHECK(kbuckets_b_apply_pending(bucket, sizeof bucket, 0, answer, sizeof answer), KBUCKETS_REFUSED_FORM);
+
+    CHECK(kbuckets_b_new(bucket, sizeof bucket, TIMEOUT, 16, 1), 0);
+    CHECK(kbuckets_b_insert(bucket, sizeof bucket, of(1), 32, 1, 10, 1, 2, 3, 1, 0, 0, 0, answer, 74), 0);
+    CHECK(kbuckets_b_insert(bucket, sizeof bucket, of(2), 32, 1, 10, 1, 2, 4, 2, 0, 0, 0, answer, 74), 0);
+    CHECK(kbuckets_b_insert(bucket, sizeof bucket, of(3), 32, 1, 10, 1, 2, 5, 3, 0, 0, 0, answer, 74), KBUCKETS_BUCKET_INSERT_FAILED_FILTER);
+    CHECK(kbuckets_b_insert(bucket, sizeof bucket, of(3), 32, 1, 10, 1, 2, 4, 2, 0, 0, 0, answer, 74), 0);
+}
+
+int main(void) {
+    refusals();
+    listings();
+    pendings();
+    buckets();
+    printf("kbuckets.c: %u of %u checks passed\n", checks - failures, checks);
+    return failures != 0;
+}

@@ -1,0 +1,170 @@
+// Nanoseconds per call of the table's exports. A plain sum (sum.c, sum.rs) and question 2: the least time of all rounds. A call beyond
+// question 2: the median, over all calls of all rounds, of its time less that of question 2 just before and after it. An empty queue's
+// take_applied_pending asks questions 1 and 2 and does nothing more.
+#include <stddef.h>
+#include <stdint.h>
+#include <stdio.h>
+#include <stdlib.h>
+#include <string.h>
+#include <time.h>
+#include "../../include/kbuckets.h"
+
+enum { ROUNDS = 100, CALLS = 32, N = 16 };
+
+static uint8_t storage[KBUCKETS_STORAGE_BYTES];
+static uint8_t answer[KBUCKETS_ANSWER_BYTES], output[N * KBUCKETS_CLOSEST_KEYS_ENTRY_BYTES];
+static uint8_t held[4096][32];
+static int held_count;
+
+static double now_ns(void) {
+    struct timespec t;
+    clock_gettime(CLOCK_MONOTONIC, &t);
+    return (double)t.tv_sec * 1e9 + (double)t.tv_nsec;
+}
+
+static uint64_t state = 88172645463325252u;
+static uint64_t next_random(void) {
+    state ^= state << 13;
+    state ^= state >> 7;
+    state ^= state << 17;
+    return state;
+}
+
+// A random key of bucket i; the local key is 0.
+static void random_key(uint8_t *key, int i) {
+    for (int j = 0; j < 32; j++) key[j] = (uint8_t)(next_random() >> 32);
+    int byte = 31 - i / 8, bit = i % 8;
+    memset(key, 0, (size_t)byte);
+    key[byte] = (uint8_t)((key[byte] & ((1 << bit) - 1)) | (1 << bit));
+}
+
+static uint32_t put(const uint8_t *key) {
+    return kbuckets_insert_or_update(
+        storage, sizeof storage, key, 32, 0, 0, 0, 0, 0, 1, KBUCKETS_CONNECTED, KBUCKETS_OUTGOING, 0, answer, sizeof answer);
+}
+
+// A new table with up to `most` nodes in each of the buckets from the first on.
+static void fill(int first, int most) {
+    static const uint8_t local[32];
+    kbuckets_new(storage, sizeof storage, local, 32, 60000, 16, 0, 0);
+    held_count = 0;
+    for (int i = first; i < 256; i++)
+        for (int tries = 0, n = 0; n < most && tries < 200; tries++) {
+            random_key(held[held_count], i);
+            if (put(held[held_count]) == KBUCKETS_INSERT_INSERTED) n++, held_count++;
+        }
+}
+
+// Plain sums: by 64-bit and by 32-bit numbers.
+typedef uint64_t sum_function(const uint8_t *bytes, size_t length);
+#define SUMS(compiler) sum_function sum_64_##compiler, sum_32_##compiler;
+#ifdef HAS_gcc
+SUMS(gcc)
+#endif
+#ifdef HAS_clang
+SUMS(clang)
+#endif
+#ifdef HAS_rustc
+SUMS(rustc)
+#endif
+#define SUM(compiler) { #compiler, { sum_64_##compiler, sum_32_##compiler } },
+static const struct {
+    const char *compiler;
+    sum_function *by[2];
+} sums[] = {
+#ifdef HAS_gcc
+    SUM(gcc)
+#endif
+#ifdef HAS_clang
+    SUM(clang)
+#endif
+#ifdef HAS_rustc
+    SUM(rustc)
+#endif
+};
+
+static volatile uint64_t sink;
+static sum_function *chosen;
+static void run_sum(int i) { (void)i; sink += chosen(storage, sizeof storage); }
+static void run_question_2(int i) { (void)i; sink += kbuckets_take_applied_pending(storage, sizeof storage, answer, sizeof answer); }
+static const uint8_t *key_at(int i) { return held[(unsigned)i * 2654435761u % (unsigned)held_count]; }
+static void run_status(int i) { sink += kbuckets_update_node_status(storage, sizeof storage, key_at(i), 32, 1, 0, 0); }
+static void run_held(int i) { sink += put(key_at(i)); }
+static void run_entry(int i) { sink += kbuckets_entry(storage, sizeof storage, key_at(i), 32, 0); }
+static void run_remove(int i) { sink += kbuckets_remove(storage, sizeof storage, key_at(i), 32, 0); }
+static void run_closest(int i) {
+    uint8_t target[32];
+    memcpy(target, key_at(i), 32);
+    target[31] ^= 85;
+    sink += kbuckets_closest_keys(storage, sizeof storage, target, 32, N, 0, output, sizeof output);
+}
+
+static double timed(void (*f)(int), int i) {
+    double start = now_ns();
+    f(i);
+    return now_ns() - start;
+}
+
+static double best(void (*f)(int)) {
+    double ns = 1e18;
+    for (int r = 0; r < ROUNDS * CALLS; r++) {
+        double took = timed(f, r);
+        if (took < ns) ns = took;
+    }
+    return ns;
+}
+
+static int ascending(const void *a, const void *b) { return (*(const double *)a > *(const double *)b) - (*(const double *)a < *(const double *)b); }
+
+// A round is CALLS calls with question 2 before and after each; then their undoing, which is not timed.
+static void measure_call(const char *name, void (*f)(int), void (*undo)(int)) {
+    static double beyond[ROUNDS * CALLS];
+    for (int r = 0; r < ROUNDS; r++) {
+        double before = timed(run_question_2, 0);
+        for (int i = r * CALLS; i < (r + 1) * CALLS; i++) {
+            double took = timed(f, i), after = timed(run_question_2, 0);
+            beyond[i] = took - (before + after) / 2;
+            before = after;
+        }
+        for (int i = r * CALLS; undo && i < (r + 1) * CALLS; i++) undo(i);
+    }
+    qsort(beyond, ROUNDS * CALLS, sizeof beyond[0], ascending);
+    printf("  %-42s beyond question 2 %6.0f ns\n", name, beyond[ROUNDS * CALLS / 2]);
+}
+
+static double measure(const char *name, int first, int most) {
+    fill(first, most);
+    double question_2 = best(run_question_2);
+    printf("%s, %d nodes\n  %-42s %9.0f ns\n", name, held_count, "question 2", question_2);
+    if (held_count == 0) return question_2;
+    measure_call("update_node_status", run_status, 0);
+    measure_call("insert_or_update of a held key", run_held, 0);
+    measure_call("entry", run_entry, 0);
+    if (held_count > 2 * CALLS) measure_call("remove", run_remove, run_held);
+    measure_call("closest_keys of 16", run_closest, 0);
+    return question_2;
+}
+
+int main(void) {
+    double sum[2] = {1e18, 1e18};
+    fill(0, 16);
+    printf("plain sum of %zu bytes, ns\n  %-10s %12s %12s\n", sizeof storage, "", "64-bit", "32-bit");
+    for (size_t k = 0; k < sizeof sums / sizeof sums[0]; k++) {
+        printf("  %-10s", sums[k].compiler);
+        for (int width = 0; width < 2; width++) {
+            chosen = sums[k].by[width];
+            double ns = best(run_sum);
+            if (ns < sum[width]) sum[width] = ns;
+            printf(" %12.0f", ns);
+        }
+        printf("\n");
+    }
+    double full = measure("full table", 0, 16);
+    measure("63 full buckets", 193, 16);
+    measure("252 buckets of 4", 4, 4);
+    measure("one full bucket", 255, 16);
+    double empty = measure("empty table", 256, 16);
+    printf("question 2 / plain sum, 64-bit: full %.2f, empty %.2f\n", full / sum[0], empty / sum[0]);
+    printf("question 2 / plain sum, 32-bit: full %.2f, empty %.2f\n", full / sum[1], empty / sum[1]);
+    return 0;
+}
