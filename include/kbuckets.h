@@ -31,13 +31,13 @@ enum {
     /* inserted key, evicted flag, evicted node (zero where the flag is 0) */
     KBUCKETS_RECORD_BYTES = KBUCKETS_KEY_BYTES + 1 + KBUCKETS_NODE_BYTES,
 
-    KBUCKETS_MAX_NODES = 16,
+    KBUCKETS_MAX_NODES_PER_BUCKET = 16,
     KBUCKETS_NUM_BUCKETS = 256,
     KBUCKETS_MAX_RECORDS = 64,
 
     /* count, first connected place (the count where no node is connected), the places; pending flag, pending node, deadline */
     KBUCKETS_STORED_BUCKET_BYTES =
-        2 + KBUCKETS_MAX_NODES * KBUCKETS_NODE_BYTES + 1 + KBUCKETS_NODE_BYTES + KBUCKETS_TIME_BYTES,
+        2 + KBUCKETS_MAX_NODES_PER_BUCKET * KBUCKETS_NODE_BYTES + 1 + KBUCKETS_NODE_BYTES + KBUCKETS_TIME_BYTES,
     /* local key, pending timeout, max_incoming, table filter, bucket filter, record count, records */
     KBUCKETS_HEADER_BYTES =
         KBUCKETS_KEY_BYTES + KBUCKETS_TIME_BYTES + 4 + KBUCKETS_MAX_RECORDS * KBUCKETS_RECORD_BYTES,
@@ -93,7 +93,8 @@ enum {
     KBUCKETS_REFUSED_QUEUE = KBUCKETS_REFUSED + 8   /* the call would leave more than 64 records in the queue */
 };
 
-/* Why an update or an insert failed: an answer KBUCKETS_FAILED + reason. */
+/* Why an update or an insert failed: an answer KBUCKETS_FAILED + reason. Each call below lists the answers that can occur, without
+ * KBUCKETS_. */
 enum {
     KBUCKETS_FAILED = 16,
     KBUCKETS_FAILED_TOO_MANY_INCOMING = KBUCKETS_FAILED + 0,
@@ -104,7 +105,7 @@ enum {
     KBUCKETS_FAILED_INVALID_SELF_UPDATE = KBUCKETS_FAILED + 5
 };
 
-/* UpdateResult, or one of KBUCKETS_FAILED_.. */
+/* UpdateResult of the updates, or one of KBUCKETS_FAILED_.. */
 enum {
     KBUCKETS_UPDATE_NOT_MODIFIED = 0,
     KBUCKETS_UPDATE_UPDATED = 1,
@@ -115,19 +116,19 @@ enum {
 /* InsertResult of kbuckets_insert_or_update, or one of KBUCKETS_FAILED_.. */
 enum {
     KBUCKETS_INSERT_INSERTED = 0,
-    KBUCKETS_INSERT_PENDING = 1, /* the key of the node that will be evicted stands in the first 32 bytes of `answer` */
+    KBUCKETS_INSERT_PENDING = 1, /* the key at place 0, whose peer is to be checked, is in the first 32 bytes of `answer` */
     KBUCKETS_INSERT_STATUS_UPDATED = 2,
     KBUCKETS_INSERT_STATUS_UPDATED_AND_PROMOTED = 3,
     KBUCKETS_INSERT_VALUE_UPDATED = 4,
     KBUCKETS_INSERT_UPDATED = 5,
     KBUCKETS_INSERT_UPDATED_AND_PROMOTED = 6,
-    KBUCKETS_INSERT_UPDATED_PENDING = 7
+    KBUCKETS_INSERT_UPDATED_PENDING = 7 /* the Rust has it; never answered */
 };
 
 /* InsertResult of a bucket: kbuckets_absent_insert, kbuckets_b_insert */
 enum {
     KBUCKETS_BUCKET_INSERT_INSERTED = 0,
-    KBUCKETS_BUCKET_INSERT_PENDING = 1, /* the key of the node that will be evicted stands in the first 32 bytes of `answer` */
+    KBUCKETS_BUCKET_INSERT_PENDING = 1, /* the key at place 0, whose peer is to be checked, is in the first 32 bytes of `answer` */
     KBUCKETS_BUCKET_INSERT_FAILED_FILTER = 2,
     KBUCKETS_BUCKET_INSERT_TOO_MANY_INCOMING = 3,
     KBUCKETS_BUCKET_INSERT_FULL = 4,
@@ -155,34 +156,38 @@ enum {
 };
 
 /* The table. `storage` is KBUCKETS_STORAGE_BYTES; `now` is a count of milliseconds, and may go back. A pending whose deadline has come is
- * applied by the first call about its bucket that is given `now` and is no entry action; each one applied is a record in the queue. A
- * value is address flag, octets a, b, c, d, and slot. */
+ * applied by the first call about its bucket that is given `now` and is no entry action, before the call's own work: it takes a free place
+ * or evicts the node at place 0, and is a record in the queue, or it is dropped without a record. A value is address flag, octets a, b, c,
+ * d, and slot. */
 
 /* Makes the storage, whatever it held, that of an empty table. max_incoming: 0 to 16. Answers 0. Questions 1, 3, 4. */
 uint32_t kbuckets_new(
     uint8_t *storage, size_t storage_len, const uint8_t *local_key, size_t local_key_len, uint64_t pending_timeout,
     uint8_t max_incoming, uint8_t table_filter, uint8_t bucket_filter);
 
-/* Sets the status of the key's node, which moves behind the others of its state, or of the key's pending. direction: also NOT_GIVEN. Where
- * it fails for another reason than KEY_NON_EXISTENT the node is taken out. The local key answers NOT_MODIFIED.
- * Answers an UpdateResult. Questions 1 to 5, 8. */
+/* Sets the status of the key's node, which moves behind the others of its state even where nothing changes, or of the key's pending.
+ * direction: also NOT_GIVEN. The node at place 0 given CONNECTED clears the bucket's pending. Where the call fails for another reason than
+ * KEY_NON_EXISTENT the node is taken out. The local key answers NOT_MODIFIED. Answers any UPDATE_.., FAILED_TOO_MANY_INCOMING,
+ * FAILED_BUCKET_FILTER or FAILED_KEY_NON_EXISTENT. Questions 1 to 5, 8. */
 uint32_t kbuckets_update_node_status(
     uint8_t *storage, size_t storage_len, const uint8_t *key, size_t key_len, uint8_t state, uint8_t direction, uint64_t now);
 
-/* Sets the value of the key's node or pending, and the state where it is given (state: also NOT_GIVEN). Where it fails for another reason
- * than KEY_NON_EXISTENT the node is taken out. The local key answers NOT_MODIFIED. Answers an UpdateResult. Questions 1 to 5, 8. */
+/* Sets the value of the key's node or pending, then the state where it is given (state: also NOT_GIVEN), as kbuckets_update_node_status
+ * does. Where the call fails for another reason than KEY_NON_EXISTENT the node is taken out. The local key answers NOT_MODIFIED. Answers any
+ * UPDATE_.., FAILED_TOO_MANY_INCOMING, FAILED_BUCKET_FILTER, FAILED_TABLE_FILTER or FAILED_KEY_NON_EXISTENT. Questions 1 to 5, 8. */
 uint32_t kbuckets_update_node(
     uint8_t *storage, size_t storage_len, const uint8_t *key, size_t key_len, uint8_t flag, uint8_t a, uint8_t b, uint8_t c, uint8_t d,
     kbuckets_slot slot, uint8_t state, uint64_t now);
 
-/* Inserts a node, or sets status and value of the key's node. The local key answers FAILED_INVALID_SELF_UPDATE. Where setting either
- * fails, or the table filter does, the key's node is taken out. `answer` is at least KBUCKETS_ANSWER_BYTES; only its first 32 bytes are
- * written, and only where the answer is PENDING. Answers an InsertResult. Questions 1 to 6, 8. */
+/* Inserts a node, also where the key is only pending, or sets status and value of the key's node. Where setting either fails, or the table
+ * filter does, the key's node is taken out; a status that cannot be set answers FAILED_TOO_MANY_INCOMING, whatever the reason. The local key
+ * answers FAILED_INVALID_SELF_UPDATE. `answer` is at least KBUCKETS_ANSWER_BYTES; only its first 32 bytes are written, and only where the
+ * answer is PENDING. Answers any INSERT_.. but UPDATED_PENDING, or any FAILED_.. but KEY_NON_EXISTENT. Questions 1 to 6, 8. */
 uint32_t kbuckets_insert_or_update(
     uint8_t *storage, size_t storage_len, const uint8_t *key, size_t key_len, uint8_t flag, uint8_t a, uint8_t b, uint8_t c, uint8_t d,
     kbuckets_slot slot, uint8_t state, uint8_t direction, uint64_t now, uint8_t *answer, size_t answer_len);
 
-/* Takes the key's node out. A pending of the key stays. Answers REMOVE_REMOVED, or REMOVE_NOT_HELD, as for the local key.
+/* Takes the key's node out. A pending of the key that is not due stays. Answers REMOVE_REMOVED, or REMOVE_NOT_HELD, as for the local key.
  * Questions 1, 2, 3, 5, 8. */
 uint32_t kbuckets_remove(uint8_t *storage, size_t storage_len, const uint8_t *key, size_t key_len, uint64_t now);
 
@@ -190,10 +195,11 @@ uint32_t kbuckets_remove(uint8_t *storage, size_t storage_len, const uint8_t *ke
  * ENTRY_PENDING + 2 * state + direction. Questions 1, 2, 3, 5, 8. */
 uint32_t kbuckets_entry(uint8_t *storage, size_t storage_len, const uint8_t *key, size_t key_len, uint64_t now);
 
-/* The entry actions. Each names the key again, applies no pending, and is refused with KIND where the key is not of its kind. */
+/* The entry actions. Each names the key again, applies no pending, and is refused with KIND where the key, as stored, is not of its kind, as
+ * for the local key. */
 
-/* Of a Present key: sets the status, as kbuckets_update_node_status. direction: also NOT_GIVEN.
- * Answers an UpdateResult. Questions 1 to 4, 7. */
+/* Of a Present key: sets the status, as kbuckets_update_node_status does. direction: also NOT_GIVEN. Answers any UPDATE_.. but
+ * UPDATED_PENDING, FAILED_TOO_MANY_INCOMING or FAILED_BUCKET_FILTER. Questions 1 to 4, 7. */
 uint32_t kbuckets_present_update(
     uint8_t *storage, size_t storage_len, const uint8_t *key, size_t key_len, uint8_t state, uint8_t direction);
 
@@ -201,8 +207,8 @@ uint32_t kbuckets_present_update(
 uint32_t kbuckets_pending_update(
     uint8_t *storage, size_t storage_len, const uint8_t *key, size_t key_len, uint8_t state, uint8_t direction);
 
-/* Of an Absent key: inserts a node; the table filter is skipped. `answer` as for kbuckets_insert_or_update.
- * Answers a bucket's InsertResult. Questions 1 to 7. */
+/* Of an Absent key: inserts a node; the table filter is skipped. `answer` as for kbuckets_insert_or_update. Answers any BUCKET_INSERT_..
+ * but NODE_EXISTS. Questions 1 to 7. */
 uint32_t kbuckets_absent_insert(
     uint8_t *storage, size_t storage_len, const uint8_t *key, size_t key_len, uint8_t flag, uint8_t a, uint8_t b, uint8_t c, uint8_t d,
     kbuckets_slot slot, uint8_t state, uint8_t direction, uint64_t now, uint8_t *answer, size_t answer_len);
@@ -215,7 +221,7 @@ uint32_t kbuckets_absent_insert(
 uint32_t kbuckets_iter(uint8_t *storage, size_t storage_len, size_t n, uint64_t now, uint8_t *output, size_t output_len);
 
 /* The nodes of the buckets at these log2 distances, in the order given, repeats included. Distances outside 1 to 256 are dropped; n = 0
- * still gives one node. Questions 1, 2, 5, 6, 8. */
+ * still gives one node. It may apply pendings of buckets that it does not list. Questions 1, 2, 5, 6, 8. */
 uint32_t kbuckets_nodes_by_distances(
     uint8_t *storage, size_t storage_len, const uint64_t *distances, size_t distances_len, size_t n, uint64_t now, uint8_t *output,
     size_t output_len);
@@ -247,20 +253,22 @@ uint32_t kbuckets_take_applied_pending(uint8_t *storage, size_t storage_len, uin
 /* Makes the bytes, whatever they were, an empty bucket. max_incoming: 0 to 16. Answers 0. Questions 1, 4. */
 uint32_t kbuckets_b_new(uint8_t *bucket, size_t bucket_len, uint64_t pending_timeout, uint8_t max_incoming, uint8_t filter);
 
-/* Inserts a node, or makes it the pending. `answer` as for kbuckets_insert_or_update. Answers a bucket's InsertResult. Questions 1 to 6. */
+/* Inserts a node, or makes it the pending. `answer` as for kbuckets_insert_or_update. Answers any BUCKET_INSERT_.. Questions 1 to 6. */
 uint32_t kbuckets_b_insert(
     uint8_t *bucket, size_t bucket_len, const uint8_t *key, size_t key_len, uint8_t flag, uint8_t a, uint8_t b, uint8_t c, uint8_t d,
     kbuckets_slot slot, uint8_t state, uint8_t direction, uint64_t now, uint8_t *answer, size_t answer_len);
 
-/* Applies the pending if its deadline has come. Answers APPLIED_RECORD with the record in `answer`, or APPLIED_NONE where none is due or
- * it was dropped. Questions 1, 2, 5, 6. */
+/* Applies the pending if its deadline has come. `answer` is at least KBUCKETS_ANSWER_BYTES. Answers APPLIED_RECORD with the record in
+ * `answer`, or APPLIED_NONE where none is due or it was dropped. Questions 1, 2, 5, 6. */
 uint32_t kbuckets_b_apply_pending(uint8_t *bucket, size_t bucket_len, uint64_t now, uint8_t *answer, size_t answer_len);
 
-/* Sets the status of the key's node or pending. direction: also NOT_GIVEN. Answers an UpdateResult. Questions 1 to 4. */
+/* Sets the status of the key's node or pending, fails and answers as kbuckets_update_node_status does. direction: also NOT_GIVEN.
+ * Questions 1 to 4. */
 uint32_t kbuckets_b_update_status(
     uint8_t *bucket, size_t bucket_len, const uint8_t *key, size_t key_len, uint8_t state, uint8_t direction);
 
-/* Sets the value of the key's node or pending. Answers an UpdateResult. Questions 1 to 4. */
+/* Sets the value of the key's node, which keeps its place, or of the key's pending. Where the bucket filter fails the node is taken out.
+ * Answers UPDATE_NOT_MODIFIED, UPDATE_UPDATED, UPDATE_UPDATED_PENDING, FAILED_BUCKET_FILTER or FAILED_KEY_NON_EXISTENT. Questions 1 to 4. */
 uint32_t kbuckets_b_update_value(
     uint8_t *bucket, size_t bucket_len, const uint8_t *key, size_t key_len, uint8_t flag, uint8_t a, uint8_t b, uint8_t c, uint8_t d,
     kbuckets_slot slot);

@@ -105,6 +105,17 @@ fn write_node(node: &NodeCodes, bytes: &mut [u8]) {
     bytes[KEY + 7..NODE].copy_from_slice(&node.value.slot.to_be_bytes());
 }
 
+/// The bytes of a record; those of the node are zero where none is evicted.
+pub fn record_bytes(record: &RecordCodes) -> [u8; RECORD] {
+    let mut bytes = [0; RECORD];
+    bytes[..KEY].copy_from_slice(&record.inserted);
+    if let Some(node) = &record.evicted {
+        bytes[KEY] = 1;
+        write_node(node, &mut bytes[KEY + 1..]);
+    }
+    bytes
+}
+
 /// The bytes of a bucket, to read.
 #[derive(Clone, Copy)]
 pub struct BucketBytes<'a>(&'a [u8]);
@@ -228,13 +239,7 @@ impl TableBytes {
         if count >= RECORDS {
             return Err("the queue already has 64 records".to_string());
         }
-        let bytes = &mut self.0[RECORDS_AT + count * RECORD..][..RECORD];
-        bytes.fill(0);
-        bytes[..KEY].copy_from_slice(&record.inserted);
-        if let Some(node) = &record.evicted {
-            bytes[KEY] = 1;
-            write_node(node, &mut bytes[KEY + 1..]);
-        }
+        self.0[RECORDS_AT + count * RECORD..][..RECORD].copy_from_slice(&record_bytes(record));
         self.0[RECORD_COUNT_AT] += 1;
         Ok(())
     }

@@ -6,14 +6,20 @@ use crate::text::{self, BucketCall, Line, Raw, TableCall, Which, Write};
 use std::io::{self, BufRead};
 use std::process::ExitCode;
 
-/// A refusal: the number of the question.
-pub type Refusal = u8;
+/// Why a call has no answer.
+#[derive(Debug, PartialEq, Eq)]
+pub enum Unanswered {
+    /// It is refused: the number of the question.
+    Refused(u8),
+    /// It wrote what no call may write. This ends the program.
+    Broken(String),
+}
 
 /// An implementation of the calls, with a table and a bucket by itself.
 pub trait Implementation {
     /// Runs a call and writes its answer, or nothing where it is refused. `short`: on storage that is one byte short.
-    fn table_call(&mut self, short: bool, call: &TableCall, out: &mut Vec<u8>) -> Result<(), Refusal>;
-    fn bucket_call(&mut self, short: bool, call: &BucketCall, out: &mut Vec<u8>) -> Result<(), Refusal>;
+    fn table_call(&mut self, short: bool, call: &TableCall, out: &mut Vec<u8>) -> Result<(), Unanswered>;
+    fn bucket_call(&mut self, short: bool, call: &BucketCall, out: &mut Vec<u8>) -> Result<(), Unanswered>;
 
     /// The bytes that raw lines write.
     fn table_bytes(&mut self) -> &mut TableBytes;
@@ -83,6 +89,7 @@ fn answer(mut implementation: impl Implementation, dumps: bool) -> Result<(), St
 
 /// Answers a line; with `dumps`, the dump that follows a call too.
 pub fn answer_line(it: &mut impl Implementation, line: &Line, dumps: bool, out: &mut Vec<u8>) -> Result<(), String> {
+    let start = out.len();
     let answered = match line {
         Line::Table { short, call } => it.table_call(*short, call, out),
         Line::Bucket { short, call } => it.bucket_call(*short, call, out),
@@ -100,9 +107,16 @@ pub fn answer_line(it: &mut impl Implementation, line: &Line, dumps: bool, out: 
             return Ok(());
         }
     };
-    if let Err(question) = answered {
-        out.text("Refused ");
-        out.number(question.into());
+    match answered {
+        Ok(()) => (),
+        Err(Unanswered::Refused(question)) => {
+            out.text("Refused ");
+            out.number(question.into());
+        }
+        Err(Unanswered::Broken(message)) => {
+            out.truncate(start);
+            return Err(message);
+        }
     }
     out.text("\n");
     match line {

@@ -25,14 +25,14 @@ pub struct RecordCodes {
 }
 
 /// Which values `closest_values_predicate` marks. `Code` is a number alone: 0 always, 1 has an address, others out of range.
-#[derive(Clone, Debug)]
+#[derive(Clone, Debug, PartialEq, Eq)]
 pub enum Predicate {
     Code(u8),
     Net([u8; 3]),
     Slot(u16),
 }
 
-#[derive(Clone, Debug)]
+#[derive(Clone, Debug, PartialEq, Eq)]
 pub enum Listing {
     Iter,
     NodesByDistances(Vec<u64>),
@@ -42,7 +42,7 @@ pub enum Listing {
 }
 
 /// A call on the table. Keys are bytes of any length and codes any number, since the questions are about them.
-#[derive(Clone, Debug)]
+#[derive(Clone, Debug, PartialEq, Eq)]
 pub enum TableCall {
     New {
         local: Vec<u8>,
@@ -106,7 +106,7 @@ pub enum TableCall {
 }
 
 /// A call on one bucket by itself.
-#[derive(Clone, Debug)]
+#[derive(Clone, Debug, PartialEq, Eq)]
 pub enum BucketCall {
     New { timeout: u64, max_incoming: u8, filter: u8 },
     Insert { now: u64, key: Vec<u8>, value: ValueCodes, state: u8, direction: u8 },
@@ -191,10 +191,20 @@ pub const RAW_FORMS: [&str; 5] = [
     "raw_byte OFFSET NUMBER",
 ];
 
-/// The form of the line with this name.
-fn form(name: &str) -> Option<&'static str> {
+/// The form of the line with this name. The listings end with N and take a room.
+fn form(name: &str) -> Option<String> {
     let named = |form: &&str| form.split(' ').next() == Some(name);
-    TABLE_FORMS.into_iter().chain(BUCKET_FORMS).chain(RAW_FORMS).find(named)
+    let form = TABLE_FORMS.into_iter().chain(BUCKET_FORMS).chain(RAW_FORMS).find(named)?;
+    Some(if form.ends_with(" N") { format!("{form} [out=K]") } else { form.to_string() })
+}
+
+/// The beginning of a text that is too long for a message.
+fn short(text: &str) -> String {
+    const MOST: usize = 200;
+    match text.char_indices().nth(MOST) {
+        Some((end, _)) => format!("{} .. (cut here)", &text[..end]),
+        None => text.to_string(),
+    }
 }
 
 /// Reads a line; `None` for one that is passed over.
@@ -204,15 +214,22 @@ pub fn parse(line: &str) -> Result<Option<Line>, String> {
     }
     read(line).map(Some).map_err(|fault| {
         let call = line.strip_prefix("! ").unwrap_or(line);
+        let (line, fault) = (short(&format!("{line:?}")), short(&fault));
         match form(call.split(' ').next().unwrap_or(call)) {
-            Some(form) => format!("{line:?}: {fault}; its form is: {form}"),
-            None => format!("{line:?}: {fault}"),
+            Some(form) => format!("{line}: {fault}; its form is: {form}"),
+            None => format!("{line}: {fault}"),
         }
     })
 }
 
 /// Reads a line that is not passed over.
 fn read(line: &str) -> Result<Line, String> {
+    if line.ends_with('\r') {
+        return Err("a line ends with a line feed alone, and not with a carriage return before it".to_string());
+    }
+    if line.starts_with(' ') || line.ends_with(' ') || line.contains("  ") {
+        return Err("words are parted by single spaces, and none stands at the beginning or the end".to_string());
+    }
     let (short, rest) = match line.strip_prefix("! ") {
         Some(rest) => (true, rest),
         None => (false, line),
@@ -363,7 +380,7 @@ impl<'a> Words<'a> {
     fn whole_key(&mut self) -> Result<[u8; 32], String> {
         let key = self.key()?;
         let length = key.len();
-        key.try_into().map_err(|_| format!("a key of {length} bytes does not fit"))
+        key.try_into().map_err(|_| format!("a raw line takes keys of 32 bytes, and this one has {length}"))
     }
 
     fn value(&mut self) -> Result<ValueCodes, String> {
@@ -418,7 +435,8 @@ impl<'a> Words<'a> {
             return Ok(Predicate::Slot(number(slot, 65535)? as u16));
         }
         match octet(word)? {
-            2 | 3 => Err(format!("predicate {word} lacks what it asks for")),
+            2 => Err("predicate 2 is written 2:a.b.c".to_string()),
+            3 => Err("predicate 3 is written 3:SLOT".to_string()),
             code => Ok(Predicate::Code(code)),
         }
     }

@@ -40,6 +40,20 @@ fn forms() {
     assert!(parse("enter 0 :1").unwrap_err().contains("no call is named \"enter\""));
 }
 
+/// A message says what is wrong, and is short where the line is long.
+#[test]
+fn messages() {
+    let fault = |line: &str| parse(line).unwrap_err();
+    assert!(fault("entry 0 :1\r").contains("carriage return"));
+    for line in [" entry 0 :1", "entry  0 :1", "entry 0 :1 "] {
+        assert!(fault(line).contains("single spaces"), "{line}");
+    }
+    assert!(fault("iter 0 5 room=3").ends_with("not out=K: \"room=3\"; its form is: iter NOW N [out=K]"));
+    assert!(fault("closest_values_predicate 0 :5 2 3").contains("predicate 2 is written 2:a.b.c"));
+    assert!(fault("raw_record 04 -").contains("keys of 32 bytes, and this one has 1"));
+    assert!(fault(&format!("remove 0 {}", "é".repeat(100_000))).len() < 1000);
+}
+
 #[test]
 fn lines_that_are_passed_over() {
     assert!(parse("").unwrap().is_none());

@@ -8,7 +8,7 @@ use crate::kbucket::{
     KBucketsTable, Key, Node, NodeStatus, UpdateResult,
 };
 use crate::layout::{self, AloneBytes, Settings, TableBytes};
-use crate::program::{Implementation, Refusal};
+use crate::program::{Implementation, Unanswered};
 use crate::stand_ins::Value;
 use crate::stand_ins::clock::{self, Instant};
 use crate::stand_ins::enr::NodeId;
@@ -76,10 +76,8 @@ impl Driver {
 }
 
 impl Implementation for Driver {
-    fn table_call(&mut self, short: bool, call: &TableCall, out: &mut Vec<u8>) -> Result<(), Refusal> {
-        if short {
-            return Err(1);
-        }
+    fn table_call(&mut self, short: bool, call: &TableCall, out: &mut Vec<u8>) -> Result<(), Unanswered> {
+        ask(1, !short)?;
         if let TableCall::New { local, timeout, max_incoming, table_filter, bucket_filter } = call {
             let local = key_bytes(local)?;
             let codes = usize::from(*max_incoming) <= layout::PLACES && *table_filter <= 1 && *bucket_filter <= 1;
@@ -104,10 +102,8 @@ impl Implementation for Driver {
         held.call(call, out)
     }
 
-    fn bucket_call(&mut self, short: bool, call: &BucketCall, out: &mut Vec<u8>) -> Result<(), Refusal> {
-        if short {
-            return Err(1);
-        }
+    fn bucket_call(&mut self, short: bool, call: &BucketCall, out: &mut Vec<u8>) -> Result<(), Unanswered> {
+        ask(1, !short)?;
         if let BucketCall::New { timeout, max_incoming, filter } = call {
             ask(4, usize::from(*max_incoming) <= layout::PLACES && *filter <= 1)?;
             let settings =
@@ -162,17 +158,17 @@ impl Default for Driver {
 }
 
 /// One question: its number where the answer is no.
-fn ask(question: Refusal, holds: bool) -> Result<(), Refusal> {
-    if holds { Ok(()) } else { Err(question) }
+fn ask(question: u8, holds: bool) -> Result<(), Unanswered> {
+    if holds { Ok(()) } else { Err(Unanswered::Refused(question)) }
 }
 
 /// Question 3.
-fn key_bytes(key: &[u8]) -> Result<[u8; 32], Refusal> {
-    key.try_into().map_err(|_| 3)
+fn key_bytes(key: &[u8]) -> Result<[u8; 32], Unanswered> {
+    key.try_into().map_err(|_| Unanswered::Refused(3))
 }
 
 /// Question 5.
-fn ask_clock(now: u64, settings: &Settings) -> Result<(), Refusal> {
+fn ask_clock(now: u64, settings: &Settings) -> Result<(), Unanswered> {
     ask(5, now.checked_add(settings.timeout).is_some())
 }
 
@@ -200,7 +196,7 @@ impl HeldTable {
     }
 
     /// Questions 3 to 8, then the call.
-    fn call(&mut self, call: &TableCall, out: &mut Vec<u8>) -> Result<(), Refusal> {
+    fn call(&mut self, call: &TableCall, out: &mut Vec<u8>) -> Result<(), Unanswered> {
         let settings = &self.settings;
         match call {
             TableCall::New { .. } => unreachable!("asks no question of a table"),
@@ -286,7 +282,7 @@ impl HeldTable {
 
     /// Question 8, by a trial on a clone, then the call itself. No trial is needed where even all pendings that are due would leave
     /// room: each gives at most one record.
-    fn at<R>(&mut self, now: u64, call: impl Fn(&mut Table) -> R) -> Result<R, Refusal> {
+    fn at<R>(&mut self, now: u64, call: impl Fn(&mut Table) -> R) -> Result<R, Unanswered> {
         clock::set(Some(now));
         let due = access::buckets(&self.table)
             .iter()
@@ -334,7 +330,7 @@ impl HeldTable {
         n: u64,
         room: Option<u64>,
         out: &mut Vec<u8>,
-    ) -> Result<(), Refusal> {
+    ) -> Result<(), Unanswered> {
         let target = match listing {
             Listing::Iter | Listing::NodesByDistances(_) => None,
             Listing::ClosestKeys(target)
@@ -457,7 +453,7 @@ impl HeldBucket {
     }
 
     /// Questions 3 to 5, then the call.
-    fn call(&mut self, call: &BucketCall, out: &mut Vec<u8>) -> Result<(), Refusal> {
+    fn call(&mut self, call: &BucketCall, out: &mut Vec<u8>) -> Result<(), Unanswered> {
         let HeldBucket { settings, bucket } = self;
         match call {
             BucketCall::New { .. } => unreachable!("asks no question of a bucket"),

@@ -1,6 +1,7 @@
-//! The outcomes that a comparison reaches: by call, the answer without what it carries.
+//! The outcomes that a comparison reaches: by call, the answer without what it carries. And what the listings were asked for.
 
 use std::collections::BTreeMap;
+use std::str::Split;
 
 /// The outcomes of each call. What is missing here can be met by no list of calls.
 const OUTCOMES: [(&str, &[&str]); 22] = [
@@ -213,11 +214,30 @@ const OUTCOMES: [(&str, &[&str]); 22] = [
     ("b_remove", &["true", "false", "Refused 1", "Refused 2", "Refused 3", "Refused 5"]),
 ];
 
-/// The call of a line and the outcome that its answer is; none for a raw line or a dump.
-pub fn outcome(line: &str, answer: &str) -> Option<(&'static str, String)> {
+/// What listings are asked for that question 6 is about, and its answer. The rooms are those of `out=`, in entries.
+const ASKED: [&str; 8] = [
+    "n 0 listed",
+    "n 1 listed",
+    "n 4095 listed",
+    "n 4096 listed",
+    "n 4097 refused",
+    "room for n listed",
+    "room for more listed",
+    "room for one less refused",
+];
+const LISTINGS: [&str; 5] =
+    ["iter", "nodes_by_distances", "closest_keys", "closest_values", "closest_values_predicate"];
+
+/// The name of a line's call, and its other words; none for a raw line or a dump.
+fn call(line: &str) -> Option<(&'static str, Split<'_, char>)> {
     let mut words = line.strip_prefix("! ").unwrap_or(line).split(' ');
     let name = words.next()?;
-    let (name, _) = OUTCOMES.iter().find(|(call, _)| *call == name)?;
+    OUTCOMES.iter().find(|(call, _)| *call == name).map(|(call, _)| (*call, words))
+}
+
+/// The call of a line and the outcome that its answer is.
+pub fn outcome(line: &str, answer: &str) -> Option<(&'static str, String)> {
+    let (name, mut words) = call(line)?;
     let outcome = if let Some(found) = answer.strip_prefix("List ") {
         let count = found.split(' ').next().unwrap_or_default();
         let n = words.rfind(|word| !word.starts_with("out=")).unwrap_or_default();
@@ -239,19 +259,57 @@ pub fn outcome(line: &str, answer: &str) -> Option<(&'static str, String)> {
     Some((name, outcome.to_string()))
 }
 
-/// How often each outcome was reached.
+/// Which of [`ASKED`] a listing is, by its n and by its room.
+fn asked(line: &str, answer: &str) -> Option<(&'static str, [String; 2])> {
+    let answered = match answer {
+        "Refused 6" => "refused",
+        _ if answer.starts_with("List ") => "listed",
+        _ => return None,
+    };
+    let (name, mut words) = call(line)?;
+    let mut last = words.next_back()?;
+    let room = last.strip_prefix("out=");
+    if room.is_some() {
+        last = words.next_back()?;
+    }
+    let n: u64 = last.parse().ok()?;
+    let most = if name == "nodes_by_distances" { n.max(1) } else { n };
+    let room = match room.and_then(|room| room.parse::<u64>().ok()) {
+        Some(room) if room.checked_add(1) == Some(most) => "room for one less",
+        Some(room) if room < most => "room for fewer",
+        Some(room) if room > most => "room for more",
+        Some(_) => "room for n",
+        None => "room not given",
+    };
+    Some((name, [format!("n {n} {answered}"), format!("{room} {answered}")]))
+}
+
+/// How often each outcome was reached, or each of [`ASKED`].
 pub struct Counts(BTreeMap<(&'static str, String), u64>);
 
 impl Counts {
-    pub fn new() -> Counts {
-        let all =
-            OUTCOMES.iter().flat_map(|(name, outcomes)| outcomes.iter().map(move |o| ((*name, o.to_string()), 0)));
-        Counts(all.collect())
+    pub fn outcomes() -> Counts {
+        Counts::none(&OUTCOMES)
     }
 
-    pub fn add(&mut self, line: &str, answer: &str) {
+    pub fn asked() -> Counts {
+        Counts::none(&LISTINGS.map(|name| (name, &ASKED[..])))
+    }
+
+    fn none(of: &[(&'static str, &[&str])]) -> Counts {
+        Counts(of.iter().flat_map(|(name, all)| all.iter().map(|one| ((*name, one.to_string()), 0))).collect())
+    }
+
+    pub fn add_outcome(&mut self, line: &str, answer: &str) {
         if let Some(outcome) = outcome(line, answer) {
             *self.0.entry(outcome).or_default() += 1;
+        }
+    }
+
+    /// What is none of [`ASKED`] is not counted.
+    pub fn add_asked(&mut self, line: &str, answer: &str) {
+        for (name, one) in asked(line, answer).into_iter().flat_map(|(name, both)| both.map(|one| (name, one))) {
+            self.0.entry((name, one)).and_modify(|count| *count += 1);
         }
     }
 
@@ -259,34 +317,59 @@ impl Counts {
         self.0.get(outcome).copied().unwrap_or_default()
     }
 
-    /// The outcomes reached fewer than `times` times.
+    /// Those reached fewer than `times` times.
     pub fn rare(&self, times: u64) -> Vec<String> {
-        self.0
-            .iter()
-            .filter(|(_, count)| **count < times)
-            .map(|((name, outcome), _)| format!("{name} {outcome}"))
-            .collect()
+        self.0.iter().filter(|(_, count)| **count < times).map(|((name, one), _)| format!("{name} {one}")).collect()
     }
 
-    /// A line for each call.
+    /// A line for each call that has any.
     pub fn lines(&self) -> Vec<String> {
-        OUTCOMES
-            .iter()
-            .map(|(name, _)| {
-                let outcomes: Vec<String> = self
-                    .0
-                    .iter()
-                    .filter(|((call, _), _)| call == name)
-                    .map(|((_, outcome), count)| format!("{outcome} {count}"))
-                    .collect();
-                format!("{name}: {}", outcomes.join(", "))
-            })
-            .collect()
+        let line = |name: &str| {
+            let counts = self.0.iter().filter(|((call, _), _)| *call == name);
+            let counts: Vec<String> = counts.map(|((_, one), count)| format!("{one} {count}")).collect();
+            (!counts.is_empty()).then(|| format!("{name}: {}", counts.join(", ")))
+        };
+        OUTCOMES.iter().filter_map(|(name, _)| line(name)).collect()
     }
 }
 
-impl Default for Counts {
-    fn default() -> Self {
-        Counts::new()
+#[cfg(test)]
+mod tests {
+    use super::*;
+
+    #[test]
+    fn counts_what_listings_are_asked_for() {
+        let mut counts = Counts::asked();
+        for (line, answer) in [
+            ("iter 5 0", "List 0"),
+            ("closest_keys 5 :1 1 out=1", "List 1 1"),
+            ("iter 5 4095 out=4100", "List 0"),
+            ("iter 5 4096 out=4095", "Refused 6"),
+            ("iter 5 4096 out=0", "Refused 6"),
+            ("iter 5 4097 out=4097", "Refused 6"),
+            ("nodes_by_distances 5 1,2 0 out=0", "Refused 6"),
+            ("nodes_by_distances 5 - 0 out=1", "List 0"),
+            ("! iter 5 0", "Refused 1"),
+            ("remove 5 :0", "false"),
+        ] {
+            counts.add_asked(line, answer);
+        }
+        let reached: Vec<String> =
+            counts.0.iter().filter(|(_, c)| **c > 0).map(|((n, o), c)| format!("{n} {o} {c}")).collect();
+        assert_eq!(
+            reached,
+            [
+                "closest_keys n 1 listed 1",
+                "closest_keys room for n listed 1",
+                "iter n 0 listed 1",
+                "iter n 4095 listed 1",
+                "iter n 4097 refused 1",
+                "iter room for more listed 1",
+                "iter room for one less refused 1",
+                "nodes_by_distances n 0 listed 1",
+                "nodes_by_distances room for n listed 1",
+                "nodes_by_distances room for one less refused 1",
+            ]
+        );
     }
 }

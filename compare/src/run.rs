@@ -1,8 +1,8 @@
 //! Runs commands on lists of calls and holds the answers of two against each other.
 
 use crate::text;
-use std::io::{BufRead, BufReader, Write};
-use std::process::{Child, ChildStdout, Command, Stdio};
+use std::io::{BufRead, BufReader, Read, Write};
+use std::process::{Child, ChildStdout, Command, ExitStatus, Stdio};
 use std::thread::JoinHandle;
 
 /// A program and its arguments.
@@ -23,29 +23,42 @@ struct Running {
     child: Child,
     output: BufReader<ChildStdout>,
     feeding: JoinHandle<()>,
+    messages: JoinHandle<String>,
+}
+
+/// How a program ended, and what it wrote to standard error, behind a colon.
+struct End {
+    status: ExitStatus,
+    said: String,
 }
 
 impl Program {
     fn start(&self, list: &[String], dump: bool) -> Result<Running, String> {
         let mut command = Command::new(&self.0[0]);
-        command.args(&self.0[1..]).args(dump.then_some("--dump")).stdin(Stdio::piped()).stdout(Stdio::piped());
+        command.args(&self.0[1..]).args(dump.then_some("--dump"));
+        command.stdin(Stdio::piped()).stdout(Stdio::piped()).stderr(Stdio::piped());
         let mut child = command.spawn().map_err(|error| format!("{}: {error}", self.0[0]))?;
         let mut input = child.stdin.take().unwrap();
+        let mut errors = child.stderr.take().unwrap();
         let output = BufReader::with_capacity(1 << 16, child.stdout.take().unwrap());
         let text = list.join("\n") + "\n";
         // A program that ends early stops reading; what it wrote tells.
         let feeding = std::thread::spawn(move || drop(input.write_all(text.as_bytes())));
-        Ok(Running { child, output, feeding })
+        let messages = std::thread::spawn(move || {
+            let mut bytes = Vec::new();
+            // What was read up to an error is still worth showing.
+            let _ = errors.read_to_end(&mut bytes);
+            String::from_utf8_lossy(&bytes).trim_end().to_string()
+        });
+        Ok(Running { child, output, feeding, messages })
     }
 
     /// The answers to a list, without dumps.
     pub fn answers(&self, list: &[String]) -> Result<Vec<String>, String> {
-        let running = self.start(list, false)?;
-        let answers = running.output.lines().collect::<Result<Vec<String>, _>>().map_err(|e| e.to_string())?;
-        let mut child = running.child;
-        let status = child.wait().map_err(|e| e.to_string())?;
-        running.feeding.join().unwrap();
-        if status.success() { Ok(answers) } else { Err(format!("{}: {status}", self.0[0])) }
+        let mut running = self.start(list, false)?;
+        let answers = running.output.by_ref().lines().collect::<Result<Vec<String>, _>>().map_err(|e| e.to_string())?;
+        let end = running.end(false)?;
+        if end.status.success() { Ok(answers) } else { Err(format!("{}: {}{}", self.0[0], end.status, end.said)) }
     }
 }
 
@@ -57,15 +70,17 @@ impl Running {
         Ok((length > 0).then(|| line.strip_suffix(b"\n").unwrap_or(line)))
     }
 
-    /// Ends the program, and says how it ended where it had come to its end by itself.
-    fn end(mut self, early: bool) -> Result<bool, String> {
+    /// Ends the program; `early`, without waiting until it does so by itself.
+    fn end(mut self, early: bool) -> Result<End, String> {
         if early {
             let _ = self.child.kill();
         }
         drop(self.output);
         let status = self.child.wait().map_err(|e| e.to_string())?;
         self.feeding.join().unwrap();
-        Ok(status.success())
+        let messages = self.messages.join().unwrap();
+        let said = if messages.is_empty() { messages } else { format!(": {messages}") };
+        Ok(End { status, said })
     }
 }
 
@@ -87,10 +102,8 @@ pub fn compare(
                 return ended(first, second, at);
             }
             if a != b {
-                let (a, b) = (shown(a), shown(b));
-                first.end(true)?;
-                second.end(true)?;
-                return Ok(Some(Disagreement { at, first: a, second: b }));
+                let (first, second) = (shown(a, first)?, shown(b, second)?);
+                return Ok(Some(Disagreement { at, first, second }));
             }
             if i == 0 {
                 answered(call, &String::from_utf8_lossy(a.unwrap()));
@@ -99,21 +112,28 @@ pub fn compare(
     }
     let (a, b) = (first.line(&mut one)?, second.line(&mut two)?);
     if a != b {
-        let disagreement = Disagreement { at: list.len(), first: shown(a), second: shown(b) };
-        first.end(true)?;
-        second.end(true)?;
-        return Ok(Some(disagreement));
+        let (first, second) = (shown(a, first)?, shown(b, second)?);
+        return Ok(Some(Disagreement { at: list.len(), first, second }));
     }
     ended(first, second, list.len())
 }
 
 /// The programs have written all they had to: they part only if one succeeded and the other did not.
 fn ended(first: Running, second: Running, at: usize) -> Result<Option<Disagreement>, String> {
-    let end = |success| if success { "(ended well)" } else { "(ended with a failure)" }.to_string();
     let (first, second) = (first.end(false)?, second.end(false)?);
-    Ok((first != second).then(|| Disagreement { at, first: end(first), second: end(second) }))
+    let shown = |end: &End| match end.status.success() {
+        true => "(ended well)".to_string(),
+        false => format!("(ended with a failure{})", end.said),
+    };
+    let parted = first.status.success() != second.status.success();
+    Ok(parted.then(|| Disagreement { at, first: shown(&first), second: shown(&second) }))
 }
 
-fn shown(line: Option<&[u8]>) -> String {
-    line.map_or("(no answer: the program ended)".to_string(), |line| String::from_utf8_lossy(line).into_owned())
+/// A program's line where the two part, or what it said as it ended. Ends the program.
+fn shown(line: Option<&[u8]>, running: Running) -> Result<String, String> {
+    let end = running.end(true)?;
+    Ok(match line {
+        Some(line) => String::from_utf8_lossy(line).into_owned(),
+        None => format!("(no answer: the program ended{})", end.said),
+    })
 }

@@ -26,8 +26,8 @@ fn agrees_with_itself() {
     }
 }
 
-/// The fewest lines, and the first program's side, of the disagreement between the reference and an edited one.
-fn shrunk(edit: &str) -> (Vec<String>, String) {
+/// The fewest lines, and what each program says, of the disagreement between the reference and an edited one.
+fn shrunk(edit: &str) -> (Vec<String>, String, String) {
     let wrapper = Path::new(env!("CARGO_MANIFEST_DIR")).join("tests/changed.sh");
     let run = Command::new(env!("CARGO_BIN_EXE_compare"))
         .args(["--calls", "20000", "--seed", "7", REFERENCE, &format!("sh {}", wrapper.display())])
@@ -39,15 +39,15 @@ fn shrunk(edit: &str) -> (Vec<String>, String) {
     assert_eq!(run.status.code(), Some(1), "{text}");
     let (_, shrunk) = text.split_once("the fewest lines that show it:\n\n").expect(&text);
     let (lines, answers) = shrunk.split_once("\n\n").expect(&text);
-    let first = answers.lines().next().unwrap().strip_prefix("first:  ").unwrap();
-    (lines.lines().map(str::to_string).collect(), first.to_string())
+    let (first, second) = answers.trim_end().strip_prefix("first:  ").unwrap().split_once("\nsecond: ").unwrap();
+    (lines.lines().map(str::to_string).collect(), first.to_string(), second.to_string())
 }
 
 #[test]
 fn finds_and_shrinks_a_changed_answer() {
     if has_reference() {
-        let (lines, first) = shrunk("s/^UpdatedAndPromoted$/Updated/");
-        assert_eq!(first, "UpdatedAndPromoted");
+        let (lines, first, second) = shrunk("s/^UpdatedAndPromoted$/Updated/");
+        assert_eq!((&first[..], &second[..]), ("UpdatedAndPromoted", "Updated"));
         // A disconnected node, and the call that connects it.
         assert_eq!(lines.len(), 2, "{lines:?}");
     }
@@ -56,10 +56,21 @@ fn finds_and_shrinks_a_changed_answer() {
 #[test]
 fn finds_and_shrinks_a_changed_dump() {
     if has_reference() {
-        let (lines, first) = shrunk("s/ queue=.*$/ queue=[]/");
+        let (lines, first, _) = shrunk("s/ queue=.*$/ queue=[]/");
         assert!(first.starts_with("dump "), "{first}");
         // At most: sixteen nodes, a pending, and the call that applies it.
         assert!(lines.len() <= 19, "{lines:?}");
+    }
+}
+
+/// As kbtable does where the library wrote what no call may write: no answer, a message, a status that is not 0.
+#[test]
+fn finds_and_shrinks_a_call_that_ends_the_program() {
+    if has_reference() {
+        let (lines, first, second) = shrunk("/^UpdatedAndPromoted$/{\ns/.*/byte 41 changed/w /dev/stderr\nQ1\n}");
+        assert_eq!(first, "UpdatedAndPromoted");
+        assert_eq!(second, "(no answer: the program ended: byte 41 changed)");
+        assert_eq!(lines.len(), 2, "{lines:?}");
     }
 }
 

@@ -1,6 +1,7 @@
 //! What the calls answer, and the codes of the answers (include/kbuckets.h).
 
 use crate::node::{ConnectionDirection, ConnectionState, Key, Node, NodeStatus};
+use calls::program::Unanswered;
 use std::error::Error;
 use std::fmt;
 
@@ -32,7 +33,7 @@ impl fmt::Display for Refusal {
             Refusal::Key => "a key is not 32 bytes",
             Refusal::Code => "a code is out of range",
             Refusal::Time => "now + the pending timeout is above 2^64 - 1",
-            Refusal::Output => "n is above 4096, or the output is too short",
+            Refusal::Output => "n is above 4096, or the output or the answer is too short",
             Refusal::Kind => "the key is not of the kind that the entry action needs",
             Refusal::Queue => "the call would leave more than 64 records in the queue",
         })
@@ -40,6 +41,12 @@ impl fmt::Display for Refusal {
 }
 
 impl Error for Refusal {}
+
+impl From<Refusal> for Unanswered {
+    fn from(refusal: Refusal) -> Unanswered {
+        Unanswered::Refused(refusal.number())
+    }
+}
 
 /// Why an update or an insert failed.
 #[derive(Clone, Copy, Debug, PartialEq, Eq)]
@@ -71,7 +78,7 @@ pub enum UpdateResult {
 #[derive(Clone, Copy, Debug, PartialEq, Eq)]
 pub enum InsertResult {
     Inserted,
-    /// The node waits; `disconnected` is the node that it replaces unless that one is connected in time.
+    /// The node waits; `disconnected` is the key at place 0, whose peer is to be checked: set connected in time, it clears the pending.
     Pending {
         disconnected: Key,
     },

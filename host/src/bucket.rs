@@ -1,7 +1,7 @@
 //! A bucket by itself, which owns its bytes. Its keys may be of any index.
 
 use crate::answers::{AppliedPending, BucketInsertResult, Refusal, UpdateResult};
-use crate::lent::{self, BUCKET_BYTES};
+use crate::lent::{self, ANSWER_BYTES, BUCKET_BYTES};
 use crate::node::{ConnectionDirection, ConnectionState, Key, NOT_GIVEN, Node, NodeStatus, Value};
 use calls::layout::AloneBytes;
 use std::fmt;
@@ -29,13 +29,14 @@ impl KBucket {
     }
 
     pub fn insert(&mut self, node: Node, now: u64) -> Result<BucketInsertResult, Refusal> {
-        let NodeStatus { state, direction } = node.status;
-        lent::b_insert(&mut self.bytes, &node.key, node.value.into(), state as u8, direction as u8, now)
+        let Node { key, value, status: NodeStatus { state, direction } } = node;
+        let answer = &mut [0; ANSWER_BYTES];
+        lent::b_insert(&mut self.bytes, &key, value.into(), state as u8, direction as u8, now, answer)
     }
 
     /// Applies the pending node if its deadline has come.
     pub fn apply_pending(&mut self, now: u64) -> Result<Option<AppliedPending>, Refusal> {
-        Ok(lent::b_apply_pending(&mut self.bytes, now)?.map(AppliedPending::from))
+        Ok(lent::b_apply_pending(&mut self.bytes, now, &mut [0; ANSWER_BYTES])?.map(AppliedPending::from))
     }
 
     pub fn update_status(

@@ -22,8 +22,8 @@ pub const CLOSEST_KEYS_ENTRY: usize = KEY;
 pub const CLOSEST_VALUES_ENTRY: usize = KEY + VALUE;
 pub const CLOSEST_VALUES_PREDICATE_ENTRY: usize = KEY + 1 + VALUE;
 
-/// What a call writes besides the storage: a key or a record.
-pub(crate) const ANSWER: usize = RECORD;
+/// What `answer` must have room for. A call with an `answer` writes a key or a record to its front, or nothing.
+pub const ANSWER_BYTES: usize = RECORD;
 
 // SAFETY, of each call of the library below: a pointer and its length are those of one slice, which is borrowed while the call runs, and
 // mutably where the call writes; so the runs do not overlap and nobody else uses them. A slice's pointer is never null. The library keeps
@@ -87,9 +87,9 @@ pub fn insert_or_update(
     state: u8,
     direction: u8,
     now: u64,
+    answer: &mut [u8],
 ) -> Result<InsertResult, Refusal> {
     let ValueCodes { flag, octets: [a, b, c, d], slot } = value;
-    let mut answer = [0; ANSWER];
     let returned = unsafe {
         ffi::kbuckets_insert_or_update(
             storage.as_mut_ptr(),
@@ -109,7 +109,7 @@ pub fn insert_or_update(
             answer.len(),
         )
     };
-    answered(returned).map(|code| insert_result(code, layout::key_in(&answer)))
+    answered(returned).map(|code| insert_result(code, layout::key_in(answer)))
 }
 
 pub fn remove(storage: &mut [u8], key: &[u8], now: u64) -> Result<bool, Refusal> {
@@ -143,9 +143,9 @@ pub fn absent_insert(
     state: u8,
     direction: u8,
     now: u64,
+    answer: &mut [u8],
 ) -> Result<BucketInsertResult, Refusal> {
     let ValueCodes { flag, octets: [a, b, c, d], slot } = value;
-    let mut answer = [0; ANSWER];
     let returned = unsafe {
         ffi::kbuckets_absent_insert(
             storage.as_mut_ptr(),
@@ -165,7 +165,7 @@ pub fn absent_insert(
             answer.len(),
         )
     };
-    answered(returned).map(|code| bucket_insert_result(code, layout::key_in(&answer)))
+    answered(returned).map(|code| bucket_insert_result(code, layout::key_in(answer)))
 }
 
 /// The listings answer how many entries they found and wrote to the front of `output`.
@@ -256,11 +256,10 @@ pub fn closest_values_predicate(
     answered(returned).map(found)
 }
 
-pub fn take_applied_pending(storage: &mut [u8]) -> Result<Option<RecordCodes>, Refusal> {
+pub fn take_applied_pending(storage: &mut [u8], answer: &mut [u8]) -> Result<Option<RecordCodes>, Refusal> {
     let (bytes, length) = (storage.as_mut_ptr(), storage.len());
-    let mut answer = [0; ANSWER];
     let returned = unsafe { ffi::kbuckets_take_applied_pending(bytes, length, answer.as_mut_ptr(), answer.len()) };
-    answered(returned).map(|code| yes_or_no(code).then(|| layout::record_in(&answer)))
+    answered(returned).map(|code| yes_or_no(code).then(|| layout::record_in(answer)))
 }
 
 pub fn b_new(bucket: &mut [u8], pending_timeout: u64, max_incoming: u8, filter: u8) -> Result<(), Refusal> {
@@ -276,9 +275,9 @@ pub fn b_insert(
     state: u8,
     direction: u8,
     now: u64,
+    answer: &mut [u8],
 ) -> Result<BucketInsertResult, Refusal> {
     let ValueCodes { flag, octets: [a, b, c, d], slot } = value;
-    let mut answer = [0; ANSWER];
     let returned = unsafe {
         ffi::kbuckets_b_insert(
             bucket.as_mut_ptr(),
@@ -298,14 +297,13 @@ pub fn b_insert(
             answer.len(),
         )
     };
-    answered(returned).map(|code| bucket_insert_result(code, layout::key_in(&answer)))
+    answered(returned).map(|code| bucket_insert_result(code, layout::key_in(answer)))
 }
 
-pub fn b_apply_pending(bucket: &mut [u8], now: u64) -> Result<Option<RecordCodes>, Refusal> {
+pub fn b_apply_pending(bucket: &mut [u8], now: u64, answer: &mut [u8]) -> Result<Option<RecordCodes>, Refusal> {
     let (bytes, length) = (bucket.as_mut_ptr(), bucket.len());
-    let mut answer = [0; ANSWER];
     let returned = unsafe { ffi::kbuckets_b_apply_pending(bytes, length, now, answer.as_mut_ptr(), answer.len()) };
-    answered(returned).map(|code| yes_or_no(code).then(|| layout::record_in(&answer)))
+    answered(returned).map(|code| yes_or_no(code).then(|| layout::record_in(answer)))
 }
 
 pub fn b_update_status(bucket: &mut [u8], key: &[u8], state: u8, direction: u8) -> Result<UpdateResult, Refusal> {

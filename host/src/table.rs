@@ -1,7 +1,7 @@
 //! A table that owns its storage.
 
 use crate::answers::{AppliedPending, BucketInsertResult, Entry, InsertResult, Refusal, UpdateResult};
-use crate::lent::{self, MAX_COUNT, PredicateCodes, RecordCodes, STORAGE_BYTES};
+use crate::lent::{self, ANSWER_BYTES, MAX_COUNT, PredicateCodes, RecordCodes, STORAGE_BYTES};
 use crate::node::{
     ClosestValue, ConnectionDirection, ConnectionState, Key, NOT_GIVEN, Node, NodeStatus, PredicateValue, Value,
 };
@@ -89,7 +89,8 @@ impl KBucketsTable {
         now: u64,
     ) -> Result<InsertResult, Refusal> {
         let NodeStatus { state, direction } = status;
-        lent::insert_or_update(&mut self.storage, key, value.into(), state as u8, direction as u8, now)
+        let answer = &mut [0; ANSWER_BYTES];
+        lent::insert_or_update(&mut self.storage, key, value.into(), state as u8, direction as u8, now, answer)
     }
 
     /// Takes a node out; `false` where there is none.
@@ -125,7 +126,8 @@ impl KBucketsTable {
         now: u64,
     ) -> Result<BucketInsertResult, Refusal> {
         let NodeStatus { state, direction } = status;
-        lent::absent_insert(&mut self.storage, key, value.into(), state as u8, direction as u8, now)
+        let answer = &mut [0; ANSWER_BYTES];
+        lent::absent_insert(&mut self.storage, key, value.into(), state as u8, direction as u8, now, answer)
     }
 
     /// The first n nodes, bucket by bucket.
@@ -176,7 +178,7 @@ impl KBucketsTable {
 
     /// Takes the oldest record of a pending node that was applied.
     pub fn take_applied_pending(&mut self) -> Result<Option<AppliedPending>, Refusal> {
-        Ok(lent::take_applied_pending(&mut self.storage)?.map(AppliedPending::from))
+        Ok(lent::take_applied_pending(&mut self.storage, &mut [0; ANSWER_BYTES])?.map(AppliedPending::from))
     }
 }
 

@@ -15,7 +15,7 @@ enum {
     KEY = KBUCKETS_KEY_BYTES,
     NODE = KBUCKETS_NODE_BYTES,
     RECORD = KBUCKETS_RECORD_BYTES,
-    PLACES = KBUCKETS_MAX_NODES,
+    PLACES = KBUCKETS_MAX_NODES_PER_BUCKET,
     BUCKETS = KBUCKETS_NUM_BUCKETS,
     RECORDS = KBUCKETS_MAX_RECORDS,
     /* in the header */
@@ -45,21 +45,25 @@ enum {
 };
 
 #define Q(n) (1u << (n))
-#define UPDATES 0x003F000FULL /* 0 to 3, 16 to 21 */
-#define INSERTS 0x003F00FFULL /* 0 to 7, 16 to 21 */
+#define STATUS_UPDATES 0x000B000FULL /* 0 to 3, 16, 17, 19 */
+#define NODE_UPDATES 0x000F000FULL /* 0 to 3, 16 to 19 */
+#define PRESENT_UPDATES 0x00030007ULL /* 0 to 2, 16, 17 */
+#define VALUE_UPDATES 0x000A000BULL /* 0, 1, 3, 17, 19 */
+#define INSERTS 0x0037007FULL /* 0 to 6, 16 to 18, 20, 21 */
+#define ABSENT_INSERTS 0x1FULL
 #define BUCKET_INSERTS 0x3FULL
 #define ENTRIES 0x0000000F000F0003ULL /* 0, 1, 16 to 19, 32 to 35 */
 /* name, its questions, the bytes of an entry of its output, the answers that the header lists */
 #define CALLS(X)                                                                                                                           \
     X(new, Q(1) | Q(3) | Q(4), 0, 1)                                                                                                       \
-    X(update_node_status, Q(1) | Q(2) | Q(3) | Q(4) | Q(5) | Q(8), 0, UPDATES)                                                             \
-    X(update_node, Q(1) | Q(2) | Q(3) | Q(4) | Q(5) | Q(8), 0, UPDATES)                                                                    \
+    X(update_node_status, Q(1) | Q(2) | Q(3) | Q(4) | Q(5) | Q(8), 0, STATUS_UPDATES)                                                      \
+    X(update_node, Q(1) | Q(2) | Q(3) | Q(4) | Q(5) | Q(8), 0, NODE_UPDATES)                                                               \
     X(insert_or_update, Q(1) | Q(2) | Q(3) | Q(4) | Q(5) | Q(6) | Q(8), 0, INSERTS)                                                        \
     X(remove, Q(1) | Q(2) | Q(3) | Q(5) | Q(8), 0, 3)                                                                                      \
     X(entry, Q(1) | Q(2) | Q(3) | Q(5) | Q(8), 0, ENTRIES)                                                                                 \
-    X(present_update, Q(1) | Q(2) | Q(3) | Q(4) | Q(7), 0, UPDATES)                                                                        \
+    X(present_update, Q(1) | Q(2) | Q(3) | Q(4) | Q(7), 0, PRESENT_UPDATES)                                                                \
     X(pending_update, Q(1) | Q(2) | Q(3) | Q(4) | Q(7), 0, 1 << 3)                                                                         \
-    X(absent_insert, Q(1) | Q(2) | Q(3) | Q(4) | Q(5) | Q(6) | Q(7), 0, BUCKET_INSERTS)                                                    \
+    X(absent_insert, Q(1) | Q(2) | Q(3) | Q(4) | Q(5) | Q(6) | Q(7), 0, ABSENT_INSERTS)                                                    \
     X(iter, Q(1) | Q(2) | Q(5) | Q(6) | Q(8), KBUCKETS_ITER_ENTRY_BYTES, 0)                                                                \
     X(nodes_by_distances, Q(1) | Q(2) | Q(5) | Q(6) | Q(8), KBUCKETS_NODES_BY_DISTANCES_ENTRY_BYTES, 0)                                    \
     X(closest_keys, Q(1) | Q(2) | Q(3) | Q(5) | Q(6) | Q(8), KBUCKETS_CLOSEST_KEYS_ENTRY_BYTES, 0)                                         \
@@ -69,8 +73,8 @@ enum {
     X(b_new, Q(1) | Q(4), 0, 1)                                                                                                            \
     X(b_insert, Q(1) | Q(2) | Q(3) | Q(4) | Q(5) | Q(6), 0, BUCKET_INSERTS)                                                                \
     X(b_apply_pending, Q(1) | Q(2) | Q(5) | Q(6), 0, 3)                                                                                    \
-    X(b_update_status, Q(1) | Q(2) | Q(3) | Q(4), 0, UPDATES)                                                                              \
-    X(b_update_value, Q(1) | Q(2) | Q(3) | Q(4), 0, UPDATES)                                                                               \
+    X(b_update_status, Q(1) | Q(2) | Q(3) | Q(4), 0, STATUS_UPDATES)                                                                       \
+    X(b_update_value, Q(1) | Q(2) | Q(3) | Q(4), 0, VALUE_UPDATES)                                                                         \
     X(b_update_pending, Q(1) | Q(2) | Q(4), 0, 1)                                                                                          \
     X(b_remove, Q(1) | Q(2) | Q(3) | Q(5), 0, 3)
 

@@ -1006,8 +1006,10 @@ static int report(bool tables_here, bool alones_here)
         } else {
             printf("; answered");
             for (int k = 0; k < NUM_OUTCOMES; k++)
-                if (calls[c].answers >> k & 1)
+                if (calls[c].answers >> k & 1) {
                     printf(" %d:%lu", k, outcomes[c].answered[k]);
+                    missing += !outcomes[c].answered[k];
+                }
         }
         putchar('\n');
     }

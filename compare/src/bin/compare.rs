@@ -98,7 +98,7 @@ fn compare(options: &Options, programs: &[Program; 2]) -> Result<Option<()>, Str
         program.answers(&[])?;
     }
     let mut generator = Generator::new(options.seed);
-    let mut counts = Counts::new();
+    let (mut counts, mut asked) = (Counts::outcomes(), Counts::asked());
     let mut calls = 0;
     let mut shown = start;
     while calls < wanted && start.elapsed() < limit {
@@ -108,7 +108,8 @@ fn compare(options: &Options, programs: &[Program; 2]) -> Result<Option<()>, Str
         }
         let disagreement = run::compare(programs, &list, |line, answer| {
             calls += u64::from(!line.starts_with("raw_"));
-            counts.add(line, answer);
+            counts.add_outcome(line, answer);
+            asked.add_asked(line, answer);
         })?;
         if let Some(disagreement) = disagreement {
             println!("seed {}: disagreement after {calls} calls", options.seed);
@@ -122,6 +123,8 @@ fn compare(options: &Options, programs: &[Program; 2]) -> Result<Option<()>, Str
         }
     }
     print_counts(&counts);
+    println!("Asked of the listings:");
+    print_counts(&asked);
     println!("seed {}: {calls} calls agree, in {:.1} s", options.seed, start.elapsed().as_secs_f64());
     Ok(None)
 }
@@ -156,7 +159,7 @@ fn replay(options: &Options, program: &Program, file: &str) -> Result<(), String
     let limit = Duration::from_secs(options.seconds);
     let mut generator = Generator::new(options.seed);
     generator.small = true;
-    let mut counts = Counts::new();
+    let mut counts = Counts::outcomes();
     let mut lines: Vec<String> = Vec::new();
     let mut calls = 0;
     let mut shown = start;
@@ -176,7 +179,7 @@ fn replay(options: &Options, program: &Program, file: &str) -> Result<(), String
             break;
         }
         for (line, answer) in list.iter().zip(program.answers(&list)?) {
-            counts.add(line, &answer);
+            counts.add_outcome(line, &answer);
         }
         calls += count_calls(&list);
         list.push(if list[0].starts_with("b_") { "bdump" } else { "dump" }.to_string());

@@ -66,7 +66,7 @@ missing.
     }
 
     fn write(calls: u64, seed: u64, file: &str) -> Result<(), String> {
-        let mut counts = Counts::new();
+        let mut counts = Counts::outcomes();
         let mut lines = fixed();
         add(&mut counts, &lines, &answers(&lines)?);
         let mut generator = Generator::new(seed);
@@ -117,7 +117,7 @@ missing.
 
     fn add(counts: &mut Counts, list: &[String], answers: &[String]) {
         for (line, answer) in list.iter().zip(answers) {
-            counts.add(line, answer);
+            counts.add_outcome(line, answer);
         }
     }
 

@@ -1,13 +1,16 @@
 //! Reads calls and writes the answers of the proved library.
 
 use calls::layout::{self, AloneBytes, KEY, Settings, TableBytes};
-use calls::program::{self, Implementation, Refusal};
+use calls::program::{self, Implementation, Unanswered};
 use calls::text::{
     BUCKET_FORMS, BucketCall, Listing, Predicate, RAW_FORMS, RecordCodes, TABLE_FORMS, TableCall, Write,
 };
-use kbuckets::lent::{self, MAX_COUNT, PredicateCodes};
+use kbuckets::lent::{self, ANSWER_BYTES, MAX_COUNT, PredicateCodes};
 use kbuckets::{BucketInsertResult, Entry, FailureReason, InsertResult, NodeStatus, UpdateResult};
+use output::{Output, changed};
 use std::process::ExitCode;
+
+mod output;
 
 fn main() -> ExitCode {
     program::run("kbtable", help, Tool::new())
@@ -34,8 +37,8 @@ DIRECTION):
   STATE DIRECTION    0 disconnected or 1 connected; 0 outgoing or 1 incoming; 2 for 'not given' where a '?' stands
   NOW TIMEOUT        milliseconds
   MAX_INCOMING       the most connected incoming nodes of a bucket, 0 to 16
-  TABLE_FILTER       1: at most 10 unequal values of a /24 in the table; 0: off
-  BUCKET_FILTER      1: at most 2 unequal values of a /24 in a bucket; 0: off
+  TABLE_FILTER       1: a value fails where the table holds 10 values of its /24 that are unequal to it; 0: off
+  BUCKET_FILTER      1: a value fails where the bucket holds 2 values of its /24 that are unequal to it; 0: off
   DISTANCES          log2 distances joined by commas, '-' for none
   PREDICATE          0 always, 1 has an address, 2:a.b.c address in that /24, 3:SLOT slot equals
   PLACE              the first connected place, '-' for none
@@ -45,7 +48,7 @@ DIRECTION):
 'Refused Q' is a call that changed nothing, since question Q failed: 1 the storage's length, 2 its form, 3 a key's length, 4 a code,
 5 NOW + TIMEOUT, 6 N or the output's length, 7 the entry's kind, 8 room in the queue of records.
 
-Other answers are sigp/discv5's names; CALLS.md beside this tool's source has them all, and the form of a dump.
+Other answers are sigp/discv5's names; host/CALLS.md has them all, and the form of a dump.
 
 An example: a table that holds one node, and the keys nearest to the key 5:
 
@@ -57,26 +60,37 @@ An example: a table that holds one node, and the keys nearest to the key 5:
     )
 }
 
-/// The storage of a table, and a bucket by itself.
+/// The storage of a table, a bucket by itself, and what the calls are lent besides.
 struct Tool {
     table: TableBytes,
     bucket: AloneBytes,
+    lent: Lent,
+}
+
+/// The storage, or the bucket, as it was before the call, and bytes for what the call writes besides.
+struct Lent {
+    before: Vec<u8>,
+    output: Output,
 }
 
 impl Tool {
     fn new() -> Tool {
         let settings = Settings::default();
-        Tool { table: TableBytes::new(&[0; KEY], &settings), bucket: AloneBytes::new(&settings) }
+        Tool {
+            table: TableBytes::new(&[0; KEY], &settings),
+            bucket: AloneBytes::new(&settings),
+            lent: Lent { before: Vec::new(), output: Output::new((MOST_ENTRIES + 1) * lent::ITER_ENTRY) },
+        }
     }
 }
 
 impl Implementation for Tool {
-    fn table_call(&mut self, short: bool, call: &TableCall, out: &mut Vec<u8>) -> Result<(), Refusal> {
-        table_call(lend(&mut self.table.0, short), call, out).map_err(kbuckets::Refusal::number)
+    fn table_call(&mut self, short: bool, call: &TableCall, out: &mut Vec<u8>) -> Result<(), Unanswered> {
+        self.lent.call(&mut self.table.0, short, call, |storage, output| table_call(storage, call, output, out))
     }
 
-    fn bucket_call(&mut self, short: bool, call: &BucketCall, out: &mut Vec<u8>) -> Result<(), Refusal> {
-        bucket_call(lend(&mut self.bucket.0, short), call, out).map_err(kbuckets::Refusal::number)
+    fn bucket_call(&mut self, short: bool, call: &BucketCall, out: &mut Vec<u8>) -> Result<(), Unanswered> {
+        self.lent.call(&mut self.bucket.0, short, call, |bucket, output| bucket_call(bucket, call, output, out))
     }
 
     fn table_bytes(&mut self) -> &mut TableBytes {
@@ -96,13 +110,35 @@ impl Implementation for Tool {
     }
 }
 
-/// The bytes, or all but the last.
-fn lend(bytes: &mut [u8], short: bool) -> &mut [u8] {
-    let length = bytes.len() - usize::from(short);
-    &mut bytes[..length]
+impl Lent {
+    /// Runs a call on the bytes, or on all but the last, and looks at what it changed: arguments never, in a refusal nothing, and of its
+    /// output only what it says it wrote.
+    fn call<Call: Clone + PartialEq>(
+        &mut self,
+        bytes: &mut Vec<u8>,
+        short: bool,
+        call: &Call,
+        run: impl FnOnce(&mut [u8], &mut Output) -> Result<(), Unanswered>,
+    ) -> Result<(), Unanswered> {
+        self.before.clone_from(bytes);
+        let given = call.clone();
+        let length = bytes.len() - usize::from(short);
+        let answered = run(&mut bytes[..length], &mut self.output);
+        let broken = |message| Err(Unanswered::Broken(message));
+        if *call != given {
+            return broken("an argument changed".to_string());
+        }
+        if let Err(Unanswered::Refused(question)) = answered
+            && let Some(at) = changed(&self.before, bytes, 0..0)
+        {
+            return broken(format!("refused with {question}, and byte {at} of the storage changed"));
+        }
+        self.output.check().or_else(broken)?;
+        answered
+    }
 }
 
-fn table_call(storage: &mut [u8], call: &TableCall, out: &mut Vec<u8>) -> Result<(), kbuckets::Refusal> {
+fn table_call(storage: &mut [u8], call: &TableCall, output: &mut Output, out: &mut Vec<u8>) -> Result<(), Unanswered> {
     match call {
         TableCall::New { local, timeout, max_incoming, table_filter, bucket_filter } => {
             lent::new(storage, local, *timeout, *max_incoming, *table_filter, *bucket_filter)?;
@@ -115,7 +151,9 @@ fn table_call(storage: &mut [u8], call: &TableCall, out: &mut Vec<u8>) -> Result
             update_result(lent::update_node(storage, key, *value, *state, *now)?, out);
         }
         TableCall::InsertOrUpdate { now, key, value, state, direction } => {
-            insert_result(lent::insert_or_update(storage, key, *value, *state, *direction, *now)?, out);
+            let answer = answer(output);
+            let result = lent::insert_or_update(storage, key, *value, *state, *direction, *now, answer)?;
+            insert_result(result, output, out);
         }
         TableCall::Remove { now, key } => yes_or_no(lent::remove(storage, key, *now)?, out),
         TableCall::Entry { now, key } => entry(lent::entry(storage, key, *now)?, out),
@@ -126,24 +164,34 @@ fn table_call(storage: &mut [u8], call: &TableCall, out: &mut Vec<u8>) -> Result
             update_result(lent::pending_update(storage, key, *state, *direction)?, out);
         }
         TableCall::AbsentInsert { now, key, value, state, direction } => {
-            bucket_insert_result(lent::absent_insert(storage, key, *value, *state, *direction, *now)?, out);
+            let answer = answer(output);
+            let result = lent::absent_insert(storage, key, *value, *state, *direction, *now, answer)?;
+            bucket_insert_result(result, output, out);
         }
-        TableCall::List { now, listing, n, room } => list(storage, *now, listing, *n, *room, out)?,
-        TableCall::TakeAppliedPending => applied(lent::take_applied_pending(storage)?, out),
+        TableCall::List { now, listing, n, room } => list(storage, *now, listing, *n, *room, output, out)?,
+        TableCall::TakeAppliedPending => {
+            let record = lent::take_applied_pending(storage, answer(output))?;
+            applied(record, output, out)?;
+        }
     }
     Ok(())
 }
 
-fn bucket_call(bucket: &mut [u8], call: &BucketCall, out: &mut Vec<u8>) -> Result<(), kbuckets::Refusal> {
+fn bucket_call(bucket: &mut [u8], call: &BucketCall, output: &mut Output, out: &mut Vec<u8>) -> Result<(), Unanswered> {
     match call {
         BucketCall::New { timeout, max_incoming, filter } => {
             lent::b_new(bucket, *timeout, *max_incoming, *filter)?;
             out.text("New");
         }
         BucketCall::Insert { now, key, value, state, direction } => {
-            bucket_insert_result(lent::b_insert(bucket, key, *value, *state, *direction, *now)?, out);
+            let answer = answer(output);
+            let result = lent::b_insert(bucket, key, *value, *state, *direction, *now, answer)?;
+            bucket_insert_result(result, output, out);
         }
-        BucketCall::ApplyPending { now } => applied(lent::b_apply_pending(bucket, *now)?, out),
+        BucketCall::ApplyPending { now } => {
+            let record = lent::b_apply_pending(bucket, *now, answer(output))?;
+            applied(record, output, out)?;
+        }
         BucketCall::UpdateStatus { key, state, direction } => {
             update_result(lent::b_update_status(bucket, key, *state, *direction)?, out);
         }
@@ -157,15 +205,24 @@ fn bucket_call(bucket: &mut [u8], call: &BucketCall, out: &mut Vec<u8>) -> Resul
     Ok(())
 }
 
-/// A listing, with an output for as many entries as `room` says, or as n asks for.
+/// Bytes for an answer.
+fn answer(output: &mut Output) -> &mut [u8] {
+    output.lend(1, ANSWER_BYTES)
+}
+
+/// The entries that an output has room for, at most. More than [`MAX_COUNT`] are never written.
+const MOST_ENTRIES: usize = MAX_COUNT + 8;
+
+/// A listing, with an output for as many entries as `room` says, or for those that n asks for and some more.
 fn list(
     storage: &mut [u8],
     now: u64,
     listing: &Listing,
     n: u64,
     room: Option<u64>,
+    output: &mut Output,
     out: &mut Vec<u8>,
-) -> Result<(), kbuckets::Refusal> {
+) -> Result<(), Unanswered> {
     let (entry, least) = match listing {
         Listing::Iter => (lent::ITER_ENTRY, 0),
         Listing::NodesByDistances(_) => (lent::NODES_BY_DISTANCES_ENTRY, 1),
@@ -173,22 +230,21 @@ fn list(
         Listing::ClosestValues(_) => (lent::CLOSEST_VALUES_ENTRY, 0),
         Listing::ClosestValuesPredicate(..) => (lent::CLOSEST_VALUES_PREDICATE_ENTRY, 0),
     };
-    // More entries than the most are never written, and a greater n is refused whatever the output.
-    let entries = room.unwrap_or(n.max(least)).min(MAX_COUNT as u64) as usize;
-    let mut output = vec![0; entries * entry];
+    let entries = room.unwrap_or(n.max(least).saturating_add(output.more())).min(MOST_ENTRIES as u64);
+    let lent = output.lend(entries as usize, entry);
     let n = n as usize;
     let count = match listing {
-        Listing::Iter => lent::iter(storage, n, now, &mut output),
-        Listing::NodesByDistances(distances) => lent::nodes_by_distances(storage, distances, n, now, &mut output),
-        Listing::ClosestKeys(target) => lent::closest_keys(storage, target, n, now, &mut output),
-        Listing::ClosestValues(target) => lent::closest_values(storage, target, n, now, &mut output),
+        Listing::Iter => lent::iter(storage, n, now, lent),
+        Listing::NodesByDistances(distances) => lent::nodes_by_distances(storage, distances, n, now, lent),
+        Listing::ClosestKeys(target) => lent::closest_keys(storage, target, n, now, lent),
+        Listing::ClosestValues(target) => lent::closest_values(storage, target, n, now, lent),
         Listing::ClosestValuesPredicate(target, predicate) => {
-            lent::closest_values_predicate(storage, target, predicate_codes(predicate), n, now, &mut output)
+            lent::closest_values_predicate(storage, target, predicate_codes(predicate), n, now, lent)
         }
     }?;
     out.text("List ");
     out.number(count as u64);
-    for bytes in output.chunks_exact(entry).take(count) {
+    for bytes in output.wrote(count * entry).chunks_exact(entry) {
         out.text(" ");
         match listing {
             Listing::Iter | Listing::NodesByDistances(_) => out.node(&layout::node_in(bytes)),
@@ -222,15 +278,19 @@ fn yes_or_no(answer: bool, out: &mut Vec<u8>) {
     out.text(if answer { "true" } else { "false" });
 }
 
-fn applied(record: Option<RecordCodes>, out: &mut Vec<u8>) {
-    match record {
-        None => out.text("None"),
-        Some(record) => {
-            out.text("Some(");
-            out.record(&record);
-            out.text(")");
-        }
+/// All bytes of a record are determined, also where it has no evicted node.
+fn applied(record: Option<RecordCodes>, output: &mut Output, out: &mut Vec<u8>) -> Result<(), Unanswered> {
+    let Some(record) = record else {
+        out.text("None");
+        return Ok(());
+    };
+    if *output.wrote(ANSWER_BYTES) != layout::record_bytes(&record) {
+        return Err(Unanswered::Broken("the answer's bytes are no record's".to_string()));
     }
+    out.text("Some(");
+    out.record(&record);
+    out.text(")");
+    Ok(())
 }
 
 fn entry(entry: Entry, out: &mut Vec<u8>) {
@@ -257,10 +317,10 @@ fn update_result(result: UpdateResult, out: &mut Vec<u8>) {
     }
 }
 
-fn insert_result(result: InsertResult, out: &mut Vec<u8>) {
+fn insert_result(result: InsertResult, output: &mut Output, out: &mut Vec<u8>) {
     match result {
         InsertResult::Inserted => out.text("Inserted"),
-        InsertResult::Pending { disconnected } => pending(&disconnected, out),
+        InsertResult::Pending { disconnected } => pending(&disconnected, output, out),
         InsertResult::StatusUpdated { promoted_to_connected } => promoted("StatusUpdated", promoted_to_connected, out),
         InsertResult::ValueUpdated => out.text("ValueUpdated"),
         InsertResult::Updated { promoted_to_connected } => promoted("Updated", promoted_to_connected, out),
@@ -269,10 +329,10 @@ fn insert_result(result: InsertResult, out: &mut Vec<u8>) {
     }
 }
 
-fn bucket_insert_result(result: BucketInsertResult, out: &mut Vec<u8>) {
+fn bucket_insert_result(result: BucketInsertResult, output: &mut Output, out: &mut Vec<u8>) {
     match result {
         BucketInsertResult::Inserted => out.text("Inserted"),
-        BucketInsertResult::Pending { disconnected } => pending(&disconnected, out),
+        BucketInsertResult::Pending { disconnected } => pending(&disconnected, output, out),
         BucketInsertResult::FailedFilter => out.text("FailedFilter"),
         BucketInsertResult::TooManyIncoming => out.text("TooManyIncoming"),
         BucketInsertResult::Full => out.text("Full"),
@@ -293,7 +353,8 @@ fn failed(reason: FailureReason, out: &mut Vec<u8>) {
     out.text(")");
 }
 
-fn pending(disconnected: &[u8; KEY], out: &mut Vec<u8>) {
+fn pending(disconnected: &[u8; KEY], output: &mut Output, out: &mut Vec<u8>) {
+    output.wrote(KEY);
     out.text("Pending{disconnected:");
     out.key(disconnected);
     out.text("}");
@@ -302,4 +363,75 @@ fn pending(disconnected: &[u8; KEY], out: &mut Vec<u8>) {
 fn promoted(name: &str, promoted: bool, out: &mut Vec<u8>) {
     out.text(name);
     out.text(if promoted { "{promoted_to_connected:true}" } else { "{promoted_to_connected:false}" });
+}
+
+#[cfg(test)]
+mod tests {
+    use super::*;
+
+    /// Runs a call on four bytes; what it does is the test's.
+    fn called(
+        short: bool,
+        run: impl FnOnce(&mut [u8], &mut Output) -> Result<(), Unanswered>,
+    ) -> Result<(), Unanswered> {
+        let mut lent = Lent { before: Vec::new(), output: Output::new(2 * ANSWER_BYTES) };
+        lent.call(&mut vec![1, 2, 3, 4], short, &(), run)
+    }
+
+    fn broken(message: &str) -> Result<(), Unanswered> {
+        Err(Unanswered::Broken(message.to_string()))
+    }
+
+    #[test]
+    fn a_refusal_changes_nothing() {
+        for question in 1..=8 {
+            let refused = || Err(Unanswered::Refused(question));
+            assert_eq!(called(false, |_, _| refused()), refused());
+            let storage = called(true, |bytes, _| {
+                *bytes.last_mut().unwrap() = 0;
+                refused()
+            });
+            assert_eq!(storage, broken(&format!("refused with {question}, and byte 2 of the storage changed")));
+            let output = called(false, |_, output| {
+                answer(output)[31] = 0;
+                refused()
+            });
+            let message = "byte 31 of the output changed; it has 74 bytes, and the call says that it wrote 0";
+            assert_eq!(output, broken(message));
+        }
+    }
+
+    /// An accepted call may change the storage, and the first 32 bytes of the answer where it is a pending's.
+    #[test]
+    fn an_answer_changes_what_it_says() {
+        let inserted = |result: InsertResult, written: usize| {
+            called(false, |bytes, output| {
+                bytes.fill(0);
+                answer(output)[..written].fill(0);
+                insert_result(result, output, &mut Vec::new());
+                Ok(())
+            })
+        };
+        let pending = InsertResult::Pending { disconnected: [0; KEY] };
+        assert_eq!(inserted(pending, KEY), Ok(()));
+        assert!(inserted(pending, KEY + 1).is_err());
+        assert_eq!(inserted(InsertResult::Inserted, 0), Ok(()));
+        assert!(inserted(InsertResult::Inserted, 1).is_err());
+    }
+
+    /// Where a record has no evicted node, the bytes for it are zero.
+    #[test]
+    fn a_record_has_all_its_bytes() {
+        let record = RecordCodes { inserted: [7; KEY], evicted: None };
+        let taken = |zeros: usize| {
+            called(false, |_, output| {
+                let answer = answer(output);
+                answer[..KEY].fill(7);
+                answer[KEY..][..zeros].fill(0);
+                applied(Some(record), output, &mut Vec::new())
+            })
+        };
+        assert_eq!(taken(ANSWER_BYTES - KEY), Ok(()));
+        assert_eq!(taken(1), broken("the answer's bytes are no record's"));
+    }
 }
