@@ -87,16 +87,20 @@ static volatile uint64_t sink;
 static sum_function *chosen;
 static void run_sum(int i) { (void)i; sink += chosen(storage, sizeof storage); }
 static void run_question_2(int i) { (void)i; sink += kbuckets_take_applied_pending(storage, sizeof storage, answer, sizeof answer); }
-static const uint8_t *key_at(int i) { return held[(unsigned)i * 2654435761u % (unsigned)held_count]; }
-static void run_status(int i) { sink += kbuckets_update_node_status(storage, sizeof storage, key_at(i), 32, 1, 0, 0); }
-static void run_held(int i) { sink += put(key_at(i)); }
-static void run_entry(int i) { sink += kbuckets_entry(storage, sizeof storage, key_at(i), 32, 0); }
-static void run_remove(int i) { sink += kbuckets_remove(storage, sizeof storage, key_at(i), 32, 0); }
+
+// The key of a call stands in one buffer, as in the message that a host took it from; it is put there before the clock starts.
+static uint8_t key[32];
+static void take_key(int i) { memcpy(key, held[(unsigned)i * 2654435761u % (unsigned)held_count], sizeof key); }
+static void run_status(int i) { (void)i; sink += kbuckets_update_node_status(storage, sizeof storage, key, sizeof key, 1, 0, 0); }
+static void run_held(int i) { (void)i; sink += put(key); }
+static void run_update(int i) { sink += kbuckets_update_node(storage, sizeof storage, key, sizeof key, 1, 10, 0, 0, 1, (uint16_t)i, 1, 0); }
+static void run_present(int i) { (void)i; sink += kbuckets_present_update(storage, sizeof storage, key, sizeof key, 1, 0); }
+static void run_entry(int i) { (void)i; sink += kbuckets_entry(storage, sizeof storage, key, sizeof key, 0); }
+static void run_remove(int i) { (void)i; sink += kbuckets_remove(storage, sizeof storage, key, sizeof key, 0); }
 static void run_closest(int i) {
-    uint8_t target[32];
-    memcpy(target, key_at(i), 32);
-    target[31] ^= 85;
-    sink += kbuckets_closest_keys(storage, sizeof storage, target, 32, N, 0, output, sizeof output);
+    (void)i;
+    key[31] ^= 85;
+    sink += kbuckets_closest_keys(storage, sizeof storage, key, sizeof key, N, 0, output, sizeof output);
 }
 
 static double timed(void (*f)(int), int i) {
@@ -122,11 +126,15 @@ static void measure_call(const char *name, void (*f)(int), void (*undo)(int)) {
     for (int r = 0; r < ROUNDS; r++) {
         double before = timed(run_question_2, 0);
         for (int i = r * CALLS; i < (r + 1) * CALLS; i++) {
+            take_key(i);
             double took = timed(f, i), after = timed(run_question_2, 0);
             beyond[i] = took - (before + after) / 2;
             before = after;
         }
-        for (int i = r * CALLS; undo && i < (r + 1) * CALLS; i++) undo(i);
+        for (int i = r * CALLS; undo && i < (r + 1) * CALLS; i++) {
+            take_key(i);
+            undo(i);
+        }
     }
     qsort(beyond, ROUNDS * CALLS, sizeof beyond[0], ascending);
     printf("  %-42s beyond question 2 %6.0f ns\n", name, beyond[ROUNDS * CALLS / 2]);
@@ -138,6 +146,8 @@ static double measure(const char *name, int first, int most) {
     printf("%s, %d nodes\n  %-42s %9.0f ns\n", name, held_count, "question 2", question_2);
     if (held_count == 0) return question_2;
     measure_call("update_node_status", run_status, 0);
+    measure_call("present_update", run_present, 0);
+    measure_call("update_node, another value", run_update, 0);
     measure_call("insert_or_update of a held key", run_held, 0);
     measure_call("entry", run_entry, 0);
     if (held_count > 2 * CALLS) measure_call("remove", run_remove, run_held);

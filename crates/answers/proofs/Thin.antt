@@ -1,5 +1,5 @@
 -- An export that is thin above its entry point: it returns the answer's number, and what the answer carries stands in the lent bytes.
-use Prim.Native.Nat.{ℕ, zero, suc, _≤_, _<_}
+use Prim.Native.Nat.{ℕ, _≤_, _<_}
 use native.Mathlib.Nat.{min-le-left}
 use native.Mathlib.Omega.{arith}
 use mathlib.Core.Path.{_≡_, refl, sym, ap, _∙_}
@@ -15,13 +15,14 @@ use Rattle.model.specs.Table.{Answer}
 use Rattle.model.specs.Sizes.{storageSize}
 use Rattle.model.specs.Call.{ValueArgument, Listing, Call}
 use Rattle.model.specs.Question.{firstFailed, valueInRange, maxCount, keysFit, codesInRange, clockFits, outputFits, kindFits}
-use Rattle.model.specs.Listing.{atLeastOne, most, order, shown, found}
+use Rattle.model.specs.Listing.{most, order, shown, found}
 use Rattle.model.specs.Step.{act, questions, queueFits}
 use Rattle.model.specs.Layout.{tableOf}
 use Rattle.model.specs.StepBytes.{holdsTable, allQuestions, stepBytes}
 use Rattle.laws.proofs.Parts.{splice-nil}
 use Rattle.laws.proofs.Tests.{split, and-left}
 use Rattle.laws.proofs.KeepStep.{passed, accepted}
+use Rattle.laws.proofs.Listing.{most-few}
 use Rattle.asked.specs.Answers.{Answers, failedOfTwo, failedOfFive}
 use Rattle.asked.proofs.Questions.{front-fails, front-passes}
 use Rattle.asked.proofs.OneKey.{refused-bytes}
@@ -118,20 +119,9 @@ module _ (l : Listing) (n now : ℕ) (out s : List ℕ) where
   abbrev c : Call
   c = Call.list l n now out
 
-  most-few : n ≤ maxCount → (l : Listing) → most l n ≤ maxCount
-  most-few h Listing.iter = h
-  most-few h (Listing.nodesByDistances ds) = at-least n h
-    where
-      at-least : (n : ℕ) → n ≤ maxCount → atLeastOne n ≤ maxCount
-      at-least zero h = omega arith
-      at-least (suc n) h = h
-  most-few h (Listing.closestKeys x) = h
-  most-few h (Listing.closestValues x) = h
-  most-few h (Listing.closestValuesPredicate x p) = h
-
   found-few : n ≤ maxCount → length (found l n now (tableOf s)) ≤ maxCount
   unfolding found
-  found-few h = let m = most-few h l in rw length-take (omega (arith, min-le-left (most l n) (length (joined (shown l n now (tableOf s)) (order l (tableOf s)))), m))
+  found-few h = let m = most-few l n h in rw length-take (omega (arith, min-le-left (most l n) (length (joined (shown l n now (tableOf s)) (order l (tableOf s)))), m))
 
   accepted-few : firstFailed (allQuestions c s) ≡ none → n ≤ maxCount
   unfolding outputFits

@@ -8,10 +8,11 @@ ghost use lib.ListN.{length};
 ghost use Rattle.model.specs.Base.{given};
 ghost use Rattle.model.specs.Bytes.{splice};
 ghost use Rattle.model.specs.Question.{valueInRange};
-ghost use Rattle.asked.specs.Answers.{updateAnswer, argumentOf, refusal, failedOfTwo, failedOfFive};
+ghost use Rattle.node.specs.Node.{argumentOf};
+ghost use Rattle.asked.specs.Answers.{updateAnswer, refusal, failedOfTwo, failedOfFive};
 ghost use Rattle.bucket_update.specs.Results.{tableInsertResultOf};
 ghost use Rattle.codes.specs.Codes.{refusedCode, statusCode, insertCode, insertBytes, entryCode, answerCode, answerBytes, answerSize};
-ghost use Rattle.table.specs.Calls.{removeAnswer, takeAnswer, newAnswer};
+ghost use Rattle.table.specs.Calls.{removeAnswer, takeAnswer, newAnswer, takeCodes};
 ghost use Rattle.entry.specs.Kind.{kindOf, entryAnswer, insertAnswer};
 ghost use Rattle.update.specs.Calls.{insertOrUpdateAnswer};
 ghost use Rattle.found.specs.Lists.{listAnswer};
@@ -128,6 +129,7 @@ pub fn short_node(s: &[u8], key: &[u8], value: Value, state: u8, direction: u8, 
 // Internal: what `take_applied_pending` returns and puts in the answer.
 pub fn put_taken(answer: &mut [u8], taken: TakeAnswer) -> u32
     requires { ⌜ answerSize ≤ length (now answer) ⌝ }
+    requires { ⌜ takeCodes taken ≡ true ⌝ }
     ensures { λ r. ⌜ r ≡ answerCode (takeAnswer taken) ⌝ }
     ensures { λ _. ⌜ now (answer .exit) ≡ splice (now (answer .entry)) 0 (answerBytes (takeAnswer taken)) ⌝ }
 {
@@ -164,7 +166,7 @@ fn put_result(answer: &mut [u8], result: InsertResult) -> u32
         InsertResult::ValueUpdated => 4,
         InsertResult::Updated(promoted) => 5 + codes::flag_code(promoted),
         InsertResult::UpdatedPending => 7,
-        InsertResult::Failed(reason) => 16 + codes::reason_code(reason),
+        InsertResult::Failed(reason) => codes::reason_code(reason),
     }
 }
 

@@ -1,22 +1,21 @@
 -- The pending that is due and the count, as they stand in a bucket's bytes.
-use mathlib.Core.Path.{_≡_, refl, sym, ap, _∙_}
+use mathlib.Core.Path.{_≡_, refl, ap, _∙_}
 use mathlib.Core.Bool.{false}
 use mathlib.Core.List.{List, []}
 use mathlib.Core.Option.{Option, none, some}
 use Prim.Native.Nat.{ℕ, _+_}
 use native.Mathlib.Nat.{add-zero}
 use native.Mathlib.Omega.{arith}
-use lib.ListN.{length, getD, take, drop, length-append, take-append-drop}
-use lib.Dec.{eqb, leb}
+use lib.ListN.{getD}
+use lib.Dec.{leb}
 use borrow.Author.Tests.{ne-eqb}
-use Rattle.model.specs.Base.{tabulate}
 use Rattle.model.specs.Bytes.{number, part}
 use Rattle.model.specs.Node.{PendingNode}
-use Rattle.model.specs.Bucket.{Bucket, BucketSettings, count, applyIfDue, applyPending}
+use Rattle.model.specs.Bucket.{Bucket, BucketSettings, numEntries, applyIfDue, applyPending}
 use Rattle.model.specs.Sizes.{timeSize, nodeSize, pendingAt, bucketSize, bucketAt}
-use Rattle.model.specs.Layout.{nodeIn, placeIn, nodesIn, bucketIn, bucketPart, tableOf}
-use Rattle.laws.proofs.Lists.{length-tabulate}
+use Rattle.model.specs.Layout.{bucketIn, bucketPart, tableOf}
 use Rattle.laws.proofs.Parts.{getD-part, part-part}
+use Rattle.laws.proofs.BucketBack.{count-in}
 use Rattle.asked.specs.Answers.{isDue}
 
 -- a bucket without a due pending stays as it is
@@ -29,14 +28,9 @@ not-due s now b e = go (b .pending) e
     go (some p) e = rw e
 
 module _ (s : List ℕ) (i : ℕ) where
-  pub count-is : count (tableOf s .buckets i) ≡ getD s (bucketAt i) 0
-  unfolding tableOf bucketIn nodesIn
-  count-is =
-      let bs = bucketPart s i in
-      let f = getD bs 1 0 in
-      let ns = tabulate (getD bs 0 0) (λ j. nodeIn (placeIn bs j)) in
-      sym (length-append (take f ns) (drop f ns)) ∙ ap length (take-append-drop f ns) ∙ length-tabulate (getD bs 0 0) (λ j. nodeIn (placeIn bs j))
-      ∙ getD-part s (bucketAt i) bucketSize 0 (omega arith) ∙ ap (λ (k : ℕ). getD s k 0) (add-zero (bucketAt i))
+  pub count-is : numEntries (tableOf s .buckets i) ≡ getD s (bucketAt i) 0
+  unfolding tableOf
+  count-is = count-in (bucketPart s i) ∙ getD-part s (bucketAt i) bucketSize 0 (omega arith) ∙ ap (λ (k : ℕ). getD s k 0) (add-zero (bucketAt i))
 
   abbrev pub flagAt : ℕ
   flagAt = bucketAt i + pendingAt

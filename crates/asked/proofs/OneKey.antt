@@ -1,15 +1,15 @@
 -- A call on one key: what it answers and leaves, by its questions, by the key's index and by what it does to the key's bucket.
-use Prim.Native.Nat.{ℕ, _+_, _*_, _≤_, _<_}
+use Prim.Native.Nat.{ℕ}
 use native.Mathlib.Omega.{arith}
-use mathlib.Core.Path.{_≡_, refl, sym, ap, _∙_, subst}
-use mathlib.Core.Bool.{Bool, true, false, cond, not, _&&_, _||_}
+use mathlib.Core.Path.{_≡_, sym, ap, _∙_}
+use mathlib.Core.Bool.{Bool, true, false, cond, not, _||_, and-true}
 use mathlib.Core.List.{List, [], _∷_, _++_}
 use mathlib.Core.Option.{Option, none, some}
 use lib.ListN.{length, length-append}
 use lib.Dec.{eqb, leb}
 use borrow.Author.Tests.{le-leb}
 use Rattle.model.specs.Base.{every}
-use Rattle.model.specs.Bytes.{Bytes, number, part, splice}
+use Rattle.model.specs.Bytes.{Bytes, number, splice}
 use Rattle.model.specs.Node.{AppliedPending}
 use Rattle.model.specs.Bucket.{Bucket}
 use Rattle.model.specs.Table.{Table, EntryKind, Answer, Effect, write, indexIn, maxRecords}
@@ -19,7 +19,8 @@ use Rattle.model.specs.Question.{Arguments, firstFailed, arguments, onOneKey, k
 use Rattle.model.specs.Step.{Outcome, act, onKey, queueFits}
 use Rattle.model.specs.Layout.{headerBytes, tableOf}
 use Rattle.model.specs.Formed.{formed}
-use Rattle.model.specs.StepBytes.{BytesOutcome, allQuestions, indices, bucketOfKey, touched, restore, unlessRefused, stepBytes}
+use Rattle.model.specs.Listing.{indices}
+use Rattle.model.specs.StepBytes.{allQuestions, bucketOfKey, touched, restore, unlessRefused, stepBytes}
 use Rattle.laws.proofs.TableBytes.{fits-back}
 use Rattle.laws.proofs.HeaderBack.{header-back}
 use Rattle.laws.proofs.Parts.{splice-part}
@@ -60,10 +61,6 @@ module _ (s : List ℕ) {c : Call} {key : List ℕ} {codes : Bool} {now : Option
 
   abbrev lastTwo : List (ℕ × Bool)
   lastTwo = (7, kind (kindOfKey key t)) ∷ (8, queueFits c t) ∷ []
-
-  and-true : (b : Bool) → (b && true) ≡ b
-  and-true true = refl
-  and-true false = refl
 
   asked-are : firstFailed (allQuestions c s) ≡ firstFailed (firstFive key codes now s ++ lastTwo)
   unfolding keysFit codesInRange clockFits outputFits kindFits

@@ -2,20 +2,18 @@
 use Prim.Native.Nat.{ℕ, _+_, _^_, _<_}
 use mathlib.Core.Path.{_≡_}
 use mathlib.Core.Bool.{Bool, true, false, cond}
-use mathlib.Core.List.{List, [], _∷_, _++_}
+use mathlib.Core.List.{List, [], _∷_}
 use mathlib.Core.Option.{Option, none, some}
 use lib.ListN.{length}
 use lib.Dec.{eqb, leb}
 use Rattle.model.specs.Node.{PendingNode, AppliedPending}
 use Rattle.model.specs.Bucket.{Bucket, applyPending}
-use Rattle.model.specs.Table.{Table, Answer, Effect, write, numBuckets, maxRecords}
-use Rattle.model.specs.Call.{ValueArgument}
+use Rattle.model.specs.Table.{Answer, Effect, write, numBuckets, maxRecords}
 use Rattle.model.specs.Sizes.{keySize, storageSize}
 use Rattle.model.specs.Layout.{tableOf}
 use Rattle.model.specs.Formed.{formed}
 use Rattle.model.specs.Question.{firstFailed, deadlineFits}
 use Rattle.model.specs.StepBytes.{BytesOutcome, restore}
-use Rattle.node.specs.declared.Value.{Value}
 use Rattle.bucket.specs.declared.KBucket.{KBucket}
 use Rattle.bucket.specs.declared.AppliedPending as code
 use Rattle.bucket.specs.declared.UpdateAnswer.{UpdateAnswer}
@@ -32,10 +30,6 @@ pub record Answers (a : Answer) (s : List ℕ) (o : BytesOutcome) : Type 0 where
 abbrev pub updateAnswer : UpdateAnswer → Answer
 updateAnswer (update-answer.Refused q) = Answer.Refused q
 updateAnswer (update-answer.Answered r) = Answer.Update (updateResultOf r)
-
--- a value as a call's argument
-abbrev pub argumentOf : Value → ValueArgument
-argumentOf v = record { flag = v .flag; a = v .a; b = v .b; c = v .c; d = v .d; slot = v .slot }
 
 -- the question that a number stands for; 0 is none
 abbrev pub refusal : ℕ → Option ℕ

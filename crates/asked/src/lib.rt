@@ -101,13 +101,15 @@ pub fn apply_at(s: &[u8], i: usize, time: u64) -> Applied
     ensures { λ r. ⌜ AppliedAt (now (s .entry)) i time (r .bucket) (r .applied) ⌝ }
 {
     let b = buckets::load_bucket(s, i);
-    if !is_due(s, i, time) {
-        return Applied {
-            bucket: b,
-            applied: AppliedPending::Nothing,
-        };
+    let mut a = Applied {
+        bucket: b,
+        applied: AppliedPending::Nothing,
+    };
+    if is_due(s, i, time) {
+        let loaded = a.bucket;
+        a = loaded.apply_pending_sound(time);
     }
-    b.apply_pending_sound(time)
+    a
 }
 
 // Internal: how many records an applied pending gives.

@@ -12,10 +12,10 @@ use Rattle.model.specs.Base.{same, isSome, every}
 use Rattle.model.specs.Node as model
 use Rattle.model.specs.Call.{isOne, optional}
 use Rattle.model.specs.Result.{FailureReason, UpdateResult}
-use Rattle.model.specs.Bucket.{Bucket, maxNodes, nodes, holds, incomingNodes, withPending, statusResult, updateIfPending, pendingWithStatus, updatePending}
+use Rattle.model.specs.Bucket.{Bucket, maxNodesPerBucket, nodes, holds, incomingNodes, withPending, statusResult, updateIfPending, pendingWithStatus, updatePending}
 use Rattle.model.specs.Fits.{Opt}
 use Rattle.laws.proofs.Tests.{split}
-use Rattle.laws.proofs.KeepLists.{lookup-nodes}
+use Rattle.laws.proofs.KeepLists.{get-nodes}
 use Rattle.key.specs.Key.{num}
 use Rattle.node.specs.declared.Node.{Node}
 use Rattle.node.specs.Node.{nodeOf, nodeCodes, isZero, storedNode}
@@ -111,7 +111,7 @@ absent-test x y h = split (ltb x y) (λ e. by-lt e) (λ e. by-ge e)
 
 held-test : (k : ℕ) (b : KBucket) → holds k (bucketOf b) ≡ ltb (position k (heldOf b)) (length (heldOf b))
 held-test k b =
-    ap isSome (lookup-nodes k (bucketOf b)) ∙ held-is k (nodes (bucketOf b)) ∙ ap (λ (x : ℕ). ltb x (length (nodes (bucketOf b)))) (place-of k b)
+    ap isSome (get-nodes k (bucketOf b)) ∙ held-is k (nodes (bucketOf b)) ∙ ap (λ (x : ℕ). ltb x (length (nodes (bucketOf b)))) (place-of k b)
     ∙ ap (ltb (position k (heldOf b))) (ap length (nodes-of b) ∙ length-map (heldOf b) nodeOf)
 
 pub pending-test : (b : KBucket) (p : Pending) → pendingFits (heldOf b) p ≡ pendingSound (bucketOf b) p
@@ -133,23 +133,23 @@ in-turn true true true true false false m = refl
 in-turn true true true true true false m = refl
 
 module _ (b : KBucket) where
-  pub fails-count : leb (b .count) maxNodes ≡ false → false ≡ sound b
+  pub fails-count : leb (b .count) maxNodesPerBucket ≡ false → false ≡ sound b
   unfolding sound
   fails-count e = rw e
 
-  module _ (e₁ : leb (b .count) maxNodes ≡ true) where
+  module _ (e₁ : leb (b .count) maxNodesPerBucket ≡ true) where
     pub fails-first : leb (b .«first_connected_pos») (b .count) ≡ false → false ≡ sound b
     unfolding sound
     fails-first e = rw (e₁, e)
 
     pub passes : leb (b .«first_connected_pos») (b .count) ≡ true → (d p i w : Bool) → d ≡ different (map nodeOf (heldOf b))
         → p ≡ (every (inState 0) (take (b .«first_connected_pos») (b .nodes))
-        && (every (inState 1) (drop (b .«first_connected_pos») (heldOf b)) && every isZero (drop (b .count) (take maxNodes (b .nodes)))))
+        && (every (inState 1) (drop (b .«first_connected_pos») (heldOf b)) && every isZero (drop (b .count) (take maxNodesPerBucket (b .nodes)))))
         → i ≡ leb (length (incomingNodes (map nodeOf (heldOf b)))) (b .«max_incoming») → w ≡ pendingSound (bucketOf b) (b .pending)
-        → (d && (p && (i && (w && (leb (b .«max_incoming») maxNodes && leb (b .filter) 1))))) ≡ sound b
+        → (d && (p && (i && (w && (leb (b .«max_incoming») maxNodesPerBucket && leb (b .filter) 1))))) ≡ sound b
     unfolding sound
     passes e₂ d p i w ed ep ei ew =
         rw (ed, ep, ei, ew, e₁, e₂)
         (in-turn (different (map nodeOf (heldOf b))) (every (inState 0) (take (b .«first_connected_pos») (b .nodes)))
         (every (inState 1) (drop (b .«first_connected_pos») (heldOf b))) (leb (length (incomingNodes (map nodeOf (heldOf b)))) (b .«max_incoming»))
-        (pendingSound (bucketOf b) (b .pending)) (every isZero (drop (b .count) (take maxNodes (b .nodes)))) (leb (b .«max_incoming») maxNodes && leb (b .filter) 1))
+        (pendingSound (bucketOf b) (b .pending)) (every isZero (drop (b .count) (take maxNodesPerBucket (b .nodes)))) (leb (b .«max_incoming») maxNodesPerBucket && leb (b .filter) 1))

@@ -12,7 +12,7 @@ use Rattle.model.specs.Question.{firstFailed}
 use Rattle.laws.proofs.Tests.{clash}
 use Rattle.bucket.specs.declared.KBucket.{KBucket}
 use Rattle.bucket.specs.Bucket.{settingsOf, sound, Becomes}
-use Rattle.bucket.specs.Calls.{Reply, answered, refusal, questions, timely}
+use Rattle.bucket.specs.Calls.{Reply, answered, refusalNumber, questions, timely}
 use Rattle.bucket.proofs.Sound.{becomes-stored}
 
 module _ (b : KBucket) (codes : Bool) (rest : List (ℕ × Bool)) where
@@ -41,7 +41,7 @@ pub not-none : {A : Type 0} (q : ℕ) → eqb q 0 ≡ false → q ≡ 0 → A
 not-none q f e = clash (ap (λ (n : ℕ). eqb n 0) e) f
 
 -- a question failed: its number, and the bucket as it was
-pub refused : {A : Type 0} (b : KBucket) (o : Option ℕ) (q : ℕ) (x : A × Bucket) → q ≡ refusal o → (q ≡ 0 → ⊥) → answered b o x ≡ (Reply.Refused q, b)
+pub refused : {A : Type 0} (b : KBucket) (o : Option ℕ) (q : ℕ) (x : A × Bucket) → q ≡ refusalNumber o → (q ≡ 0 → ⊥) → answered b o x ≡ (Reply.Refused q, b)
 refused b none q x e f = absurd (f e)
 refused b (some p) q x e f = ap (λ (n : ℕ). (Reply.Refused n, b)) (sym e)
 

@@ -12,11 +12,11 @@ use Rattle.model.specs.Base.{same, isSome}
 use Rattle.model.specs.Value.{Value, sameValue}
 use Rattle.model.specs.Node.{Node, PendingNode, AppliedPending, connectedIncoming, withStatus}
 use Rattle.model.specs.Result.{FailureReason, BucketInsertResult, UpdateResult, isInserted}
-use Rattle.model.specs.Bucket.{Bucket, BucketSettings, maxNodes, nodes, count, isFull, lookup, holds, failsBucketFilter, incomingNodes, isMaxIncoming, withPending, put, placed, omit, takeOut, insertFull, insert, applyFull, applyDue, applyIfDue, applyPending, reinsert, statusResult, isFirst, updateStatusOf, updateStatus, revalue, updateValueOf, updateValue, remove}
+use Rattle.model.specs.Bucket.{Bucket, BucketSettings, maxNodesPerBucket, nodes, numEntries, isFull, get, holds, failsBucketFilter, incomingNodes, isMaxIncoming, withPending, put, placed, omit, takeOut, insertFull, insert, applyFull, applyDue, applyIfDue, applyPending, reinsert, statusResult, takenOut, updateStatusOf, updateStatus, revalue, updateValueOf, updateValue, remove}
 use Rattle.model.specs.Fits.{Different}
 use Rattle.laws.proofs.Tests.{clash, split, same-self}
 use Rattle.laws.proofs.KeepLists.{incoming-omit}
-use Rattle.laws.proofs.KeepFormed.{nodes-takeOut}
+use Rattle.laws.proofs.KeepFormed.{free-isFull, nodes-takeOut}
 use Rattle.places.proofs.Model.{omit-absent}
 use Rattle.laws.proofs.All.{all-left, all-right}
 
@@ -24,13 +24,9 @@ pub none-is : {A : Type 0} (p : Option A) → isSome p ≡ false → p ≡ none
 none-is none e = refl
 none-is (some x) e = clash refl e
 
-full : (b : Bucket) → maxNodes ≤ count b → isFull b ≡ true
+full : (b : Bucket) → maxNodesPerBucket ≤ numEntries b → isFull b ≡ true
 unfolding isFull
-full b h = le-leb maxNodes (count b) h
-
-free : (b : Bucket) → count b < maxNodes → isFull b ≡ false
-unfolding isFull
-free b h = lt-leb maxNodes (count b) h
+full b h = le-leb maxNodesPerBucket (numEntries b) h
 
 module _ (s : BucketSettings) (now : ℕ) (n : Node) (b : Bucket) where
   pub insert-exists : holds (n .key) b ≡ true → insert s now n b ≡ (BucketInsertResult.NodeExists, b)
@@ -48,11 +44,11 @@ module _ (s : BucketSettings) (now : ℕ) (n : Node) (b : Bucket) where
       insert-many e = rw (new, fine, e)
 
       module _ (low : isMaxIncoming s n b ≡ false) where
-        pub insert-placed : count b < maxNodes → insert s now n b ≡ (BucketInsertResult.Inserted, placed n b)
+        pub insert-placed : numEntries b < maxNodesPerBucket → insert s now n b ≡ (BucketInsertResult.Inserted, placed n b)
         unfolding insert
-        insert-placed h = rw (new, fine, low, free b h)
+        insert-placed h = rw (new, fine, low, free-isFull b h)
 
-        pub insert-full : maxNodes ≤ count b → insert s now n b ≡ insertFull s now n b (n .connected) (b .disconnected) (b .pending)
+        pub insert-full : maxNodesPerBucket ≤ numEntries b → insert s now n b ≡ insertFull s now n b (n .connected) (b .disconnected) (b .pending)
         unfolding insert
         insert-full h = rw (new, fine, low, full b h)
 
@@ -150,11 +146,11 @@ module _ (s : BucketSettings) (now : ℕ) (n : Node) (b : Bucket) (new : holds (
     due-many e = due-drops BucketInsertResult.TooManyIncoming (insert-many s now n b new fine e) refl (rw (fine, e))
 
     module _ (low : isMaxIncoming s n b ≡ false) where
-      pub due-placed : count b < maxNodes → applyDue s now n b ≡ (placed n b, record { inserted = n .key; evicted = none } ∷ [])
+      pub due-placed : numEntries b < maxNodesPerBucket → applyDue s now n b ≡ (placed n b, record { inserted = n .key; evicted = none } ∷ [])
       unfolding applyDue
-      due-placed h = rw (free b h) (free-places (insert s now n b) (n .key) b (placed n b) (insert-placed s now n b new fine low h))
+      due-placed h = rw (free-isFull b h) (free-places (insert s now n b) (n .key) b (placed n b) (insert-placed s now n b new fine low h))
 
-      pub due-connected : maxNodes ≤ count b → b .disconnected ≡ [] → applyDue s now n b ≡ (b, [])
+      pub due-connected : maxNodesPerBucket ≤ numEntries b → b .disconnected ≡ [] → applyDue s now n b ≡ (b, [])
       unfolding applyDue
       due-connected h e = rw (full b h) (ap (applyFull s n b) e)
 
@@ -165,7 +161,7 @@ module _ (s : BucketSettings) (now : ℕ) (n : Node) (b : Bucket) (new : holds (
           ≡ (put n (record { disconnected = ds; connected = b .connected; pending = none }), record { inserted = n .key; evicted = some d } ∷ [])
       evicts d ds = rw neither
 
-      pub due-evicts : maxNodes ≤ count b → (d : Node) (ds : List Node) → b .disconnected ≡ d ∷ ds → b .pending ≡ none → Different (nodes b)
+      pub due-evicts : maxNodesPerBucket ≤ numEntries b → (d : Node) (ds : List Node) → b .disconnected ≡ d ∷ ds → b .pending ≡ none → Different (nodes b)
           → applyDue s now n b ≡ (placed n (takeOut (d .key) b), record { inserted = n .key; evicted = some d } ∷ [])
       unfolding applyDue
       due-evicts h d ds e p w =
@@ -174,10 +170,6 @@ module _ (s : BucketSettings) (now : ℕ) (n : Node) (b : Bucket) (new : holds (
           rw (full b h)
           (ap (applyFull s n b) e ∙ evicts d ds
           ∙ beside (sym (ap (placed n) out)))
-
-pub apply-none : (s : BucketSettings) (now : ℕ) (b : Bucket) → b .pending ≡ none → applyPending s now b ≡ (b, [])
-unfolding applyPending
-apply-none s now b e = ap (applyIfDue s now b) e
 
 module _ (s : BucketSettings) (now : ℕ) (b : Bucket) (p : PendingNode) (e : b .pending ≡ some p) where
   later : now < p .deadline → applyIfDue s now b (some p) ≡ (b, [])
@@ -214,15 +206,15 @@ status-by : (m n : Node) (x : Option FailureReason × Bucket) (o : Option Failur
     → _≡_ {A = UpdateResult × Bucket} (statusResult m n (x .0), x .1) (statusResult m n o, b)
 status-by m n x o b e = rw e
 
-pub status-held : (s : BucketSettings) (k : ℕ) (u : Bool) (d : Option Bool) (b : Bucket) (n : Node) (o : Option FailureReason) (m : Bucket) → lookup k b ≡ some n
-    → reinsert s (withStatus u d n) (withPending (cond (u && isFirst k (nodes b)) none (b .pending)) (takeOut k b)) ≡ (o, m)
+pub status-held : (s : BucketSettings) (k : ℕ) (u : Bool) (d : Option Bool) (b : Bucket) (n : Node) (o : Option FailureReason) (m : Bucket) → get k b ≡ some n
+    → reinsert s (withStatus u d n) (takenOut k u b) ≡ (o, m)
     → updateStatus s k u d b ≡ (statusResult n (withStatus u d n) o, m)
 unfolding updateStatus
 status-held s k u d b n o m e r =
     ap (updateStatusOf s k u d b) e
-    ∙ status-by n (withStatus u d n) (reinsert s (withStatus u d n) (withPending (cond (u && isFirst k (nodes b)) none (b .pending)) (takeOut k b))) o m r
+    ∙ status-by n (withStatus u d n) (reinsert s (withStatus u d n) (takenOut k u b)) o m r
 
-pub status-absent : (s : BucketSettings) (k : ℕ) (u : Bool) (d : Option Bool) (b : Bucket) → lookup k b ≡ none
+pub status-absent : (s : BucketSettings) (k : ℕ) (u : Bool) (d : Option Bool) (b : Bucket) → get k b ≡ none
     → updateStatus s k u d b ≡ updateStatusOf s k u d b none
 unfolding updateStatus
 status-absent s k u d b e = ap (updateStatusOf s k u d b) e
@@ -230,11 +222,11 @@ status-absent s k u d b e = ap (updateStatusOf s k u d b) e
 -- The value step.
 
 module _ (s : BucketSettings) (k : ℕ) (v : Value) (b : Bucket) where
-  pub value-absent : lookup k b ≡ none → updateValue s k v b ≡ updateValueOf s k v b none
+  pub value-absent : get k b ≡ none → updateValue s k v b ≡ updateValueOf s k v b none
   unfolding updateValue
   value-absent e = ap (updateValueOf s k v b) e
 
-  module _ (n : Node) (e : lookup k b ≡ some n) where
+  module _ (n : Node) (e : get k b ≡ some n) where
     same-by : sameValue (n .value) v ≡ true → updateValueOf s k v b (some n) ≡ (UpdateResult.NotModified, b)
     same-by h = rw h
 

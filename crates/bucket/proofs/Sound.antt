@@ -1,5 +1,5 @@
 -- What a sound bucket tells, and when a bucket is sound.
-use Prim.Native.Nat.{ℕ, _+_, _-_, _≤_}
+use Prim.Native.Nat.{ℕ, _-_, _≤_}
 use native.Mathlib.Omega.{arith}
 use mathlib.Core.Path.{_≡_, refl, sym, ap, _∙_, subst}
 use mathlib.Core.Bool.{Bool, true, false, cond, not}
@@ -11,14 +11,16 @@ use lib.Dec.{eqb, leb}
 use borrow.Author.Tests.{leb-true, eqb-true, not-true, eq-eqb, ne-eqb}
 use Rattle.model.specs.Base.{every}
 use Rattle.model.specs.Node as model
-use Rattle.model.specs.Bucket.{Bucket, BucketSettings, maxNodes, nodes, count, holds, incomingNodes}
-use Rattle.model.specs.Fits.{All, Opt, Different}
-use Rattle.laws.proofs.KeepFormed.{Formed, count-nodes}
+use Rattle.model.specs.Bucket.{Bucket, BucketSettings, maxNodesPerBucket, nodes, numEntries, holds, incomingNodes}
+use Rattle.model.specs.Fits.{All, Opt, Different, Formed}
+use Rattle.laws.proofs.KeepFormed.{count-nodes}
 use Rattle.key.specs.Key.{num, Words}
 use Rattle.node.specs.declared.Node.{Node}
-use Rattle.node.specs.Node.{nodeOf, nodeCodes, isZero, code, storedNode, zeroNode}
+use Rattle.model.specs.Layout.{flagByte}
+use Rattle.laws.proofs.NodeFormed.{flag-back}
+use Rattle.node.specs.Node.{nodeOf, nodeCodes, isZero, storedNode, zeroNode}
 use Rattle.node.proofs.Tests.{and-both}
-use Rattle.node.proofs.Stored.{stored-nodeOf, test-code, zero-is}
+use Rattle.node.proofs.Stored.{stored-nodeOf, zero-is}
 use Rattle.places.specs.Places.{padded, inState, different}
 use Rattle.places.proofs.Model.{map-take, map-drop, all-of-every, all-of-map, different-true}
 use Rattle.bucket.specs.declared.Pending.{Pending}
@@ -30,15 +32,15 @@ use Rattle.laws.proofs.All.{all-map, all-append}
 
 -- the tests of question 2, one by one
 pub record Passed (b : KBucket) : Type 0 where
-  pub at-most : leb (b .count) maxNodes ≡ true
+  pub at-most : leb (b .count) maxNodesPerBucket ≡ true
   pub first-within : leb (b .«first_connected_pos») (b .count) ≡ true
   pub different-keys : different (map nodeOf (heldOf b)) ≡ true
   pub disconnected-first : every (inState 0) (take (b .«first_connected_pos») (b .nodes)) ≡ true
   pub then-connected : every (inState 1) (drop (b .«first_connected_pos») (heldOf b)) ≡ true
   pub incoming-within : leb (length (incomingNodes (map nodeOf (heldOf b)))) (b .«max_incoming») ≡ true
   pub pending-fits : pendingSound (bucketOf b) (b .pending) ≡ true
-  pub unused-zero : every isZero (drop (b .count) (take maxNodes (b .nodes))) ≡ true
-  pub maximum : leb (b .«max_incoming») maxNodes ≡ true
+  pub unused-zero : every isZero (drop (b .count) (take maxNodesPerBucket (b .nodes))) ≡ true
+  pub maximum : leb (b .«max_incoming») maxNodesPerBucket ≡ true
   pub filter-code : leb (b .filter) 1 ≡ true
 
 pub passed : (b : KBucket) → sound b ≡ true → Passed b
@@ -90,7 +92,7 @@ back-nodes : (b : KBucket) → drop (b .«first_connected_pos») (map nodeOf (he
 back-nodes b = sym (map-drop nodeOf (b .«first_connected_pos») (heldOf b))
 
 module _ (b : KBucket) (s : Sound b) where
-  pub count-of : b .count ≡ count (bucketOf b)
+  pub count-of : b .count ≡ numEntries (bucketOf b)
   count-of = ap (λ (k : KBucket). k .count) (s .exact)
 
   pub first-of : b .«first_connected_pos» ≡ length (bucketOf b .disconnected)
@@ -102,7 +104,7 @@ module _ (b : KBucket) (s : Sound b) where
   pub pending-of : b .pending ≡ storedPending (bucketOf b .pending)
   pending-of = ap (λ (k : KBucket). k .pending) (s .exact)
 
-  pub filter-of : b .filter ≡ code (settingsOf b .filter)
+  pub filter-of : b .filter ≡ flagByte (settingsOf b .filter)
   filter-of = ap (λ (k : KBucket). k .filter) (s .exact)
 
   pub held-count : length (heldOf b) ≡ b .count
@@ -111,14 +113,14 @@ module _ (b : KBucket) (s : Sound b) where
   pub first≤count : b .«first_connected_pos» ≤ b .count
   first≤count = leb-true (b .«first_connected_pos») (b .count) (passed b (s .test) .first-within)
 
-  pub maximum-of : b .«max_incoming» ≤ maxNodes
-  maximum-of = leb-true (b .«max_incoming») maxNodes (passed b (s .test) .maximum)
+  pub maximum-of : b .«max_incoming» ≤ maxNodesPerBucket
+  maximum-of = leb-true (b .«max_incoming») maxNodesPerBucket (passed b (s .test) .maximum)
 
   pub formed-of : Formed (b .«max_incoming») (bucketOf b)
   formed-of =
       let t = passed b (s .test) in
       record {
-        at-most = subst (λ (k : ℕ). k ≤ maxNodes) count-of (s .few);
+        at-most = subst (λ (k : ℕ). k ≤ maxNodesPerBucket) count-of (s .few);
         different = subst Different (sym (nodes-of b)) (different-true (map nodeOf (heldOf b)) (t .different-keys));
         disconnected-first =
             subst (All (λ (n : model.Node). n .connected ≡ false)) (sym (front-nodes b first≤count))
@@ -154,7 +156,7 @@ first-connected b s n ns e =
 
 -- What is stored of a well-formed bucket is sound.
 
-sound-of-stored : (s : BucketSettings) (m : Bucket) → Formed (s .maxIncoming) m → s .maxIncoming ≤ maxNodes → Sound (stored s m)
+sound-of-stored : (s : BucketSettings) (m : Bucket) → Formed (s .maxIncoming) m → s .maxIncoming ≤ maxNodesPerBucket → Sound (stored s m)
 sound-of-stored s m w h =
     record {
       few = w .at-most;
@@ -162,7 +164,7 @@ sound-of-stored s m w h =
       exact = ap (λ (t : BucketSettings). stored t m) (sym (settings-stored s m)) ∙ ap (stored (settingsOf (stored s m))) (sym (bucket-stored s m));
     }
 
-pub becomes : (s : BucketSettings) (m : Bucket) (r : KBucket) → r ≡ stored s m → Formed (s .maxIncoming) m → s .maxIncoming ≤ maxNodes → Becomes s m r
+pub becomes : (s : BucketSettings) (m : Bucket) (r : KBucket) → r ≡ stored s m → Formed (s .maxIncoming) m → s .maxIncoming ≤ maxNodesPerBucket → Becomes s m r
 becomes s m r e w h =
     record {
       bucket = ap bucketOf e ∙ bucket-stored s m;
@@ -193,7 +195,7 @@ pending-there : (b : Bucket) (p : Pending) → PendingWords p → pendingSound b
 pending-there b Nothing w e = refl
 pending-there b (Waiting n d) w e = ap (λ (m : Node). Waiting m d) (sym (stored-nodeOf n w (and-both (not (holds (num (n .key)) b)) (nodeCodes n) e .1)))
 
-module _ (b : KBucket) (e : sound b ≡ true) (len : length (b .nodes) ≡ maxNodes)
+module _ (b : KBucket) (e : sound b ≡ true) (len : length (b .nodes) ≡ maxNodesPerBucket)
     (w₁ : All (λ (n : Node). Words (n .key)) (take (b .«first_connected_pos») (b .nodes)))
     (w₂ : All (λ (n : Node). Words (n .key)) (drop (b .«first_connected_pos») (heldOf b))) (w₃ : PendingWords (b .pending)) where
   split-held : take (b .«first_connected_pos») (b .nodes) ++ drop (b .«first_connected_pos») (heldOf b) ≡ heldOf b
@@ -216,15 +218,15 @@ module _ (b : KBucket) (e : sound b ≡ true) (len : length (b .nodes) ≡ maxNo
       (all-map (λ (n : Node). inState 1 n ≡ true) C (codes 1) (drop f (heldOf b)) (all-of-every (inState 1) (drop f (heldOf b)) (t .then-connected)))))
 
   held-long : length (heldOf b) ≡ b .count
-  held-long = length-take-le (b .count) (b .nodes) (omega (arith, leb-true (b .count) maxNodes (passed b e .at-most)))
+  held-long = length-take-le (b .count) (b .nodes) (omega (arith, leb-true (b .count) maxNodesPerBucket (passed b e .at-most)))
 
   places-there : b .nodes ≡ padded (map storedNode (nodes (bucketOf b)))
   places-there =
       let free = drop (b .count) (b .nodes) in
-      let all : take maxNodes (b .nodes) ≡ b .nodes = take-all maxNodes (b .nodes) (omega arith) in
+      let all : take maxNodesPerBucket (b .nodes) ≡ b .nodes = take-all maxNodesPerBucket (b .nodes) (omega arith) in
       let zero-free : every isZero free ≡ true = ap (λ (ns : List Node). every isZero (drop (b .count) ns)) (sym all) ∙ passed b e .unused-zero in
-      let many : length free ≡ maxNodes - length (heldOf b) = length-drop (b .count) (b .nodes) ∙ omega (arith, held-long) in
-      let tail : free ≡ replicate (maxNodes - length (heldOf b)) zeroNode =
+      let many : length free ≡ maxNodesPerBucket - length (heldOf b) = length-drop (b .count) (b .nodes) ∙ omega (arith, held-long) in
+      let tail : free ≡ replicate (maxNodesPerBucket - length (heldOf b)) zeroNode =
       zero-run free (all-of-every isZero free zero-free) ∙ ap (λ (k : ℕ). replicate k zeroNode) many in
       sym (take-append-drop (b .count) (b .nodes)) ∙ ap (λ (ns : List Node). heldOf b ++ ns) tail
       ∙ ap padded (sym held-there ∙ ap (map storedNode) (sym (nodes-of b)))
@@ -232,7 +234,7 @@ module _ (b : KBucket) (e : sound b ≡ true) (len : length (b .nodes) ≡ maxNo
   pub sound-of : Sound b
   sound-of =
       let t = passed b e in
-      let few = leb-true (b .count) maxNodes (t .at-most) in
+      let few = leb-true (b .count) maxNodesPerBucket (t .at-most) in
       let f = b .«first_connected_pos» in
       record {
         few = few;
@@ -241,5 +243,5 @@ module _ (b : KBucket) (e : sound b ≡ true) (len : length (b .nodes) ≡ maxNo
             same-parts places-there
             (sym held-long ∙ sym (length-map (heldOf b) nodeOf) ∙ ap length (sym (nodes-of b)) ∙ sym (count-nodes (bucketOf b)))
             (sym (length-take-le f (map nodeOf (heldOf b)) (omega (arith, length-map (heldOf b) nodeOf, held-long, leb-true f (b .count) (t .first-within)))))
-            (pending-there (bucketOf b) (b .pending) w₃ (t .pending-fits)) refl refl (sym (test-code (b .filter) (t .filter-code)));
+            (pending-there (bucketOf b) (b .pending) w₃ (t .pending-fits)) refl refl (sym (flag-back (b .filter) (t .filter-code)));
       }

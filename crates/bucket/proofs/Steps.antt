@@ -13,12 +13,14 @@ use lib.Dec.{eqb, leb, ltb}
 use mir.Val.{boolByte}
 use borrow.Author.Tests.{ltb-true}
 use Rattle.model.specs.Base.{same, isSome}
+use Rattle.model.specs.Value as value
 use Rattle.model.specs.Node as model
-use Rattle.model.specs.Filter.{ipFilterFails, bucketLimit}
-use Rattle.model.specs.Bucket.{Bucket, BucketSettings, maxNodes, nodes, count, lookup, holds, failsBucketFilter, incomingNodes, isMaxIncoming, withPending, cleared, only, placed, takeOut, omit, isFirst, revalue}
-use Rattle.model.specs.Fits.{Opt}
-use Rattle.laws.proofs.KeepLists.{lookup-nodes, length-revalue}
-use Rattle.laws.proofs.KeepFormed.{Formed, count-nodes, count-put, placed-formed, takeOut-formed, nodes-takeOut, nodes-revalue, withPending-formed}
+use Rattle.model.specs.Filter.{ipFilterFails, maxNodesPerSubnetBucket}
+use Rattle.model.specs.Bucket.{Bucket, BucketSettings, maxNodesPerBucket, nodes, numEntries, get, holds, failsBucketFilter, incomingNodes, isMaxIncoming, withPending, cleared, only, placed, takeOut, omit, isFirst, revalue}
+use Rattle.model.specs.Fits.{Opt, Formed}
+use Rattle.laws.proofs.KeepLists.{get-nodes, length-revalue}
+use Rattle.laws.proofs.Lists.{getD-any}
+use Rattle.laws.proofs.KeepFormed.{count-nodes, count-put, placed-formed, takeOut-formed, nodes-takeOut, nodes-revalue, withPending-formed}
 use Rattle.key.specs.Key.{num, Words}
 use Rattle.node.specs.declared.Value.{Value}
 use Rattle.node.specs.declared.Node.{Node}
@@ -27,7 +29,7 @@ use Rattle.node.proofs.Stored.{stored-nodeOf, stored-revalued}
 use Rattle.places.specs.Places.{position, insertAt, removeAt, padded}
 use Rattle.places.proofs.Moves.{removeAt-length}
 use Rattle.places.proofs.Padded.{padded-insert, padded-remove}
-use Rattle.places.proofs.Model.{before-map, map-insertAt, map-removeAt, map-set, revalue-at, place, held-is, find-held, find-absent, first-is, own-place, found-key, getD-any, omit-at, omit-front, put-connected, put-disconnected}
+use Rattle.places.proofs.Model.{before-map, map-insertAt, map-removeAt, map-set, revalue-at, place, held-is, find-held, find-absent, first-is, own-place, found-key, omit-at, omit-front, put-connected, put-disconnected}
 use Rattle.bucket.specs.declared.Pending.{Pending}
 use Rattle.bucket.specs.declared.Pending.the-variants.{Nothing, Waiting}
 use Rattle.bucket.specs.declared.KBucket.{KBucket}
@@ -64,7 +66,7 @@ pub holds-is : (b : KBucket) → Sound b → (k : ℕ) → ltb (position k (held
 holds-is b s k =
     ap (λ (x : ℕ). ltb x (b .count)) (sym (place-of k b))
     ∙ ap (ltb (place k (nodes (bucketOf b)))) (sym (nodes-count b s))
-    ∙ sym (ap isSome (lookup-nodes k (bucketOf b)) ∙ held-is k (nodes (bucketOf b)))
+    ∙ sym (ap isSome (get-nodes k (bucketOf b)) ∙ held-is k (nodes (bucketOf b)))
 
 -- The filter and the maximum.
 
@@ -72,17 +74,17 @@ not-not : (t : Bool) → not (not t) ≡ t
 not-not true = refl
 not-not false = refl
 
-module _ (b : KBucket) (v : Value) where
-  pub filter-off : eqb (b .filter) 1 ≡ false → false ≡ failsBucketFilter (settingsOf b) (valueOf v) (bucketOf b)
-  unfolding failsBucketFilter
-  filter-off e = rw e
+pub filter-off : (s : BucketSettings) (v : value.Value) (m : Bucket) → s .filter ≡ false → failsBucketFilter s v m ≡ false
+unfolding failsBucketFilter
+filter-off s v m e = rw e
 
-  pub filter-on : eqb (b .filter) 1 ≡ true → (t : Bool) → t ≡ not (ipFilterFails bucketLimit (valueOf v) (map nodeOf (heldOf b)))
+module _ (b : KBucket) (v : Value) where
+  pub filter-on : eqb (b .filter) 1 ≡ true → (t : Bool) → t ≡ not (ipFilterFails maxNodesPerSubnetBucket (valueOf v) (map nodeOf (heldOf b)))
       → not t ≡ failsBucketFilter (settingsOf b) (valueOf v) (bucketOf b)
   unfolding failsBucketFilter
   filter-on e t q =
-      ap not q ∙ not-not (ipFilterFails bucketLimit (valueOf v) (map nodeOf (heldOf b)))
-      ∙ ap (ipFilterFails bucketLimit (valueOf v)) (sym (nodes-of b)) ∙ rw e
+      ap not q ∙ not-not (ipFilterFails maxNodesPerSubnetBucket (valueOf v) (map nodeOf (heldOf b)))
+      ∙ ap (ipFilterFails maxNodesPerSubnetBucket (valueOf v)) (sym (nodes-of b)) ∙ rw e
 
 module _ (b : KBucket) (n : model.Node) where
   pub incoming-not : (n .connected && n .incoming) ≡ false → false ≡ isMaxIncoming (settingsOf b) n (bucketOf b)
@@ -114,21 +116,21 @@ cleared-stored k (Waiting n d) e = cleared-by k n d (same (num (n .key)) k) e
 
 -- A node placed.
 
-module _ (b : KBucket) (s : Sound b) (room : b .count < maxNodes) (n : Node) (w : Words (n .key)) (c : nodeCodes n ≡ true)
+module _ (b : KBucket) (s : Sound b) (room : b .count < maxNodesPerBucket) (n : Node) (w : Words (n .key)) (c : nodeCodes n ≡ true)
     (new : holds (num (n .key)) (bucketOf b) ≡ false) (low : isMaxIncoming (settingsOf b) (nodeOf n) (bucketOf b) ≡ false)
     (ns : List Node) (p : Pending) (ep : p ≡ clearedPending (num (n .key)) (b .pending)) where
   put-nodes : (pos : ℕ) → pos ≤ b .count → nodes (placed (nodeOf n) (bucketOf b)) ≡ insertAt pos (nodeOf n) (nodes (bucketOf b))
-      → ns ≡ take maxNodes (insertAt pos n (b .nodes)) → ns ≡ padded (map storedNode (nodes (placed (nodeOf n) (bucketOf b))))
+      → ns ≡ take maxNodesPerBucket (insertAt pos n (b .nodes)) → ns ≡ padded (map storedNode (nodes (placed (nodeOf n) (bucketOf b))))
   put-nodes pos h e q =
       let xs = map storedNode (nodes (bucketOf b)) in
       let long : length xs ≡ b .count = length-map (nodes (bucketOf b)) storedNode ∙ nodes-count b s in
-      q ∙ ap (λ (l : List Node). take maxNodes (insertAt pos n l)) (places-of b s)
+      q ∙ ap (λ (l : List Node). take maxNodesPerBucket (insertAt pos n l)) (places-of b s)
       ∙ padded-insert xs pos n (omega arith) (omega arith)
       ∙ ap padded
       (ap (λ (x : Node). insertAt pos x xs) (sym (stored-nodeOf n w c)) ∙ sym (map-insertAt storedNode pos (nodeOf n) (nodes (bucketOf b)))
       ∙ ap (map storedNode) (sym e))
 
-  more : b .count + 1 ≡ count (placed (nodeOf n) (bucketOf b))
+  more : b .count + 1 ≡ numEntries (placed (nodeOf n) (bucketOf b))
   more =
       add-one (b .count) ∙ ap suc (count-of b s)
       ∙ sym (count-put (nodeOf n) (withPending (cleared (num (n .key)) (bucketOf b .pending)) (bucketOf b)))
@@ -137,9 +139,9 @@ module _ (b : KBucket) (s : Sound b) (room : b .count < maxNodes) (n : Node) (w 
   left = ep ∙ cleared-stored (num (n .key)) (b .pending) (pending-of b s)
 
   keeps : Formed (b .«max_incoming») (placed (nodeOf n) (bucketOf b))
-  keeps = placed-formed (settingsOf b) (nodeOf n) (bucketOf b) (formed-of b s) new (subst (λ (k : ℕ). k < maxNodes) (count-of b s) room) low
+  keeps = placed-formed (settingsOf b) (nodeOf n) (bucketOf b) (formed-of b s) new (subst (λ (k : ℕ). k < maxNodesPerBucket) (count-of b s) room) low
 
-  pub placed-connected : nodeOf n .connected ≡ true → ns ≡ take maxNodes (insertAt (b .count) n (b .nodes))
+  pub placed-connected : nodeOf n .connected ≡ true → ns ≡ take maxNodesPerBucket (insertAt (b .count) n (b .nodes))
       → Becomes (settingsOf b) (placed (nodeOf n) (bucketOf b))
       (record { nodes = ns; count = b .count + 1; «first_connected_pos» = b .«first_connected_pos»; pending = p; «pending_timeout» = b .«pending_timeout»; «max_incoming» = b .«max_incoming»; filter = b .filter })
   placed-connected on q =
@@ -151,7 +153,7 @@ module _ (b : KBucket) (s : Sound b) (room : b .count < maxNodes) (n : Node) (w 
       becomes (settingsOf b) (placed (nodeOf n) (bucketOf b)) _
       (same-parts (put-nodes (b .count) (omega arith) e q) more (first-of b s ∙ sym f) left refl refl (filter-of b s)) keeps (maximum-of b s)
 
-  pub placed-disconnected : nodeOf n .connected ≡ false → ns ≡ take maxNodes (insertAt (b .«first_connected_pos») n (b .nodes))
+  pub placed-disconnected : nodeOf n .connected ≡ false → ns ≡ take maxNodesPerBucket (insertAt (b .«first_connected_pos») n (b .nodes))
       → Becomes (settingsOf b) (placed (nodeOf n) (bucketOf b))
       (record { nodes = ns; count = b .count + 1; «first_connected_pos» = b .«first_connected_pos» + 1; pending = p; «pending_timeout» = b .«pending_timeout»; «max_incoming» = b .«max_incoming»; filter = b .filter })
   placed-disconnected off q =
@@ -192,7 +194,7 @@ module _ (b : KBucket) (s : Sound b) (k : ℕ) (pos : ℕ) (e : pos ≡ position
       let long : length xs ≡ b .count = length-map (nodes (bucketOf b)) storedNode ∙ nodes-count b s in
       let few = s .few in
       let short : length (removeAt pos (nodes (bucketOf b))) + 1 ≡ length (nodes (bucketOf b)) = removeAt-length pos (nodes (bucketOf b)) (omega (arith, nodes-count b s)) in
-      let many : count (takeOut k (bucketOf b)) ≡ length (removeAt pos (nodes (bucketOf b))) = count-nodes (takeOut k (bucketOf b)) ∙ ap length out-nodes in
+      let many : numEntries (takeOut k (bucketOf b)) ≡ length (removeAt pos (nodes (bucketOf b))) = count-nodes (takeOut k (bucketOf b)) ∙ ap length out-nodes in
       let at-nodes : ns ≡ padded (map storedNode (nodes (takeOut k (bucketOf b)))) =
       q ∙ ap (λ (l : List Node). removeAt pos l ++ (zeroNode ∷ [])) (places-of b s) ∙ padded-remove xs pos (omega arith) (omega arith)
       ∙ ap padded (sym (map-removeAt storedNode pos (nodes (bucketOf b))) ∙ ap (map storedNode) (sym out-nodes)) in
@@ -221,15 +223,15 @@ module _ (b : KBucket) (s : Sound b) (pos : ℕ) (h : pos < b .count) where
       sym (own-place (nodes (bucketOf b)) pos (nodeOf zeroNode) (formed-of b s .different) inside)
       ∙ ap (λ (n : model.Node). place (n .key) (nodes (bucketOf b))) node-at ∙ place-of (keyAt b pos) b
 
-  pub lookup-at : lookup (keyAt b pos) (bucketOf b) ≡ some (nodeOf (getD (b .nodes) pos zeroNode))
-  lookup-at =
+  pub get-at : get (keyAt b pos) (bucketOf b) ≡ some (nodeOf (getD (b .nodes) pos zeroNode))
+  get-at =
       let e : place (keyAt b pos) (nodes (bucketOf b)) ≡ pos = place-of (keyAt b pos) b ∙ sym place-at in
-      lookup-nodes (keyAt b pos) (bucketOf b)
+      get-nodes (keyAt b pos) (bucketOf b)
       ∙ find-held (keyAt b pos) (nodes (bucketOf b)) (nodeOf zeroNode) (omega (arith, inside, e))
       ∙ ap some (ap (λ (i : ℕ). getD (nodes (bucketOf b)) i (nodeOf zeroNode)) e ∙ node-at)
 
   pub holds-at : holds (keyAt b pos) (bucketOf b) ≡ true
-  holds-at = ap isSome lookup-at
+  holds-at = ap isSome get-at
 
   pub first-at : isFirst (keyAt b pos) (nodes (bucketOf b)) ≡ eqb pos 0
   first-at =
@@ -252,9 +254,9 @@ found-at b s k pos e h =
     ap (λ (n : model.Node). n .key) (sym (node-at b s pos h)) ∙ ap (λ (i : ℕ). getD (nodes (bucketOf b)) i (nodeOf zeroNode) .key) (sym q)
     ∙ found-key k (nodes (bucketOf b)) (nodeOf zeroNode) (omega (arith, nodes-count b s, q))
 
-pub absent-at : (b : KBucket) → Sound b → (k pos : ℕ) → pos ≡ position k (heldOf b) → b .count ≤ pos → lookup k (bucketOf b) ≡ none
+pub absent-at : (b : KBucket) → Sound b → (k pos : ℕ) → pos ≡ position k (heldOf b) → b .count ≤ pos → get k (bucketOf b) ≡ none
 absent-at b s k pos e h =
-    lookup-nodes k (bucketOf b) ∙ find-absent k (nodes (bucketOf b)) (omega (arith, nodes-count b s, place-of k b))
+    get-nodes k (bucketOf b) ∙ find-absent k (nodes (bucketOf b)) (omega (arith, nodes-count b s, place-of k b))
 
 -- From one bucket to the next.
 
@@ -310,7 +312,7 @@ module _ {s : BucketSettings} {m : Bucket} {b : KBucket} (x : Becomes s m b) (n 
 -- A value in the place of a key.
 
 padded-set : (xs : List Node) (pos : ℕ) (x : Node) → pos < length xs → set (padded xs) pos x ≡ padded (set xs pos x)
-padded-set xs pos x h = set-append-left xs _ pos x h ∙ ap (λ (k : ℕ). set xs pos x ++ replicate (maxNodes - k) zeroNode) (sym (length-set xs pos x))
+padded-set xs pos x h = set-append-left xs _ pos x h ∙ ap (λ (k : ℕ). set xs pos x ++ replicate (maxNodesPerBucket - k) zeroNode) (sym (length-set xs pos x))
 
 module _ (b : KBucket) (s : Sound b) (pos : ℕ) (h : pos < b .count) (v : Value) (c : valueCodes v ≡ true) (x : Node) (q : x ≡ revalued v (getD (b .nodes) pos zeroNode)) where
   abbrev pub changed : Bucket

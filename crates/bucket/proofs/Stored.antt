@@ -11,12 +11,16 @@ use lib.Dec.{leb}
 use borrow.Author.Tests.{le-leb, eq-eqb}
 use Rattle.model.specs.Base.{every}
 use Rattle.model.specs.Node as model
-use Rattle.model.specs.Bucket.{Bucket, BucketSettings, maxNodes, nodes, count, holds, incomingNodes}
-use Rattle.model.specs.Fits.{All, Opt}
-use Rattle.laws.proofs.KeepFormed.{Formed, count-nodes}
+use Rattle.model.specs.Bucket.{Bucket, BucketSettings, maxNodesPerBucket, nodes, numEntries, holds, incomingNodes}
+use Rattle.model.specs.Fits.{All, Opt, Formed}
+use Rattle.laws.proofs.KeepFormed.{count-nodes}
 use Rattle.node.specs.declared.Node.{Node}
-use Rattle.node.specs.Node.{nodeOf, isZero, code, storedNode, zeroNode}
-use Rattle.node.proofs.Stored.{nodeOf-stored, code-test, num-keyOf, codes-stored}
+use Rattle.laws.proofs.NodeBytes.{flag-there}
+use Rattle.laws.proofs.NodeFormed.{flag-code}
+use Rattle.key.proofs.Words.{num-keyOf}
+use Rattle.model.specs.Layout.{flagByte}
+use Rattle.node.specs.Node.{nodeOf, isZero, storedNode, zeroNode}
+use Rattle.node.proofs.Stored.{nodeOf-stored, codes-stored}
 use Rattle.places.specs.Places.{inState, different}
 use Rattle.places.proofs.Model.{map-take, map-drop, every-of-all, all-of-map, different-of}
 use Rattle.places.proofs.Padded.{padded-held, padded-length}
@@ -51,11 +55,11 @@ pending-back none = refl
 pending-back (some p) = ap (λ (n : model.Node). some (record { node = n; deadline = p .deadline })) (nodeOf-stored (p .node))
 
 module _ (s : BucketSettings) (m : Bucket) where
-  size : length (map storedNode (nodes m)) ≡ count m
+  size : length (map storedNode (nodes m)) ≡ numEntries m
   size = length-map (nodes m) storedNode ∙ sym (count-nodes m)
 
   held-places : heldOf (stored s m) ≡ map storedNode (nodes m)
-  held-places = padded-held (map storedNode (nodes m)) (count m) size
+  held-places = padded-held (map storedNode (nodes m)) (numEntries m) size
 
   held-stored : map nodeOf (heldOf (stored s m)) ≡ nodes m
   held-stored = ap (map nodeOf) held-places ∙ nodes-back (nodes m)
@@ -66,7 +70,7 @@ module _ (s : BucketSettings) (m : Bucket) where
       (ap (drop (length (m .disconnected))) held-stored ∙ drop-append-seam (m .disconnected) (m .connected)) (pending-back (m .pending))
 
   pub settings-stored : settingsOf (stored s m) ≡ s
-  settings-stored = same-settings refl refl (code-test (s .filter))
+  settings-stored = same-settings refl refl (flag-there (s .filter))
 
 -- What is stored of a well-formed bucket passes question 2.
 
@@ -76,8 +80,8 @@ every-map-stored p ns h = every-of-all p (map storedNode ns) (all-of-map (λ (n 
 and-two : {a b : Bool} → a ≡ true → b ≡ true → (a && b) ≡ true
 and-two e f = rw (e, f)
 
-in-state : (u : Bool) (n : model.Node) → n .connected ≡ u → inState (code u) (storedNode n) ≡ true
-in-state u n e = and-two (eq-eqb (code (n .connected)) (code u) (ap code e)) (codes-stored n)
+in-state : (u : Bool) (n : model.Node) → n .connected ≡ u → inState (flagByte u) (storedNode n) ≡ true
+in-state u n e = and-two (eq-eqb (flagByte (n .connected)) (flagByte u) (ap flagByte e)) (codes-stored n)
 
 zeros : (k : ℕ) → every isZero (replicate k zeroNode) ≡ true
 zeros zero = refl
@@ -87,15 +91,11 @@ all-ten : {a b c d e f g h i j : Bool} → a ≡ true → b ≡ true → c ≡ t
     → (a && (b && (c && (d && (e && (f && (g && (h && (i && j))))))))) ≡ true
 all-ten e₁ e₂ e₃ e₄ e₅ e₆ e₇ e₈ e₉ e₁₀ = rw (e₁, e₂, e₃, e₄, e₅, e₆, e₇, e₈, e₉, e₁₀)
 
-code-le : (t : Bool) → leb (code t) 1 ≡ true
-code-le true = refl
-code-le false = refl
-
-module _ (s : BucketSettings) (m : Bucket) (w : Formed (s .maxIncoming) m) (h : s .maxIncoming ≤ maxNodes) where
+module _ (s : BucketSettings) (m : Bucket) (w : Formed (s .maxIncoming) m) (h : s .maxIncoming ≤ maxNodesPerBucket) where
   front : take (length (m .disconnected)) (stored s m .nodes) ≡ map storedNode (m .disconnected)
   front =
       let k = length (m .disconnected) in
-      let e : take k (take (count m) (stored s m .nodes)) ≡ take k (stored s m .nodes) = take-take k (count m) (stored s m .nodes) (omega arith) in
+      let e : take k (take (numEntries m) (stored s m .nodes)) ≡ take k (stored s m .nodes) = take-take k (numEntries m) (stored s m .nodes) (omega arith) in
       sym e ∙ ap (take k) (held-places s m) ∙ sym (map-take storedNode k (nodes m)) ∙ ap (map storedNode) (take-append-seam (m .disconnected) (m .connected))
 
   back : drop (length (m .disconnected)) (heldOf (stored s m)) ≡ map storedNode (m .connected)
@@ -103,12 +103,12 @@ module _ (s : BucketSettings) (m : Bucket) (w : Formed (s .maxIncoming) m) (h : 
       let k = length (m .disconnected) in
       ap (drop k) (held-places s m) ∙ sym (map-drop storedNode k (nodes m)) ∙ ap (map storedNode) (drop-append-seam (m .disconnected) (m .connected))
 
-  rest : drop (count m) (take maxNodes (stored s m .nodes)) ≡ replicate (maxNodes - length (map storedNode (nodes m))) zeroNode
+  rest : drop (numEntries m) (take maxNodesPerBucket (stored s m .nodes)) ≡ replicate (maxNodesPerBucket - length (map storedNode (nodes m))) zeroNode
   rest =
       let e = size s m in
       let w' = w .at-most in
-      ap (drop (count m)) (take-all maxNodes (stored s m .nodes) (omega (arith, padded-length (map storedNode (nodes m)) (omega arith))))
-      ∙ drop-at (map storedNode (nodes m)) (replicate (maxNodes - length (map storedNode (nodes m))) zeroNode) (count m) e
+      ap (drop (numEntries m)) (take-all maxNodesPerBucket (stored s m .nodes) (omega (arith, padded-length (map storedNode (nodes m)) (omega arith))))
+      ∙ drop-at (map storedNode (nodes m)) (replicate (maxNodesPerBucket - length (map storedNode (nodes m))) zeroNode) (numEntries m) e
 
   pending-sound : (p : Option model.PendingNode) → Opt (λ (q : model.PendingNode). holds (q .node .key) m ≡ false) p
       → pendingSound (bucketOf (stored s m)) (storedPending p) ≡ true
@@ -122,8 +122,8 @@ module _ (s : BucketSettings) (m : Bucket) (w : Formed (s .maxIncoming) m) (h : 
   pub sound-stored : sound (stored s m) ≡ true
   unfolding sound
   sound-stored =
-      let e₁ = le-leb (count m) maxNodes (w .at-most) in
-      let e₂ : leb (length (m .disconnected)) (count m) ≡ true = le-leb (length (m .disconnected)) (count m) (omega arith) in
+      let e₁ = le-leb (numEntries m) maxNodesPerBucket (w .at-most) in
+      let e₂ : leb (length (m .disconnected)) (numEntries m) ≡ true = le-leb (length (m .disconnected)) (numEntries m) (omega arith) in
       let e₃ : different (map nodeOf (heldOf (stored s m))) ≡ true = rw (held-stored s m) (different-of (nodes m) (w .different)) in
       let e₄ : every (inState 0) (take (length (m .disconnected)) (stored s m .nodes)) ≡ true =
       rw front (every-map-stored (inState 0) (m .disconnected) (all-map (λ (n : model.Node). n .connected ≡ false) (λ (n : model.Node). inState 0 (storedNode n) ≡ true) (in-state false) (m .disconnected) (w .disconnected-first))) in
@@ -132,6 +132,6 @@ module _ (s : BucketSettings) (m : Bucket) (w : Formed (s .maxIncoming) m) (h : 
       let e₆ : leb (length (incomingNodes (map nodeOf (heldOf (stored s m))))) (s .maxIncoming) ≡ true =
       rw (held-stored s m) (le-leb (length (incomingNodes (nodes m))) (s .maxIncoming) (w .incoming-within)) in
       let e₇ = pending-sound (m .pending) (w .pending-apart) in
-      let e₈ : every isZero (drop (count m) (take maxNodes (stored s m .nodes))) ≡ true = rw rest (zeros (maxNodes - length (map storedNode (nodes m)))) in
-      let e₉ = le-leb (s .maxIncoming) maxNodes h in
-      all-ten e₁ e₂ e₃ e₄ e₅ e₆ e₇ e₈ e₉ (code-le (s .filter))
+      let e₈ : every isZero (drop (numEntries m) (take maxNodesPerBucket (stored s m .nodes))) ≡ true = rw rest (zeros (maxNodesPerBucket - length (map storedNode (nodes m)))) in
+      let e₉ = le-leb (s .maxIncoming) maxNodesPerBucket h in
+      all-ten e₁ e₂ e₃ e₄ e₅ e₆ e₇ e₈ e₉ (flag-code (s .filter))

@@ -8,10 +8,11 @@ use lib.ListN.{length, take, drop, getD}
 use lib.Dec.{eqb, leb}
 use Rattle.model.specs.Base.{same, every}
 use Rattle.model.specs.Node as model
-use Rattle.model.specs.Bucket.{Bucket, BucketSettings, maxNodes, nodes, count, holds, incomingNodes}
+use Rattle.model.specs.Bucket.{Bucket, BucketSettings, maxNodesPerBucket, nodes, numEntries, holds, incomingNodes}
 use Rattle.key.specs.Key.{num, Words}
 use Rattle.node.specs.declared.Node.{Node}
-use Rattle.node.specs.Node.{nodeOf, nodeCodes, isZero, code, storedNode, zeroNode}
+use Rattle.model.specs.Layout.{flagByte}
+use Rattle.node.specs.Node.{nodeOf, nodeCodes, isZero, storedNode, zeroNode}
 use Rattle.places.specs.Places.{padded, position, inState, different}
 use Rattle.bucket.specs.declared.Pending.{Pending}
 use Rattle.bucket.specs.declared.Pending.the-variants.{Nothing, Waiting}
@@ -53,12 +54,12 @@ abbrev pub stored : BucketSettings → Bucket → KBucket
 stored s b =
     record {
       nodes = padded (map storedNode (nodes b));
-      count = count b;
+      count = numEntries b;
       «first_connected_pos» = length (b .disconnected);
       pending = storedPending (b .pending);
       «pending_timeout» = s .pendingTimeout;
       «max_incoming» = s .maxIncoming;
-      filter = code (s .filter);
+      filter = flagByte (s .filter);
     }
 
 -- 01, question 2: a pending not held, codes as in 4
@@ -80,18 +81,18 @@ PendingWords (Waiting n deadline) = Words (n .key)
 -- incoming within max_incoming, the pending, unused places zero, the settings' codes
 unfoldable pub sound : KBucket → Bool
 sound b =
-    leb (b .count) maxNodes
+    leb (b .count) maxNodesPerBucket
     && (leb (b .«first_connected_pos») (b .count)
     && (different (map nodeOf (heldOf b))
     && (every (inState 0) (take (b .«first_connected_pos») (b .nodes))
     && (every (inState 1) (drop (b .«first_connected_pos») (heldOf b))
     && (leb (length (incomingNodes (map nodeOf (heldOf b)))) (b .«max_incoming»)
     && (pendingSound (bucketOf b) (b .pending)
-    && (every isZero (drop (b .count) (take maxNodes (b .nodes))) && (leb (b .«max_incoming») maxNodes && leb (b .filter) 1))))))))
+    && (every isZero (drop (b .count) (take maxNodesPerBucket (b .nodes))) && (leb (b .«max_incoming») maxNodesPerBucket && leb (b .filter) 1))))))))
 
 -- a bucket that passes question 2, whose numbers fit their types: it is what is stored of the bucket that it stands for
 pub record Sound (b : KBucket) : Type 0 where
-  pub few : b .count ≤ maxNodes
+  pub few : b .count ≤ maxNodesPerBucket
   pub test : sound b ≡ true
   pub exact : b ≡ stored (settingsOf b) (bucketOf b)
 

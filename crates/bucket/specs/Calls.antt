@@ -120,9 +120,9 @@ abbrev pub questions : KBucket → Bool → List (ℕ × Bool) → List (ℕ × 
 questions b codes rest = (2, sound b) ∷ (4, codes) ∷ rest
 
 -- the number of the question that failed, 0 for none
-abbrev pub refusal : Option ℕ → ℕ
-refusal none = 0
-refusal (some q) = q
+abbrev pub refusalNumber : Option ℕ → ℕ
+refusalNumber none = 0
+refusalNumber (some q) = q
 
 -- question 5
 abbrev pub timely : KBucket → ℕ → List (ℕ × Bool)
@@ -158,6 +158,6 @@ removeCall b k now =
 -- 01, question 4: max_incoming 0 to 16, filter 0 or 1. A refusal comes with the bucket that is all zero.
 unfoldable pub newCall : ℕ → ℕ → ℕ → Reply (Unit {0}) × KBucket
 newCall pendingTimeout maxIncoming filter =
-    cond (leb maxIncoming bucket.maxNodes && leb filter 1)
+    cond (leb maxIncoming bucket.maxNodesPerBucket && leb filter 1)
     (Reply.Answered tt, stored (record { pendingTimeout = pendingTimeout; maxIncoming = maxIncoming; filter = isOne filter }) bucket.emptyBucket)
     (Reply.Refused 4, stored (record { pendingTimeout = 0; maxIncoming = 0; filter = false }) bucket.emptyBucket)

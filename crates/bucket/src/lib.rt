@@ -10,14 +10,14 @@ ghost use mathlib.Core.List.{[], _∷_};
 ghost use Rattle.model.specs.Base.{isSome};
 ghost use Rattle.model.specs.Value.{Value};
 ghost use Rattle.model.specs.Node.{withStatus, withValue, sameStatus};
-ghost use Rattle.model.specs.Bucket.{BucketSettings, maxNodes, emptyBucket, holds, failsBucketFilter, isMaxIncoming, placed, takeOut, insertFull, insert, applyPending, applyDue, updateStatus, updateStatusOf, updateIfPending, updateValue, updateValueOf, updatePending, remove, statusResult, lookup};
+ghost use Rattle.model.specs.Bucket.{BucketSettings, maxNodesPerBucket, emptyBucket, holds, failsBucketFilter, isMaxIncoming, placed, takeOut, insertFull, insert, applyPending, applyDue, updateStatus, updateStatusOf, updateIfPending, updateValue, updateValueOf, updatePending, remove, statusResult, get};
 ghost use Rattle.model.specs.Call.{isOne, optional};
 ghost use Rattle.model.specs.Question.{firstFailed};
 ghost use Rattle.key.specs.Key.{num, Words};
 ghost use Rattle.node.specs.Node.{valueOf, nodeOf, valueCodes, nodeCodes, zeroNode};
 ghost use Rattle.bucket.specs.declared.Pending.the-variants.{Nothing, Waiting};
 ghost use Rattle.bucket.specs.Bucket.{pendingOf, keyAt, bucketOf, settingsOf, stored, sound, Sound, Becomes, repending, clearedPending, pendingFits, PendingWords};
-ghost use Rattle.bucket.specs.Calls.{refusal, questions, timely, insertResultOf, updateResultOf, recordsOf, appliedCodes, insertAnswerOf, applyAnswerOf, applyCodes, updateAnswerOf, pendingAnswerOf, removeAnswerOf, newAnswerOf, insertCall, applyPendingCall, updateStatusCall, updateValueCall, updatePendingCall, removeCall, newCall};
+ghost use Rattle.bucket.specs.Calls.{refusalNumber, questions, timely, insertResultOf, updateResultOf, recordsOf, appliedCodes, insertAnswerOf, applyAnswerOf, applyCodes, updateAnswerOf, pendingAnswerOf, removeAnswerOf, newAnswerOf, insertCall, applyPendingCall, updateStatusCall, updateValueCall, updatePendingCall, removeCall, newCall};
 use key::Key;
 use node::Node;
 use node::NodeStatus;
@@ -164,10 +164,17 @@ pub struct NewReply {
 
 impl KBucket {
     // The fixed number of places.
-    pub const MAX_NODES: usize = 16;
+    pub const MAX_NODES_PER_BUCKET: usize = 16;
 
     // How many bytes a bucket by itself takes: count, first connected place, the nodes; pending flag, pending node, deadline; the settings.
-    pub const BYTES: usize = 2 + KBucket::MAX_NODES * Node::BYTES + 1 + Node::BYTES + 8 + 8 + 1 + 1;
+    pub const BYTES: usize = 2
+        + KBucket::MAX_NODES_PER_BUCKET * Node::BYTES
+        + 1
+        + Node::BYTES
+        + 8
+        + 8
+        + 1
+        + 1;
 
     // An empty bucket. Refuses a maximum over 16 or a filter over 1 with 4.
     pub fn new(pending_timeout: u64, max_incoming: usize, filter: u8) -> NewReply
@@ -274,7 +281,7 @@ impl KBucket {
     // goes.
     pub fn placed(self, node: Node) -> KBucket
         requires { ⌜ Sound self ⌝ }
-        requires { ⌜ self .count < maxNodes ⌝ }
+        requires { ⌜ self .count < maxNodesPerBucket ⌝ }
         requires { ⌜ nodeCodes node ≡ true ⌝ }
         requires { ⌜ holds (num (node .key)) (bucketOf self) ≡ false ⌝ }
         requires { ⌜ isMaxIncoming (settingsOf self) (nodeOf node) (bucketOf self) ≡ false ⌝ }
@@ -450,7 +457,7 @@ impl KBucket {
     pub fn evict(mut self, node: Node) -> Applied
         requires { ⌜ Sound self ⌝ }
         requires { ⌜ nodeCodes node ≡ true ⌝ }
-        requires { ⌜ maxNodes ≤ self .count ⌝ }
+        requires { ⌜ maxNodesPerBucket ≤ self .count ⌝ }
         requires { ⌜ holds (num (node .key)) (bucketOf self) ≡ false ⌝ }
         requires { ⌜ isMaxIncoming (settingsOf self) (nodeOf node) (bucketOf self) ≡ false ⌝ }
         ensures { λ r. ⌜ recordsOf (r .applied) ≡ record { inserted = num (node .key); evicted = some (nodeOf (getD (self .nodes) 0 zeroNode)) } ∷ [] ⌝ }
@@ -495,7 +502,7 @@ impl KBucket {
     }
 
     // Internal: the status step on the node at place pos of a sound bucket.
-    pub fn status_at(mut self, pos: usize, state: u8, direction: u8) -> Updated
+    pub fn status_at(self, pos: usize, state: u8, direction: u8) -> Updated
         requires { ⌜ Sound self ⌝ }
         requires { ⌜ pos < self .count ⌝ }
         requires { ⌜ state ≤ 1 ⌝ }
@@ -505,23 +512,23 @@ impl KBucket {
     {
         let old = self.nodes[pos];
         let node = old.with_status(state, direction);
-        self = self.taken_out(pos);
-        self = self.without_pending((state == 1) & (pos == 0));
-        if self.fails_filter(node.value) {
+        let out = self.taken_out(pos);
+        let left = out.without_pending((state == 1) & (pos == 0));
+        if left.fails_filter(node.value) {
             return Updated {
-                bucket: self,
+                bucket: left,
                 result: UpdateResult::Failed(FailureReason::BucketFilter),
             };
         }
-        if self.is_max_incoming(node) {
+        if left.is_max_incoming(node) {
             return Updated {
-                bucket: self,
+                bucket: left,
                 result: UpdateResult::Failed(FailureReason::TooManyIncoming),
             };
         }
-        self = self.placed(node);
+        let put = left.placed(node);
         Updated {
-            bucket: self,
+            bucket: put,
             result: status_result(old, node),
         }
     }
@@ -600,12 +607,14 @@ impl KBucket {
                 result: UpdateResult::NotModified,
             };
         }
-        let rest = self.taken_out(pos);
-        if rest.fails_filter(value) {
-            return Updated {
-                bucket: rest,
-                result: UpdateResult::Failed(FailureReason::BucketFilter),
-            };
+        if self.filter == 1 {
+            let rest = self.taken_out(pos);
+            if rest.fails_filter(value) {
+                return Updated {
+                    bucket: rest,
+                    result: UpdateResult::Failed(FailureReason::BucketFilter),
+                };
+            }
         }
         let node = old.with_value(value);
         self.nodes[pos] = node;
@@ -680,7 +689,7 @@ impl KBucket {
     }
 
     // Internal: remove on a sound bucket.
-    pub fn remove_sound(mut self, key: Key, now: u64) -> Removed
+    pub fn remove_sound(self, key: Key, now: u64) -> Removed
         requires { ⌜ Sound self ⌝ }
         requires { ⌜ now + self .«pending_timeout» < 2 ^ 64 ⌝ }
         ensures { λ r. ⌜ r .found ≡ remove (settingsOf self) now (num key) (bucketOf self) .0 ⌝ }
@@ -690,13 +699,30 @@ impl KBucket {
         let count = self.count;
         let pos = places::position(nodes, 0, count, key);
         if pos < count {
-            self = self.taken_out(pos);
-            let a = self.apply_pending_sound(now);
-            let b = a.bucket;
-            return Removed {
-                bucket: b,
-                found: true,
-            };
+            let out = self.taken_out(pos);
+            let p = out.pending;
+            match p {
+                Pending::Nothing => {
+                    return Removed {
+                        bucket: out,
+                        found: true,
+                    };
+                }
+                Pending::Waiting(_, deadline) => {
+                    if deadline <= now {
+                        let a = out.apply_pending_sound(now);
+                        let b = a.bucket;
+                        return Removed {
+                            bucket: b,
+                            found: true,
+                        };
+                    }
+                    return Removed {
+                        bucket: out,
+                        found: true,
+                    };
+                }
+            }
         }
         Removed {
             bucket: self,
@@ -729,7 +755,7 @@ impl KBucket {
 
     // Internal: the first of questions 2 and 4 that fails, or 0. `codes` is question 4.
     pub fn asked(self, codes: bool) -> u8
-        ensures { λ r. ⌜ r ≡ refusal (firstFailed (questions self codes [])) ⌝ }
+        ensures { λ r. ⌜ r ≡ refusalNumber (firstFailed (questions self codes [])) ⌝ }
         ensures { λ r. ⌜ (r ≡ 0 → Sound self × (codes ≡ true) × (firstFailed (questions self codes []) ≡ none)) ⌝ }
     {
         if !self.is_sound() {
@@ -743,7 +769,7 @@ impl KBucket {
 
     // Internal: the same with question 5.
     pub fn asked_at(self, codes: bool, now: u64) -> u8
-        ensures { λ r. ⌜ r ≡ refusal (firstFailed (questions self codes (timely self now))) ⌝ }
+        ensures { λ r. ⌜ r ≡ refusalNumber (firstFailed (questions self codes (timely self now))) ⌝ }
         ensures { λ r. ⌜ (r ≡ 0 → Sound self × (codes ≡ true) × (now + self .«pending_timeout» < 2 ^ 64) × (firstFailed (questions self codes (timely self now)) ≡ none)) ⌝ }
     {
         if !self.is_sound() {
@@ -907,7 +933,7 @@ pub fn cleared(key: Key, p: Pending) -> Pending
 
 // Internal: is a pending not held, and are its codes in range? A yes also tells what Rattle knows of its key.
 pub fn pending_sound(nodes: [Node; 16], count: usize, p: Pending) -> bool
-    requires { ⌜ count ≤ maxNodes ⌝ }
+    requires { ⌜ count ≤ maxNodesPerBucket ⌝ }
     ensures { λ r. ⌜ r ≡ pendingFits (take count nodes) p ⌝ }
     ensures { λ r. ⌜ PendingWords p ⌝ }
 {

@@ -6,7 +6,7 @@ use mathlib.Core.Option.{Option}
 use lib.ListN.{length, getD}
 use lib.Dec.{eqb, leb}
 use Rattle.model.specs.Bytes.{number, bytes, part}
-use Rattle.model.specs.Bucket.{Bucket, BucketSettings, maxNodes, emptyBucket}
+use Rattle.model.specs.Bucket.{Bucket, BucketSettings, maxNodesPerBucket, emptyBucket}
 use Rattle.model.specs.Sizes.{timeSize, bucketSize}
 use Rattle.model.specs.Layout.{bucketBytes, bucketIn}
 use Rattle.model.specs.Question.{firstFailed, deadlineFits}
@@ -34,7 +34,7 @@ lentBucket bs = bucketIn (part bs 0 bucketSize)
 -- 01, question 2, all but the index, with the settings' codes
 unfoldable pub lentFormed : List ℕ → Bool
 lentFormed bs =
-    soundBytes (getD bs lentMaxIncomingAt 0) (part bs 0 bucketSize) && (leb (getD bs lentMaxIncomingAt 0) maxNodes && leb (getD bs lentFilterAt 0) 1)
+    soundBytes (getD bs lentMaxIncomingAt 0) (part bs 0 bucketSize) && (leb (getD bs lentMaxIncomingAt 0) maxNodesPerBucket && leb (getD bs lentFilterAt 0) 1)
 
 -- an empty bucket
 unfoldable pub emptyBytes : (pendingTimeout maxIncoming filter : ℕ) → List ℕ

@@ -1,13 +1,13 @@
 // Internal: a bucket by itself, lent as bytes: its questions, and the bucket by value.
 ghost use mathlib.Core.Path.{_≡_};
-ghost use mathlib.Core.Bool.{true, cond, _&&_};
+ghost use mathlib.Core.Bool.{true, _&&_};
 ghost use mathlib.Core.Option.{none, some};
 ghost use Prim.Native.Nat.{_≤_, _<_};
 ghost use lib.ListN.{length, getD};
 ghost use lib.Dec.{leb, eqb};
 ghost use Rattle.model.specs.Base.{allBelow, tabulate};
 ghost use Rattle.model.specs.Bytes.{part};
-ghost use Rattle.model.specs.Bucket.{maxNodes, incomingNodes};
+ghost use Rattle.model.specs.Bucket.{maxNodesPerBucket, incomingNodes};
 ghost use Rattle.model.specs.Sizes.{bucketSize};
 ghost use Rattle.model.specs.Formed.{notHeld, stateAt, pendingFormed};
 ghost use Rattle.key.specs.Key.{num};
@@ -31,37 +31,19 @@ impl Lent {
     pub const FILTER_AT: usize = Lent::MAX_INCOMING_AT + 1;
 }
 
-fn size(x: u8) -> usize
-    ensures { λ r. ⌜ r ≡ x ⌝ }
-{
-    x as usize
-}
-
-fn one(b: bool) -> usize
-    ensures { λ r. ⌜ (r ≡ cond b 1 0) × (r ≤ 1) ⌝ }
-{
-    if b { 1 } else { 0 }
-}
-
-// The state that place j has where `first` is the first connected place.
-fn state_at(first: usize, j: usize) -> u8
-    ensures { λ r. ⌜ r ≡ stateAt first j ⌝ }
-{
-    if j < first { 0 } else { 1 }
-}
-
 // Place j, whose node this is.
 fn place_sound(s: &[u8], first: usize, j: usize, node: Node) -> bool
-    requires { ⌜ (bucketSize ≤ length (now s)) × (j < maxNodes) ⌝ }
+    requires { ⌜ (bucketSize ≤ length (now s)) × (j < maxNodesPerBucket) ⌝ }
     ensures { λ r. ⌜ r ≡ ((nodeCodes node && eqb (node .status .state) (stateAt first j)) && notHeld (part (now (s .entry)) 0 bucketSize) j (num (node .key))) ⌝ }
 {
     let key = node.key;
-    (node.in_range() & (node.status.state == state_at(first, j))) & formed::not_held(s, 0, j, key)
+    (node.in_range() & (node.status.state == formed::state_at(first, j)))
+        & formed::not_held(s, 0, j, key)
 }
 
 // The places below count, with at most max_incoming nodes that are connected and incoming.
 fn places_sound(s: &[u8], count: usize, first: usize, max_incoming: usize) -> bool
-    requires { ⌜ (bucketSize ≤ length (now s)) × (count ≤ maxNodes) ⌝ }
+    requires { ⌜ (bucketSize ≤ length (now s)) × (count ≤ maxNodesPerBucket) ⌝ }
     ensures { λ r. ⌜ r ≡ (allBelow count (placeSound first (part (now (s .entry)) 0 bucketSize))
         && leb (length (incomingNodes (tabulate count (nodeAt (part (now (s .entry)) 0 bucketSize))))) «max_incoming») ⌝ }
 {
@@ -71,7 +53,7 @@ fn places_sound(s: &[u8], count: usize, first: usize, max_incoming: usize) -> bo
     while j < count {
         let node = storage::load_node(s, Layout::PLACES_AT + j * Layout::NODE);
         ok = ok & place_sound(s, first, j, node);
-        n += one(node.is_connected_incoming());
+        n += formed::one(node.is_connected_incoming());
         j += 1;
     }
     ok & (n <= max_incoming)
@@ -79,7 +61,7 @@ fn places_sound(s: &[u8], count: usize, first: usize, max_incoming: usize) -> bo
 
 // The pending: its flag, its codes, and a key that is not held.
 fn pending_sound(s: &[u8], count: usize) -> bool
-    requires { ⌜ (bucketSize ≤ length (now s)) × (count ≤ maxNodes) × (count ≡ getD (now s) 0 0) ⌝ }
+    requires { ⌜ (bucketSize ≤ length (now s)) × (count ≤ maxNodesPerBucket) × (count ≡ getD (now s) 0 0) ⌝ }
     ensures { λ r. ⌜ r ≡ pendingFormed (λ k. true) (part (now (s .entry)) 0 bucketSize) ⌝ }
 {
     let flag = s[Layout::PENDING_AT];
@@ -96,9 +78,9 @@ fn lent_formed(s: &[u8]) -> bool
     requires { ⌜ lentSize ≤ length (now s) ⌝ }
     ensures { λ r. ⌜ r ≡ lentFormed (now (s .entry)) ⌝ }
 {
-    let count = size(s[0]);
-    let first = size(s[1]);
-    let max_incoming = size(s[Lent::MAX_INCOMING_AT]);
+    let count = formed::size(s[0]);
+    let first = formed::size(s[1]);
+    let max_incoming = formed::size(s[Lent::MAX_INCOMING_AT]);
     if model::MAX_NODES_PER_BUCKET < count {
         return false;
     }
@@ -151,7 +133,7 @@ pub fn load(s: &[u8]) -> KBucket
     ensures { λ r. ⌜ Becomes (lentSettings (now (s .entry))) (lentBucket (now (s .entry))) r ⌝ }
 {
     let pending_timeout = words::get_u64(s, Lent::TIMEOUT_AT);
-    let max_incoming = size(s[Lent::MAX_INCOMING_AT]);
+    let max_incoming = formed::size(s[Lent::MAX_INCOMING_AT]);
     let filter = s[Lent::FILTER_AT];
     buckets::load_at(s, 0, pending_timeout, max_incoming, filter)
 }

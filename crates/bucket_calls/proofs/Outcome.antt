@@ -1,6 +1,6 @@
 -- What a call on a bucket by itself returns and leaves, by its questions and by what it does to the bucket.
 use mathlib.Core.Path.{_≡_, refl, sym, ap, _∙_}
-use mathlib.Core.Bool.{Bool, true, false, cond, _&&_}
+use mathlib.Core.Bool.{Bool, true, false, _&&_}
 use mathlib.Core.List.{List, [], _∷_, _++_, append-assoc}
 use mathlib.Core.Option.{Option, none, some}
 use Prim.Native.Nat.{ℕ, _+_, _≤_, _<_}
@@ -10,13 +10,13 @@ use lib.ListN.{length, length-append, length-replicate}
 use borrow.Author.Tests.{le-leb, lt-leb}
 use Rattle.model.specs.Bytes.{number, bytes, splice, zeros}
 use Rattle.model.specs.Bucket as bucket
-use Rattle.model.specs.Bucket.{Bucket, maxNodes}
+use Rattle.model.specs.Bucket.{Bucket, maxNodesPerBucket}
 use Rattle.model.specs.Sizes.{timeSize, bucketSize}
 use Rattle.model.specs.Call.{ValueArgument, isOne, optional, valueOf}
 use Rattle.model.specs.Question.{firstFailed}
 use Rattle.model.specs.Step.{nodeOf}
 use Rattle.model.specs.Layout.{flagByte, bucketBytes}
-use Rattle.model.specs.Base.{joined}
+use Rattle.model.specs.Base.{joined, first}
 use Rattle.laws.proofs.Parts.{splice-nil, splice-next, length-splice, part-all, part-splice-same}
 use Rattle.laws.proofs.Tests.{and-left, and-right}
 use Rattle.laws.proofs.Bytes.{length-bytes}
@@ -26,7 +26,7 @@ use Rattle.bucket.specs.declared.KBucket.{KBucket}
 use Rattle.bucket.specs.Bucket.{bucketOf}
 use Rattle.asked.proofs.Questions.{front-fails, front-passes}
 use Rattle.asked.proofs.Steps.{Stepped}
-use Rattle.codes.specs.Codes.{refusedCode, updateCode, bucketInsertCode, bucketInsertBytes, appliedCode, appliedBytes, answerSize, first}
+use Rattle.codes.specs.Codes.{refusedCode, updateCode, bucketInsertCode, bucketInsertBytes, appliedCode, appliedBytes, answerSize}
 use Rattle.codes.specs.Exported.{Exported, Leaves, Writes}
 use Rattle.bucket_bytes.specs.Lent.{lentTimeoutAt, lentMaxIncomingAt, lentFilterAt, lentSize, lentSettings, lentBucket, emptyBytes, lentFive, failedOfLent}
 use Rattle.bucket_calls.specs.Calls.{BucketCall, BucketEffect, answerFits, bucketQuestions, bucketAct, bucketStep, bucketNew}
@@ -133,7 +133,7 @@ module _ (timeout m f : ℕ) (bs : List ℕ) where
   new-size e p = record { code = p ∙ (rw e); storage = rw e }
 
   module _ (e : eqb (length bs) lentSize ≡ true) where
-    pub new-codes : (leb m maxNodes && leb f 1) ≡ false → {r : ℕ} → r ≡ refusedCode 4 → Leaves r bs (bucketNew timeout m f bs)
+    pub new-codes : (leb m maxNodesPerBucket && leb f 1) ≡ false → {r : ℕ} → r ≡ refusedCode 4 → Leaves r bs (bucketNew timeout m f bs)
     unfolding bucketNew
     new-codes g p = record { code = p ∙ (rw (e, g)); storage = rw (e, g) }
 
@@ -158,7 +158,7 @@ module _ (timeout m f : ℕ) (bs : List ℕ) where
         )
         (whole bs v (omega arith) ∙ simp append-assoc)
 
-    pub new-made : (leb m maxNodes && leb f 1) ≡ true → (s₁ s₂ s₃ s₄ : List ℕ) → length bs ≡ lentSize → s₁ ≡ splice bs 0 (zeros bucketSize)
+    pub new-made : (leb m maxNodesPerBucket && leb f 1) ≡ true → (s₁ s₂ s₃ s₄ : List ℕ) → length bs ≡ lentSize → s₁ ≡ splice bs 0 (zeros bucketSize)
         → s₂ ≡ splice s₁ lentTimeoutAt (bytes timeSize timeout) → s₃ ≡ splice s₂ lentMaxIncomingAt (m ∷ []) → s₄ ≡ splice s₃ lentFilterAt (f ∷ [])
         → Leaves 0 s₄ (bucketNew timeout m f bs)
     unfolding bucketNew

@@ -5,6 +5,7 @@ use mathlib.Core.List.{List, [], _∷_, _++_}
 use mathlib.Core.Option.{Option, none, some}
 use lib.ListN.{length}
 use lib.Dec.{eqb, leb}
+use Rattle.model.specs.Base.{first}
 use Rattle.model.specs.Bytes.{number, splice}
 use Rattle.model.specs.Bucket as bucket
 use Rattle.model.specs.Sizes.{keySize}
@@ -12,7 +13,7 @@ use Rattle.model.specs.Call.{ValueArgument, isOne, optional, valueOf}
 use Rattle.model.specs.Question.{firstFailed, valueInRange}
 use Rattle.model.specs.Step.{nodeOf}
 use Rattle.model.specs.Layout.{flagByte, bucketBytes}
-use Rattle.codes.specs.Codes.{refusedCode, updateCode, bucketInsertCode, bucketInsertBytes, appliedCode, appliedBytes, answerSize, first}
+use Rattle.codes.specs.Codes.{refusedCode, updateCode, bucketInsertCode, bucketInsertBytes, appliedCode, appliedBytes, answerSize}
 use Rattle.codes.specs.Exported.{Exported}
 use Rattle.bucket_bytes.specs.Lent.{lentSize, lentSettings, lentBucket, lentFive, emptyBytes}
 
@@ -79,4 +80,4 @@ newUnlessRefused none timeout m f bs = record { code = 0; storage = emptyBytes t
 -- a new bucket: questions 1 and 4 (max_incoming 0 to 16, filter 0 or 1)
 unfoldable pub bucketNew : (pendingTimeout maxIncoming filter : ℕ) → List ℕ → Exported
 bucketNew timeout m f bs =
-    newUnlessRefused (firstFailed ((1, eqb (length bs) lentSize) ∷ (4, leb m bucket.maxNodes && leb f 1) ∷ [])) timeout m f bs
+    newUnlessRefused (firstFailed ((1, eqb (length bs) lentSize) ∷ (4, leb m bucket.maxNodesPerBucket && leb f 1) ∷ [])) timeout m f bs

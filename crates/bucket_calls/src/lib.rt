@@ -1,7 +1,7 @@
 // The calls on a bucket by itself, lent as bytes (bucket.rs): each asks its questions, loads the bucket by value, runs its method and stores
 // it. Each returns its answer's number; a key or a record that the answer carries stands at the front of `answer`.
 ghost use mathlib.Core.List.{[]};
-ghost use Rattle.asked.specs.Answers.{argumentOf};
+ghost use Rattle.node.specs.Node.{argumentOf};
 ghost use Rattle.codes.specs.Exported.{Leaves, Writes};
 ghost use Rattle.bucket_calls.specs.Calls.{BucketCall, bucketStep, bucketNew};
 use bucket::KBucket;

@@ -1,2 +1,3 @@
 -- Laws of what update_node and insert_or_update do to a bucket.
+pub mod Again
 pub mod Rules

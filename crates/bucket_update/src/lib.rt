@@ -1,16 +1,18 @@
 // Internal: what update_node and insert_or_update (kbucket.rs) do to the bucket of their key, by value.
 ghost use mathlib.Core.Path.{_≡_};
-ghost use mathlib.Core.Bool.{true};
+ghost use mathlib.Core.Bool.{true, false};
 ghost use Prim.Native.Nat.{_+_, _≤_, _<_, _^_};
 ghost use Rattle.model.specs.Result as model;
 ghost use Rattle.model.specs.Result.{isFailed};
+ghost use Rattle.model.specs.Bucket.{statusResult};
 ghost use Rattle.model.specs.Table.{Answer, bothUpdates, updateNodeIn, insertUpdates, inserts, insertOrUpdateIn};
 ghost use Rattle.model.specs.Call.{optional};
 ghost use Rattle.key.specs.Key.{num};
 ghost use Rattle.node.specs.Node.{valueOf, nodeOf, valueCodes, nodeCodes};
-ghost use Rattle.bucket.specs.Bucket.{bucketOf, settingsOf, Sound, Becomes};
+ghost use Rattle.bucket.specs.Bucket.{keyAt, bucketOf, settingsOf, Sound, Becomes};
 ghost use Rattle.bucket.specs.Calls.{updateResultOf, insertResultOf};
 ghost use Rattle.bucket_update.specs.Results.{tableInsertResultOf};
+ghost use Rattle.bucket_update.specs.Again.{putAgain, valueResult};
 use bucket::FailureReason;
 use bucket::InsertResult as BucketInsertResult;
 use bucket::KBucket;
@@ -118,6 +120,42 @@ fn both_updates(value: UpdateResult, status: UpdateResult) -> UpdateResult
     }
 }
 
+// What the value's step answers on a held node, where the bucket filter is off.
+fn value_result(old: Value, value: Value) -> UpdateResult
+    ensures { λ r. ⌜ updateResultOf r ≡ valueResult (valueOf old) (valueOf value) ⌝ }
+{
+    if old.eq(value) {
+        return UpdateResult::NotModified;
+    }
+    UpdateResult::Updated
+}
+
+// Takes out the node at place pos and inserts one of its key, where the bucket filter is off. Answers as the status's step of a node that
+// was `old`.
+fn put_again(b: KBucket, pos: usize, old: Node, node: Node) -> Updated
+    requires { ⌜ Sound b ⌝ }
+    requires { ⌜ pos < b .count ⌝ }
+    requires { ⌜ settingsOf b .filter ≡ false ⌝ }
+    requires { ⌜ nodeCodes node ≡ true ⌝ }
+    requires { ⌜ keyAt b pos ≡ num (node .key) ⌝ }
+    ensures { λ r. ⌜ updateResultOf (r .result) ≡ statusResult (nodeOf old) (nodeOf node) (putAgain (settingsOf b) (nodeOf node) (bucketOf b) .0) ⌝ }
+    ensures { λ r. ⌜ Becomes (settingsOf b) (putAgain (settingsOf b) (nodeOf node) (bucketOf b) .1) (r .bucket) ⌝ }
+{
+    let held = b.without_pending((node.status.state == 1) & (pos == 0));
+    let left = held.taken_out(pos);
+    if left.is_max_incoming(node) {
+        return Updated {
+            bucket: left,
+            result: UpdateResult::Failed(FailureReason::TooManyIncoming),
+        };
+    }
+    let put = left.placed(node);
+    Updated {
+        bucket: put,
+        result: bucket::status_result(old, node),
+    }
+}
+
 // Internal: update_node on the bucket of its key; `fails` is the table filter's answer, state 2 is none given.
 pub fn update_node_in(
     b: KBucket,
@@ -140,6 +178,23 @@ pub fn update_node_in(
         return Updated {
             bucket: left,
             result: UpdateResult::Failed(FailureReason::TableFilter),
+        };
+    }
+    let nodes = b.nodes;
+    let count = b.count;
+    let pos = places::position(nodes, 0, count, key);
+    if (pos < count) & ((b.filter != 1) & (state != 2)) {
+        let old = nodes[pos];
+        let valued = old.with_value(value);
+        let node = valued.with_status(state, 2);
+        let again = put_again(b, pos, old, node);
+        let left = again.bucket;
+        let of_status = again.result;
+        let of_value = value_result(old.value, value);
+        let both = both_updates(of_value, of_status);
+        return Updated {
+            bucket: left,
+            result: both,
         };
     }
     let v = b.update_value_sound(key, value);
@@ -234,6 +289,18 @@ pub fn insert_or_update_in(b: KBucket, fails: bool, node: Node, time: u64) -> In
     let count = b.count;
     let pos = places::position(nodes, 0, count, node.key);
     if pos < count {
+        if b.filter != 1 {
+            let old = nodes[pos];
+            let again = put_again(b, pos, old, node);
+            let left = again.bucket;
+            let of_status = again.result;
+            let of_value = value_result(old.value, node.value);
+            let both = insert_updates(of_value, of_status);
+            return InsertedOrUpdated {
+                bucket: left,
+                result: both,
+            };
+        }
         let u = b.update_status_sound(node.key, node.status.state, node.status.direction);
         let changed = u.bucket;
         let of_status = u.result;

@@ -1,36 +1,34 @@
 -- What is read of a bucket's bytes, place by place, is what is stored of the bucket that they are.
 use mathlib.Core.Path.{_≡_, refl, sym, ap, _∙_, subst}
-use mathlib.Core.Bool.{Bool, true, false, cond, _&&_}
-use mathlib.Core.List.{List, [], _∷_, _++_, map, append-assoc, map-append}
-use Prim.Native.Nat.{ℕ, zero, suc, _+_, _*_, _-_, _≤_, _<_}
+use mathlib.Core.Bool.{Bool, true, false, cond}
+use mathlib.Core.List.{List, [], _∷_, _++_, map, append-assoc}
+use Prim.Native.Nat.{ℕ, suc, _+_, _*_, _-_, _≤_, _<_}
 use native.Mathlib.Nat.{add-zero}
 use native.Mathlib.Omega.{arith}
-use lib.ListN.{length, getD, set, replicate, length-append, take-append-drop}
-use lib.Seq.{length-take-le, set-append-seam}
+use lib.ListN.{length, getD, set, replicate, length-append}
+use lib.Seq.{set-append-seam}
 use lib.Dec.{eqb, leb}
 use borrow.Author.Tests.{eqb-true, ne-eqb, leb-true, le-leb}
-use Rattle.model.specs.Base.{tabulate, allBelow}
+use Rattle.model.specs.Base.{tabulate}
 use Rattle.model.specs.Bytes.{number, part, Bytes}
-use Rattle.model.specs.Node as model
-use Rattle.model.specs.Bucket.{maxNodes, nodes, count}
-use Rattle.model.specs.Table.{numBuckets, maxRecords}
-use Rattle.model.specs.Sizes.{keySize, valueSize, timeSize, nodeSize, pendingAt, pendingSize, recordSize, bucketSize, timeoutAt, maxIncomingAt, tableFilterAt, bucketFilterAt, recordCountAt, recordAt}
-use Rattle.model.specs.Layout.{valueIn, nodeIn, placeIn, nodesIn, pendingIn, bucketIn, settingsIn, recordPart, bucketPart, tableOf}
-use Rattle.model.specs.Key.{bucketIndex}
+use Rattle.model.specs.Bucket.{maxNodesPerBucket, nodes, numEntries}
+use Rattle.model.specs.Table.{numBuckets}
+use Rattle.model.specs.Sizes.{keySize, valueSize, timeSize, nodeSize, pendingAt, pendingSize, bucketSize, timeoutAt, maxIncomingAt, bucketFilterAt}
+use Rattle.model.specs.Layout.{valueIn, nodeIn, placeIn, nodesIn, pendingIn, bucketIn, settingsIn, bucketPart, tableOf}
 use Rattle.model.specs.Formed as formed
 use Rattle.model.specs.Fits.{All}
 use Rattle.laws.proofs.Tests.{split, and-left, and-right}
-use Rattle.laws.proofs.Lists.{length-tabulate, tabulate-one-more, tabulate-ext, all-gives, conj-gives, conj-if}
+use Rattle.laws.proofs.Lists.{length-tabulate, map-tabulate, tabulate-one-more, tabulate-ext, conj-gives, conj-if}
 use Rattle.laws.proofs.Parts.{length-part, part-part, getD-part}
 use Rattle.laws.proofs.Bytes.{Bytes-part}
-use Rattle.laws.proofs.BucketBytes.{length-nodes}
+use Rattle.laws.proofs.NodeFormed.{flag-back}
 use Rattle.laws.proofs.BucketFormed.{Checked, checked, checked-if}
-use Rattle.laws.proofs.BucketBack.{bucket-good}
-use Rattle.laws.proofs.KeepFormed.{Formed}
-use Rattle.laws.proofs.All.{opt-map}
+use Rattle.laws.proofs.HeaderBack.{checked-header}
+use Rattle.laws.proofs.TableBytes.{header-passes, bucket-passes}
+use Rattle.laws.proofs.BucketBack.{nodes-in, count-in, first-in, pending-of, bucket-good}
 use Rattle.node.specs.declared.Node.{Node}
 use Rattle.node.specs.Node.{storedValue, storedNode, zeroNode}
-use Rattle.node.proofs.Stored.{stored-valueOf, test-code}
+use Rattle.node.proofs.Stored.{stored-valueOf}
 use Rattle.places.specs.Places.{padded}
 use Rattle.storage.specs.Read.{readValue, readNode}
 use Rattle.storage.proofs.Nodes.{valueOf-read, codes-read, codes-value}
@@ -44,19 +42,19 @@ use Rattle.buckets.specs.Read.{readPlaces, readPending, soundBytes, sett
 
 -- the places, filled one after the other
 
-padded-next : (xs : List Node) (x : Node) → length xs < maxNodes → set (padded xs) (length xs) x ≡ padded (xs ++ (x ∷ []))
+padded-next : (xs : List Node) (x : Node) → length xs < maxNodesPerBucket → set (padded xs) (length xs) x ≡ padded (xs ++ (x ∷ []))
 padded-next xs x h =
-    let k : ℕ = maxNodes - length (xs ++ (x ∷ [])) in
-    let e : maxNodes - length xs ≡ suc k = simp length-append (omega arith) in
+    let k : ℕ = maxNodesPerBucket - length (xs ++ (x ∷ [])) in
+    let e : maxNodesPerBucket - length xs ≡ suc k = simp length-append (omega arith) in
     ap (λ (n : ℕ). set (xs ++ replicate n zeroNode) (length xs) x) e
     ∙ set-append-seam xs zeroNode (replicate k zeroNode) x
     ∙ sym (append-assoc xs (x ∷ []) (replicate k zeroNode))
 
-pub places-none : (bs : List ℕ) → replicate maxNodes zeroNode ≡ padded (readPlaces bs 0)
+pub places-none : (bs : List ℕ) → replicate maxNodesPerBucket zeroNode ≡ padded (readPlaces bs 0)
 unfolding readPlaces tabulate
 places-none bs = refl
 
-pub places-next : (s : List ℕ) (at i : ℕ) (ns : List Node) → i < maxNodes → ns ≡ padded (readPlaces (part s at bucketSize) i)
+pub places-next : (s : List ℕ) (at i : ℕ) (ns : List Node) → i < maxNodesPerBucket → ns ≡ padded (readPlaces (part s at bucketSize) i)
     → set ns i (readNode (part s (at + (2 + i * nodeSize)) nodeSize)) ≡ padded (readPlaces (part s at bucketSize) (i + 1))
 unfolding readPlaces
 places-next s at i ns l e =
@@ -100,14 +98,9 @@ stored-read bs h =
     let e : storedValue (valueIn v) ≡ readValue v = ap storedValue (sym (valueOf-read v)) ∙ stored-valueOf (readValue v) (codes-value (readNode bs) c) in
     rw (
       e,
-      test-code (getD bs keySize 0) (and-left (leb (getD bs keySize 0) 1) _ c),
-      test-code (getD bs (keySize + 1) 0) (and-left (leb (getD bs (keySize + 1) 0) 1) _ (and-right (leb (getD bs keySize 0) 1) _ c)),
+      flag-back (getD bs keySize 0) (and-left (leb (getD bs keySize 0) 1) _ c),
+      flag-back (getD bs (keySize + 1) 0) (and-left (leb (getD bs (keySize + 1) 0) 1) _ (and-right (leb (getD bs keySize 0) 1) _ c)),
     )
-
-map-tabulate : {A B : Type 0} (f : A → B) (k : ℕ) (g : ℕ → A) → map f (tabulate k g) ≡ tabulate k (λ i. f (g i))
-unfolding tabulate
-map-tabulate f zero g = refl
-map-tabulate f (suc k) g = map-append f (tabulate k g) (g k ∷ []) ∙ ap (λ (xs : List _). xs ++ (f (g k) ∷ [])) (map-tabulate f k g)
 
 -- what question 2 asks of a pending's bytes
 module _ (bs : List ℕ) (p : ℕ → Bool) (h : formed.pendingFormed p bs ≡ true) where
@@ -164,45 +157,14 @@ module _ (bs : List ℕ) (l : length bs ≡ bucketSize) (h : Bytes bs) (m : ℕ)
   passed : Checked (λ k. true) m bs
   passed = checked (λ k. true) m bs c
 
-  nodes-of : nodes (bucketIn bs) ≡ nodesIn bs
-  unfolding bucketIn
-  nodes-of = take-append-drop (getD bs 1 0) (nodesIn bs)
-
-  length-nodesIn : length (nodesIn bs) ≡ held
-  unfolding nodesIn
-  length-nodesIn = length-tabulate held (λ j. nodeIn (placeIn bs j))
-
-  count-of : count (bucketIn bs) ≡ held
-  count-of = sym (length-nodes (bucketIn bs)) ∙ ap length nodes-of ∙ length-nodesIn
-
-  first-of : length (bucketIn bs .disconnected) ≡ getD bs 1 0
-  unfolding bucketIn
-  first-of = length-take-le (getD bs 1 0) (nodesIn bs) (rw length-nodesIn (passed .first))
-
-  pending-of : bucketIn bs .pending ≡ pendingIn bs
-  unfolding bucketIn
-  pending-of = refl
-
   places-of : map storedNode (nodes (bucketIn bs)) ≡ readPlaces bs held
   unfolding nodesIn readPlaces
   places-of =
-      ap (map storedNode) nodes-of
+      ap (map storedNode) (nodes-in bs)
       ∙ map-tabulate storedNode held (λ j. nodeIn (placeIn bs j))
       ∙ tabulate-ext held (λ j. storedNode (nodeIn (placeIn bs j))) (λ j. readNode (placeIn bs j)) (λ j i. stored-read (placeIn bs j) (passed .codes j i))
 
-  formed-of : Formed m (bucketIn bs)
-  formed-of =
-      let g = bucket-good bs l h (λ k. true) m c in
-      record {
-        at-most = g .at-most;
-        different = g .different;
-        disconnected-first = g .disconnected-first;
-        then-connected = g .then-connected;
-        incoming-within = g .incoming-within;
-        pending-apart = opt-map _ _ (λ (q : model.PendingNode) e. e .1) (bucketIn bs .pending) (g .pending-fits);
-      }
-
-  pub loaded : (t f : ℕ) → m ≤ maxNodes → f ≤ 1
+  pub loaded : (t f : ℕ) → m ≤ maxNodesPerBucket → f ≤ 1
       → Becomes (settings t m f) (bucketIn bs)
       (record {
         nodes = padded (readPlaces bs held);
@@ -215,8 +177,8 @@ module _ (bs : List ℕ) (l : length bs ≡ bucketSize) (h : Bytes bs) (m : ℕ)
       })
   loaded t f a b =
       becomes (settings t m f) (bucketIn bs) _
-      (same-parts (ap padded (sym places-of)) (sym count-of) (sym first-of) (sym (ap storedPending pending-of ∙ stored-pending bs (λ k. true) (passed .pending))) refl refl (sym (test-code f (le-leb f 1 b))))
-      formed-of a
+      (same-parts (ap padded (sym places-of)) (sym (count-in bs)) (sym (first-in bs (passed .first))) (sym (ap storedPending (pending-of bs) ∙ stored-pending bs (λ k. true) (passed .pending))) refl refl (sym (flag-back f (le-leb f 1 b))))
+      (bucket-good bs l h (λ k. true) m c .formed) a
 
 -- the same, of the part at a place
 module _ (s : List ℕ) (at m : ℕ) (c : soundBytes m (part s at bucketSize) ≡ true) where
@@ -226,10 +188,10 @@ module _ (s : List ℕ) (at m : ℕ) (c : soundBytes m (part s at bucketSize) �
   count-at : getD bucketBytesAt 0 0 ≡ getD s at 0
   count-at = rw (getD-part s at bucketSize 0 (omega arith), add-zero)
 
-  pub count-few : getD s at 0 ≤ maxNodes
+  pub count-few : getD s at 0 ≤ maxNodesPerBucket
   count-few = rw count-at at (checked (λ k. true) m bucketBytesAt c .at-most)
 
-  pub loaded-at : at + bucketSize ≤ length s → Bytes s → (t f : ℕ) → m ≤ maxNodes → f ≤ 1 → (ns : List Node) (k j : ℕ) (q : Pending)
+  pub loaded-at : at + bucketSize ≤ length s → Bytes s → (t f : ℕ) → m ≤ maxNodesPerBucket → f ≤ 1 → (ns : List Node) (k j : ℕ) (q : Pending)
       → ns ≡ padded (readPlaces bucketBytesAt k) → k ≡ getD s at 0 → j ≡ getD s (at + 1) 0 → q ≡ readPending (part s (at + pendingAt) pendingSize)
       → Becomes (settings t m f) (bucketIn bucketBytesAt)
       (record { nodes = ns; count = k; «first_connected_pos» = j; pending = q; «pending_timeout» = t; «max_incoming» = m; filter = f })
@@ -242,25 +204,11 @@ module _ (s : List ℕ) (at m : ℕ) (c : soundBytes m (part s at bucketSize) �
 
 -- what question 2 of the storage tells of bucket i and of its settings
 module _ (s : List ℕ) (h : formed.formed s ≡ true) where
-  abbrev test : ℕ → Bool
-  test i = formed.bucketFormed (λ k. formed.isAt (bucketIndex (formed.keyIn s) k) i) (getD s maxIncomingAt 0) (bucketPart s i)
-
   pub bucket-sound : (i : ℕ) → i < numBuckets → soundBytes (getD s maxIncomingAt 0) (bucketPart s i) ≡ true
-  unfolding formed.formed
-  bucket-sound i l = any-index _ _ (bucketPart s i) (all-gives numBuckets test i l (and-right (formed.headerFormed s) (allBelow numBuckets test) h))
+  bucket-sound i l = any-index _ _ (bucketPart s i) (bucket-passes s h i l)
 
-  abbrev queueTest : Bool
-  queueTest =
-      leb (getD s recordCountAt 0) maxRecords
-      && (allBelow (getD s recordCountAt 0) (λ j. formed.recordFormed (recordPart s j))
-      && formed.areZero s (recordAt (getD s recordCountAt 0)) ((maxRecords - getD s recordCountAt 0) * recordSize))
-
-  pub settings-sound : (getD s maxIncomingAt 0 ≤ maxNodes) × (getD s bucketFilterAt 0 ≤ 1)
-  unfolding formed.formed formed.headerFormed
-  settings-sound =
-      let t =
-      conj-gives (leb (getD s maxIncomingAt 0) maxNodes) (leb (getD s tableFilterAt 0) 1 ∷ leb (getD s bucketFilterAt 0) 1 ∷ queueTest ∷ []) (and-left (formed.headerFormed s) (allBelow numBuckets test) h) in
-      (leb-true (getD s maxIncomingAt 0) maxNodes (t .0), leb-true (getD s bucketFilterAt 0) 1 (t .1 .1 .0))
+  pub settings-sound : (getD s maxIncomingAt 0 ≤ maxNodesPerBucket) × (getD s bucketFilterAt 0 ≤ 1)
+  settings-sound = let c = checked-header s (header-passes s h) in (c .maxIncoming, leb-true (getD s bucketFilterAt 0) 1 (c .bucketFilter))
 
 -- a bucket that is loaded under the storage's settings
 pub table-becomes : (s : List ℕ) (i t m : ℕ) (r : KBucket) → t ≡ number (part s timeoutAt timeSize) → m ≡ getD s maxIncomingAt 0

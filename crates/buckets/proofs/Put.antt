@@ -10,7 +10,7 @@ use lib.Seq.{length-take-le, take-suc}
 use Rattle.model.specs.Base.{joined}
 use Rattle.model.specs.Bytes.{bytes, splice, zeros}
 use Rattle.model.specs.Node as model
-use Rattle.model.specs.Bucket.{Bucket, maxNodes, nodes, count, holds}
+use Rattle.model.specs.Bucket.{Bucket, maxNodesPerBucket, nodes, numEntries, holds}
 use Rattle.model.specs.Sizes.{timeSize, nodeSize, pendingAt, pendingSize, bucketSize}
 use Rattle.model.specs.Layout.{nodeBytes, pendingBytes, bucketBytes}
 use Rattle.laws.proofs.Lists.{joined-snoc, length-joined}
@@ -43,7 +43,7 @@ module _ (b : KBucket) (s : Sound b) where
   pub codes-pending : pendingCodes (b .pending) ≡ true
   codes-pending = pending-codes (bucketOf b) (b .pending) (passed b (s .test) .pending-fits)
 
-  pub places-long : length (b .nodes) ≡ maxNodes
+  pub places-long : length (b .nodes) ≡ maxNodesPerBucket
   places-long =
       let xs : List Node = map storedNode (nodes (bucketOf b)) in
       let n : length xs ≡ b .count = length-map (nodes (bucketOf b)) storedNode ∙ nodes-count b s in
@@ -84,16 +84,16 @@ module _ (s : List ℕ) (at : ℕ) where
       rw (p, t, joined-snoc nodeBytes (map nodeOf (take i ns)) n)
       (splice-next s (at + 2) (i * nodeSize) (joined nodeBytes (map nodeOf (take i ns))) (nodeBytes n) e (simp length-node (omega arith)))
 
-  bucket-parts : (m : Bucket) (k f : ℕ) (ns : List ℕ) → k ≡ count m → f ≡ length (m .disconnected) → ns ≡ joined nodeBytes (nodes m) → k ≤ maxNodes
+  bucket-parts : (m : Bucket) (k f : ℕ) (ns : List ℕ) → k ≡ numEntries m → f ≡ length (m .disconnected) → ns ≡ joined nodeBytes (nodes m) → k ≤ maxNodesPerBucket
       → at + bucketSize ≤ length s
       → splice
-      (splice (splice (splice (splice s at (k ∷ [])) (at + 1) (f ∷ [])) (at + 2) ns) (at + (2 + k * nodeSize)) (zeros ((maxNodes - k) * nodeSize)))
+      (splice (splice (splice (splice s at (k ∷ [])) (at + 1) (f ∷ [])) (at + 2) ns) (at + (2 + k * nodeSize)) (zeros ((maxNodesPerBucket - k) * nodeSize)))
       (at + pendingAt) (pendingBytes (m .pending)) ≡ splice s at (bucketBytes m)
   unfolding bucketBytes
   bucket-parts m k f ns e₁ e₂ e₃ a l =
-      let z : List ℕ = zeros ((maxNodes - k) * nodeSize) in
+      let z : List ℕ = zeros ((maxNodesPerBucket - k) * nodeSize) in
       let n : length ns ≡ k * nodeSize = ap length e₃ ∙ length-held m ∙ ap (λ (j : ℕ). j * nodeSize) (sym e₁) in
-      let y : length z ≡ (maxNodes - k) * nodeSize = length-replicate {A = ℕ} ((maxNodes - k) * nodeSize) 0 in
+      let y : length z ≡ (maxNodesPerBucket - k) * nodeSize = length-replicate {A = ℕ} ((maxNodesPerBucket - k) * nodeSize) 0 in
       let q : length (pendingBytes (m .pending)) ≡ pendingSize = length-pending (m .pending) in
       rw (
         splice-next s at 1 (k ∷ []) (f ∷ []) refl (omega arith),
@@ -104,12 +104,12 @@ module _ (s : List ℕ) (at : ℕ) where
         e₂,
         e₃,
       )
-      (ap (λ (r : List ℕ). splice s at (count m ∷ length (m .disconnected) ∷ r))
-      (append-assoc (joined nodeBytes (nodes m)) (zeros ((maxNodes - count m) * nodeSize)) (pendingBytes (m .pending))))
+      (ap (λ (r : List ℕ). splice s at (numEntries m ∷ length (m .disconnected) ∷ r))
+      (append-assoc (joined nodeBytes (nodes m)) (zeros ((maxNodesPerBucket - numEntries m) * nodeSize)) (pendingBytes (m .pending))))
 
   pub bucket-put : (b : KBucket) → Sound b → at + bucketSize ≤ length s → (s₁ s₂ s₃ s₄ s₅ : List ℕ) → s₁ ≡ splice s at (b .count ∷ [])
       → s₂ ≡ splice s₁ (at + 1) (b .«first_connected_pos» ∷ []) → s₃ ≡ splice s₂ (at + 2) (heldBytes (b .nodes) (b .count))
-      → s₄ ≡ splice s₃ (at + (2 + b .count * nodeSize)) (zeros ((maxNodes - b .count) * nodeSize)) → s₅ ≡ splice s₄ (at + pendingAt) (pendingBytes (pendingOf (b .pending)))
+      → s₄ ≡ splice s₃ (at + (2 + b .count * nodeSize)) (zeros ((maxNodesPerBucket - b .count) * nodeSize)) → s₅ ≡ splice s₄ (at + pendingAt) (pendingBytes (pendingOf (b .pending)))
       → s₅ ≡ splice s at (bucketBytes (bucketOf b))
   unfolding heldBytes
   bucket-put b t l s₁ s₂ s₃ s₄ s₅ e₁ e₂ e₃ e₄ e₅ =

@@ -4,7 +4,7 @@ ghost use mathlib.Core.Bool.{true};
 ghost use Prim.Native.Nat.{_+_, _≤_, _<_};
 ghost use lib.ListN.{length};
 ghost use Rattle.model.specs.Bytes.{part, splice};
-ghost use Rattle.model.specs.Bucket.{maxNodes};
+ghost use Rattle.model.specs.Bucket.{maxNodesPerBucket};
 ghost use Rattle.model.specs.Table.{numBuckets};
 ghost use Rattle.model.specs.Sizes.{pendingSize, bucketSize, bucketAt, storageSize};
 ghost use Rattle.model.specs.Layout.{pendingBytes, bucketBytes, bucketIn, tableOf};
@@ -45,7 +45,7 @@ pub fn load_at(
 ) -> KBucket
     requires { ⌜ at + bucketSize ≤ length (now s) ⌝ }
     requires { ⌜ soundBytes «max_incoming» (part (now s) at bucketSize) ≡ true ⌝ }
-    requires { ⌜ («max_incoming» ≤ maxNodes) × (filter ≤ 1) ⌝ }
+    requires { ⌜ («max_incoming» ≤ maxNodesPerBucket) × (filter ≤ 1) ⌝ }
     ensures { λ r. ⌜ Becomes (settings «pending_timeout» «max_incoming» filter) (bucketIn (part (now (s .entry)) at bucketSize)) r ⌝ }
 {
     let count = size(s[at]);
@@ -124,7 +124,7 @@ pub fn store_at(s: &mut [u8], at: usize, b: KBucket)
     words::put_zeros(
         s,
         at + (Layout::PLACES_AT + count * Layout::NODE),
-        (KBucket::MAX_NODES - count) * Layout::NODE,
+        (KBucket::MAX_NODES_PER_BUCKET - count) * Layout::NODE,
     );
     store_pending(s, at + Layout::PENDING_AT, pending);
 }

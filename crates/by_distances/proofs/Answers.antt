@@ -1,5 +1,5 @@
 -- What nodes_by_distances answers and leaves, by its questions and its passes.
-use mathlib.Core.Path.{_≡_, refl, sym, ap, _∙_, subst}
+use mathlib.Core.Path.{_≡_, refl, sym, ap, _∙_, subst, fun-ext}
 use mathlib.Core.Bool.{Bool, true, false, cond, _&&_}
 use mathlib.Core.List.{List, [], _∷_, _++_, map}
 use mathlib.Core.Option.{Option, none, some}
@@ -14,7 +14,7 @@ use Rattle.model.specs.Node.{Node}
 use Rattle.model.specs.Table.{Table, Answer, maxRecords}
 use Rattle.model.specs.Sizes.{nodeSize, storageSize}
 use Rattle.model.specs.Call.{Call, Listing}
-use Rattle.model.specs.Listing.{item, applyAll, appliedPass, bucketsAt, atLeastOne, shown, found}
+use Rattle.model.specs.Listing.{Item, item, applyAll, appliedPass, bucketsAt, atLeastOne, shown, found}
 use Rattle.model.specs.Question.{firstFailed, deadlineFits, maxCount, keysFit, codesInRange, clockFits, outputFits, kindFits}
 use Rattle.model.specs.Step.{Outcome, act, questions, queueFits, step}
 use Rattle.model.specs.Layout.{itemBytes, bytesOf, tableOf}
@@ -27,13 +27,13 @@ use Rattle.laws.proofs.Join.{joined-same}
 use Rattle.laws.proofs.KeepStep.{passed, step-accepted, step-fits}
 use Rattle.laws.proofs.TableBytes.{length-bytesOf, table-there, formed-there, table-back, fits-back}
 use Rattle.laws.proofs.TableStep.{step-bytes}
+use Rattle.laws.proofs.Listing.{most-few}
 use Rattle.asked.specs.Answers.{firstTwo, failedOfTwo, Timely}
 use Rattle.asked.proofs.Questions.{front-fails, front-passes}
 use Rattle.found.specs.declared.Shape.{Shape}
-use Rattle.found.specs.Shape.{itemBy, sizeBy, shownBy}
+use Rattle.found.specs.Shape.{itemBy, itemsBy, sizeBy, shownBy}
 use Rattle.found.specs.Lists.{Lists}
-use Rattle.found.proofs.Items.{joined-map, size-entry}
-use Rattle.found.proofs.Listings.{distances-shape}
+use Rattle.found.proofs.Items.{size-entry}
 use Rattle.distances.specs.Passes.{distancePass, Holds, listed}
 use Rattle.by_distances.specs.Early.{early, failedEarly}
 
@@ -44,10 +44,6 @@ one-of-none n e = ap atLeastOne (sym e)
 pub itself : (n : ℕ) → (n ≡ 0 → ⊥) → n ≡ atLeastOne n
 itself zero h = absurd (h refl)
 itself (suc n) h = refl
-
-pub one-few : (n : ℕ) → n ≤ maxCount → atLeastOne n ≤ maxCount
-one-few zero h = omega arith
-one-few (suc n) h = h
 
 -- the early questions, in turn
 
@@ -103,7 +99,7 @@ module _ (now n room : ℕ) (s : List ℕ) where
         formed = q .0;
         timely = omega (arith, c);
         few = m;
-        most-few = one-few n m;
+        most-few = most-few (Listing.nodesByDistances []) n m;
         fit = leb-true (atLeastOne n * nodeSize) room (and-right (leb n maxCount) (leb (atLeastOne n * nodeSize) room) u);
       }
 
@@ -204,19 +200,17 @@ module _ (s : List ℕ) (ds : List ℕ) (n now : ℕ) (out : List ℕ) where
           room-left = rw (size-entry x f) (p .fit)
 
           found-is : listed x (tableOf s′) (atLeastOne n) ds ≡ found l n now t
-          unfolding listed found distancePass
+          unfolding listed found distancePass shownBy
           found-is =
               ap (λ (u : Table). take (atLeastOne n) (joined (λ i. shownBy x (u .buckets i)) (bucketsAt ds))) there
-              ∙ ap (take (atLeastOne n)) (joined-same (λ i. shownBy x (left .buckets i)) (shown l n now t) (distances-shape x ds f .shows n now t) (bucketsAt ds))
+              ∙ ap (take (atLeastOne n)) (joined-same (λ i. shownBy x (left .buckets i)) (shown l n now t) (λ i. rw f) (bucketsAt ds))
 
-          items-are : (ns : List Node) → joined itemBytes (map (itemBy x) ns) ≡ joined itemBytes (map (item l) ns)
-          items-are ns =
-              joined-map itemBytes (itemBy x) ns
-              ∙ joined-same (λ (m : Node). itemBytes (itemBy x m)) (λ (m : Node). itemBytes (item l m)) (λ m. ap itemBytes (distances-shape x ds f .item m)) ns
-              ∙ sym (joined-map itemBytes (item l) ns)
+          items-are : (ns : List Node) → itemsBy x ns ≡ joined itemBytes (map (item l) ns)
+          unfolding itemBy
+          items-are ns = ap (λ (g : Node → Item). joined itemBytes (map g ns)) (fun-ext (λ m. rw f))
 
           pub lists-found : {k : ℕ} {out′ : List ℕ} → k ≡ length (listed x (tableOf s′) (atLeastOne n) ds)
-              → out′ ≡ splice out 0 (joined itemBytes (map (itemBy x) (listed x (tableOf s′) (atLeastOne n) ds))) → Lists (Answer.Found k) s′ out′ (stepBytes c s)
+              → out′ ≡ splice out 0 (itemsBy x (listed x (tableOf s′) (atLeastOne n) ds)) → Lists (Answer.Found k) s′ out′ (stepBytes c s)
           unfolding stepBytes act
           lists-found {k} {out′} g o =
               let back : bytesOf t ≡ s = table-back s b (p .size) (p .formed) in
@@ -226,6 +220,6 @@ module _ (s : List ℕ) (ds : List ℕ) (n now : ℕ) (out : List ℕ) where
                 answer = ap Answer.Found a ∙ ap (λ (q : Option ℕ). unlessRefused q c s .answer) (sym accepted);
                 storage = w ∙ ap bytesOf (sym table-is) ∙ sym (z .storage) ∙ ap (λ (r : List ℕ). stepBytes c r .storage) back;
                 output =
-                    o ∙ ap (λ (ns : List Node). splice out 0 (joined itemBytes (map (itemBy x) ns))) found-is
+                    o ∙ ap (λ (ns : List Node). splice out 0 (itemsBy x ns)) found-is
                     ∙ ap (splice out 0) (items-are (found l n now t)) ∙ ap (λ (q : Option ℕ). unlessRefused q c s .output) (sym accepted);
               }

@@ -14,12 +14,11 @@ use Rattle.model.specs.StepBytes.{stepBytes}
 use Rattle.model.specs.Fits.{All, Fits, FitsCall}
 use Rattle.laws.proofs.KeepStep.{step-fits, new-fits}
 use Rattle.laws.proofs.TableBytes.{table-there, formed-there}
-use Rattle.laws.proofs.TableStep.{Same, step-bytes, new-bytes}
+use Rattle.laws.proofs.TableStep.{step-bytes, new-bytes}
 use Rattle.log.specs.Log.{Entry}
 use Rattle.log.specs.Claim.{Claim, StorageClaim, tableAfter, entries}
 use Rattle.asked.specs.Answers.{Answers}
 use Rattle.theorem.proofs.Theorem.{theorem}
-use Rattle.theorem.proofs.Storage.{new-answers}
 use Rattle.claims.proofs.Records.{behind, records-behind}
 use Rattle.claims.proofs.Ran.{Ran, equation}
 

@@ -2,22 +2,21 @@
 -- its list is the first n of all held nodes as if every bucket's due pending had been applied, nearest first, bucket 0's node a second time
 -- where 01 says so, with what the call gives of each node; the count found is its length; the bytes of the output behind it stay.
 use Prim.Native.Nat.{ℕ}
-use mathlib.Core.Path.{_≡_, refl, sym, ap, _∙_}
+use mathlib.Core.Path.{_≡_, sym, ap, _∙_}
 use mathlib.Core.Bool.{false}
 use mathlib.Core.List.{List, map}
 use mathlib.Core.Option.{Option, some}
-use lib.ListN.{length, take}
+use lib.ListN.{length}
 use denote.Ref.{now}
-use Rattle.model.specs.Bytes.{Bytes, number}
-use Rattle.model.specs.Node.{Node}
-use Rattle.model.specs.Table.{Table, Answer}
+use Rattle.model.specs.Bytes.{Bytes}
+use Rattle.model.specs.Table.{Answer}
 use Rattle.model.specs.Call.{Listing, Call}
 use Rattle.model.specs.Listing.{item}
 use Rattle.model.specs.Question.{firstFailed}
 use Rattle.model.specs.Layout.{tableOf}
 use Rattle.model.specs.StepBytes.{allQuestions, unlessRefused, written, stepBytes}
 use Rattle.log.specs.Log.{isRefused}
-use Rattle.log.specs.Closest.{nearest, allHeld, target, ClosestClaim}
+use Rattle.log.specs.Closest.{closestNodes, target, ClosestClaim}
 use Rattle.found.specs.Lists.{Lists, listAnswer}
 use Rattle.theorem.proofs.Theorem.{theorem-closest}
 use Rattle.listing.proofs.iter.Reads as Iter
@@ -71,13 +70,9 @@ unfolding stepBytes
 output-stays {l} {n} {time} {out} {s} run q e =
     list-equation run .output ∙ ap (λ (o : Option ℕ). unlessRefused o (Call.list l n time out) s .output) e
 
--- the nodes of the list
-abbrev pub closest : (x : List ℕ) (n time : ℕ) (t : Table) → List Node
-closest x n time t = take n (nearest (t .settings .localKey) (number x) (allHeld time t))
-
 pub record ClosestList (l : Listing) (x : List ℕ) (n time : ℕ) (out s : List ℕ) (a : Answer) (out′ : List ℕ) : Type 0 where
-  pub answer : a ≡ Answer.Found (length (closest x n time (tableOf s)))
-  pub output : out′ ≡ written (map (item l) (closest x n time (tableOf s))) out
+  pub answer : a ≡ Answer.Found (length (closestNodes x n time (tableOf s)))
+  pub output : out′ ≡ written (map (item l) (closestNodes x n time (tableOf s))) out
 
 -- x is the target of the call
 pub closest-list : {l : Listing} {n time : ℕ} {out s : List ℕ} {a : Answer} {s′ out′ : List ℕ} → RanList l n time out s a s′ out′ → (x : List ℕ)

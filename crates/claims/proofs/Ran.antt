@@ -8,7 +8,8 @@ use borrow.Fn.Kinds.{PK, RK, Out, Dens, resT, endedOf}
 use Rattle.model.specs.Table.{Answer}
 use Rattle.model.specs.Call.{Listing, Call}
 use Rattle.model.specs.StepBytes.{stepBytes}
-use Rattle.asked.specs.Answers.{Answers, updateAnswer, argumentOf}
+use Rattle.node.specs.Node.{argumentOf}
+use Rattle.asked.specs.Answers.{Answers, updateAnswer}
 use Rattle.table.specs.Calls.{removeAnswer, takeAnswer, newAnswer}
 use Rattle.update.specs.Calls.{insertOrUpdateAnswer}
 use Rattle.entry.specs.Kind.{entryAnswer, insertAnswer}

@@ -11,7 +11,7 @@ use Rattle.model.specs.Node.{Node, AppliedPending}
 use Rattle.model.specs.Value.{Value}
 use Rattle.model.specs.Result.{UpdateResult, isFailed}
 use Rattle.model.specs.Bucket.{Bucket, BucketSettings, holds, applyPending, updateStatus, updateValue}
-use Rattle.model.specs.Table.{Table, EntryKind, Answer, Effect, failsTableFilter, kindIn, indexIn, thenStatus, updateNodeIn, insertOrUpdateIn}
+use Rattle.model.specs.Table.{Table, EntryKind, Answer, Effect, failsTableFilter, kindIn, kindOf, indexIn, thenStatus, updateNodeIn, insertOrUpdateIn}
 use Rattle.model.specs.Call.{Call, optional, valueOf}
 use Rattle.model.specs.Question.{firstFailed, isPresent, isPending, isAbsent, kindFits}
 use Rattle.model.specs.Sizes.{storageSize}
@@ -57,16 +57,18 @@ insert-or-update s fails now n b =
     let r = updateStatus s (n .key) (n .connected) (some (n .incoming)) b in
     by-cases refuses fails _ _ refl (by-cases refuses (holds (n .key) b) _ _ (by-cases refuses (isFailed (r .0)) _ _ refl refl) refl)
 
-on-key : (t : Table) (self : Answer) (f : ℕ → Bucket → Effect) (o : Option ℕ) → isRefused self ≡ false → ((i : ℕ) → isRefused (f i (t .buckets i) .answer) ≡ false)
-    → isRefused (onKey t self f o .answer) ≡ false
-on-key t self f none p q = p
-on-key t self f (some i) p q = q i
+-- a test of the answer, by the answer for the local key and that of the key's bucket
+pub on-key : (test : Answer → Bool) (b : Bool) (t : Table) (self : Answer) (f : ℕ → Bucket → Effect) (o : Option ℕ) → test self ≡ b
+    → ((i : ℕ) → test (f i (t .buckets i) .answer) ≡ b) → test (onKey t self f o .answer) ≡ b
+on-key test b t self f none p q = p
+on-key test b t self f (some i) p q = q i
 
--- an entry action: question 7 has passed, so that the key is not the local key
-on-entry : (kind : EntryKind → Bool) (t : Table) (k : ℕ) (f : ℕ → Bucket → Effect) (o : Option ℕ) → kind EntryKind.SelfEntry ≡ false → kind (kindIn t k o) ≡ true
-    → ((i : ℕ) → isRefused (f i (t .buckets i) .answer) ≡ false) → isRefused (onKey t (Answer.Refused 7) f o .answer) ≡ false
-on-entry kind t k f none e h q = clash h e
-on-entry kind t k f (some i) e h q = q i
+-- an entry action: question 7 has passed, so that the key is not the local key and is of the kind that the action needs
+pub on-entry : (test : Answer → Bool) (b : Bool) (kind : EntryKind → Bool) (t : Table) (k : ℕ) (f : ℕ → Bucket → Effect) (o : Option ℕ)
+    → kind EntryKind.SelfEntry ≡ false → kind (kindIn t k o) ≡ true
+    → ((i : ℕ) → kind (kindOf k (t .buckets i)) ≡ true → test (f i (t .buckets i) .answer) ≡ b) → test (onKey t (Answer.Refused 7) f o .answer) ≡ b
+on-entry test b kind t k f none e h q = clash h e
+on-entry test b kind t k f (some i) e h q = q i h
 
 taken : (t : Table) (q : List AppliedPending) → isRefused (takeOldest t q .answer) ≡ false
 taken t [] = refl
@@ -75,20 +77,20 @@ taken t (a ∷ q) = refl
 acts : (c : Call) (t : Table) → kindFits c t ≡ true → isRefused (act c t .answer) ≡ false
 unfolding act kindFits
 acts (Call.new k timeout m tf bf) t h = refl
-acts (Call.updateNodeStatus k st dr now) t h = on-key t _ _ (indexIn t (number k)) refl (λ i. refl)
-acts (Call.updateNode k v st now) t h = on-key t _ _ (indexIn t (number k)) refl
+acts (Call.updateNodeStatus k st dr now) t h = on-key isRefused false t _ _ (indexIn t (number k)) refl (λ i. refl)
+acts (Call.updateNode k v st now) t h = on-key isRefused false t _ _ (indexIn t (number k)) refl
     (λ i.
     update-node (t .settings .bucket) (failsTableFilter t i (number k) (valueOf v)) now (number k) (valueOf v) (optional st)
     (applyPending (t .settings .bucket) now (t .buckets i) .0))
-acts (Call.insertOrUpdate k v st dr now) t h = on-key t _ _ (indexIn t (number k)) refl
+acts (Call.insertOrUpdate k v st dr now) t h = on-key isRefused false t _ _ (indexIn t (number k)) refl
     (λ i.
     insert-or-update (t .settings .bucket) (failsTableFilter t i (number k) (valueOf v)) now (nodeOf k v st dr)
     (applyPending (t .settings .bucket) now (t .buckets i) .0))
-acts (Call.remove k now) t h = on-key t _ _ (indexIn t (number k)) refl (λ i. refl)
-acts (Call.entry k now) t h = on-key t _ _ (indexIn t (number k)) refl (λ i. refl)
-acts (Call.presentUpdate k st dr) t h = on-entry isPresent t (number k) _ (indexIn t (number k)) refl h (λ i. refl)
-acts (Call.pendingUpdate k st dr) t h = on-entry isPending t (number k) _ (indexIn t (number k)) refl h (λ i. refl)
-acts (Call.absentInsert k v st dr now) t h = on-entry isAbsent t (number k) _ (indexIn t (number k)) refl h (λ i. refl)
+acts (Call.remove k now) t h = on-key isRefused false t _ _ (indexIn t (number k)) refl (λ i. refl)
+acts (Call.entry k now) t h = on-key isRefused false t _ _ (indexIn t (number k)) refl (λ i. refl)
+acts (Call.presentUpdate k st dr) t h = on-entry isRefused false isPresent t (number k) _ (indexIn t (number k)) refl h (λ i e. refl)
+acts (Call.pendingUpdate k st dr) t h = on-entry isRefused false isPending t (number k) _ (indexIn t (number k)) refl h (λ i e. refl)
+acts (Call.absentInsert k v st dr now) t h = on-entry isRefused false isAbsent t (number k) _ (indexIn t (number k)) refl h (λ i e. refl)
 acts (Call.list l n now out) t h = refl
 acts Call.takeAppliedPending t h = taken t (t .queue)
 

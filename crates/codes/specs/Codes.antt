@@ -1,7 +1,7 @@
 -- The number that an export returns for each answer, and the bytes that go with it.
 use Prim.Native.Nat.{ℕ, _+_, _*_}
 use mathlib.Core.Bool.{Bool}
-use mathlib.Core.List.{List, [], _∷_}
+use mathlib.Core.List.{List, []}
 use mathlib.Core.Option.{Option, none, some}
 use Rattle.model.specs.Bytes.{bytes}
 use Rattle.model.specs.Node.{AppliedPending}
@@ -9,14 +9,18 @@ use Rattle.model.specs.Result.{FailureReason, BucketInsertResult, UpdateResult,
 use Rattle.model.specs.Table.{EntryKind, Answer}
 use Rattle.model.specs.Sizes.{keySize, recordSize}
 use Rattle.model.specs.Layout.{flagByte, recordBytes}
-use Rattle.model.specs.Numbers.{reasonNumber}
 
 -- refused by question q
 abbrev pub refusedCode : ℕ → ℕ
 refusedCode q = 65536 + q
 
 abbrev pub failedCode : FailureReason → ℕ
-failedCode r = 16 + reasonNumber r
+failedCode FailureReason.TooManyIncoming = 16
+failedCode FailureReason.BucketFilter = 17
+failedCode FailureReason.TableFilter = 18
+failedCode FailureReason.KeyNonExistent = 19
+failedCode FailureReason.BucketFull = 20
+failedCode FailureReason.InvalidSelfUpdate = 21
 
 abbrev pub updateCode : UpdateResult → ℕ
 updateCode UpdateResult.NotModified = 0
@@ -105,8 +109,3 @@ answerBytes (Answer.TakeAppliedPending r) = appliedBytes r
 -- what `answer` has room for at the least: the longest, a record
 abbrev pub answerSize : ℕ
 answerSize = recordSize
-
--- the first of a list, if it has one
-abbrev pub first : {A : Type 0} → List A → Option A
-first [] = none
-first (x ∷ l) = some x

@@ -3,7 +3,7 @@ use mathlib.Core.Path.{_≡_, refl, sym, ap, _∙_}
 use mathlib.Core.Bool.{Bool, true, false, cond, not, _&&_}
 use mathlib.Core.List.{List, [], _∷_, _++_, append-nil}
 use mathlib.Core.Option.{Option, none, some}
-use Prim.Native.Nat.{ℕ, suc, _+_, _-_, _≤_, _<_}
+use Prim.Native.Nat.{ℕ, suc, _+_, _≤_, _<_}
 use native.Mathlib.Nat.{add-zero}
 use native.Mathlib.Numerals.{add-one}
 use native.Mathlib.Omega.{arith}
@@ -11,14 +11,14 @@ use lib.Dec.{eqb, leb}
 use lib.ListN.{length, getD, drop, length-append}
 use lib.Seq.{drop-cons, drop-length}
 use borrow.Author.Tests.{eqb-true, leb-false}
+use Rattle.model.specs.Base.{joined}
 use Rattle.model.specs.Bytes.{Bytes}
 use Rattle.model.specs.Node.{AppliedPending}
 use Rattle.model.specs.Table.{Table, maxRecords}
 use Rattle.model.specs.Sizes.{storageSize}
-use Rattle.model.specs.Listing.{applyAll, appliedPass, bucketsAt}
+use Rattle.model.specs.Listing.{applyAll, appliedPass, indexAt, indices, bucketsAt}
 use Rattle.model.specs.Layout.{bytesOf, tableOf}
 use Rattle.model.specs.Formed.{formed}
-use Rattle.model.specs.StepBytes.{indices}
 use Rattle.model.specs.Fits.{Fits}
 use Rattle.laws.proofs.Tests.{split}
 use Rattle.laws.proofs.Applied.{apply-all-queue}
@@ -27,8 +27,8 @@ use Rattle.asked.specs.Answers.{Timely}
 use Rattle.visit.specs.declared.Given.{Given}
 use Rattle.visit.specs.Passes.{visitOne}
 use Rattle.visit.proofs.Passes.{visit-fits}
-use Rattle.distances.specs.Passes.{indexAt, recordsAt, yields, heldAt, Yields, nextTable, tableAt, distancePass, Holds}
-use Rattle.distances.proofs.Named.{held-none, buckets-cons, table-none, table-next}
+use Rattle.distances.specs.Passes.{recordsAt, yields, heldAt, Yields, nextTable, tableAt, distancePass, Holds}
+use Rattle.distances.proofs.Named.{held-none, table-none, table-next}
 
 -- one distance further
 
@@ -42,8 +42,8 @@ module _ (now n seen d : ℕ) (ds : List ℕ) (t : Table) where
 
   pass-next : distancePass now n seen (d ∷ ds) t
       ≡ cond (stops (indexAt d)) (nextTable now t (indexAt d), recordsAt now t (indexAt d) ++ []) (rest (indexAt d) .0, recordsAt now t (indexAt d) ++ rest (indexAt d) .1)
-  unfolding distancePass
-  pass-next = ap (λ (is : List ℕ). applyAll now (appliedPass now n seen is t) t) (buckets-cons d ds) ∙ by (indexAt d)
+  unfolding distancePass joined
+  pass-next = by (indexAt d)
     where
       by : (o : Option ℕ) → applyAll now (appliedPass now n seen (indices o ++ bucketsAt ds) t) t
           ≡ cond (stops o) (nextTable now t o, recordsAt now t o ++ []) (rest o .0, recordsAt now t o ++ rest o .1)
@@ -94,7 +94,7 @@ module _ (now n : ℕ) (ds : List ℕ) (t : Table) where
 
   module _ {records seen p : ℕ} (w : Counting now n ds t records seen p) where
     pub counting-ends : length ds ≤ p → records ≡ length (distancePass now n 0 ds t .1)
-    unfolding distancePass
+    unfolding distancePass joined
     counting-ends h =
         let e : p ≡ length ds = omega (arith, w .within) in
         let f : drop p ds ≡ [] = ap (λ (k : ℕ). drop k ds) e ∙ drop-length ds in
@@ -168,7 +168,7 @@ module _ (now n : ℕ) (ds : List ℕ) (t : Table) where
 
   module _ {s : List ℕ} {seen p : ℕ} (w : Passing now n ds t s seen p) where
     pub passing-ends : length ds ≤ p → s ≡ bytesOf (distancePass now n 0 ds t .0)
-    unfolding distancePass
+    unfolding distancePass joined
     passing-ends h =
         let e : p ≡ length ds = omega (arith, w .within) in
         let f : drop p ds ≡ [] = ap (λ (k : ℕ). drop k ds) e ∙ drop-length ds in

@@ -1,6 +1,6 @@
 -- The nodes that are written, distance by distance.
 use mathlib.Core.Path.{_≡_, refl, sym, ap, _∙_}
-use mathlib.Core.List.{List, [], _∷_, _++_, map, map-append, append-nil}
+use mathlib.Core.List.{List, [], _∷_, _++_, append-nil}
 use mathlib.Core.Option.{Option, none, some}
 use Prim.Native.Nat.{ℕ, _+_, _-_, _*_, _≤_, _<_}
 use native.Mathlib.Nat.{zero-add, add-mul, mul-le-mul-right}
@@ -12,62 +12,42 @@ use Rattle.model.specs.Base.{joined}
 use Rattle.model.specs.Bytes.{splice}
 use Rattle.model.specs.Node.{Node}
 use Rattle.model.specs.Table.{Table}
-use Rattle.model.specs.Listing.{bucketsAt}
-use Rattle.model.specs.StepBytes.{indices}
-use Rattle.model.specs.Layout.{itemBytes}
-use Rattle.laws.proofs.Lists.{joined-append, length-joined}
-use Rattle.laws.proofs.All.{all-any}
+use Rattle.model.specs.Listing.{indexAt, indices, bucketsAt}
+use Rattle.laws.proofs.Lists.{joined-append}
 use Rattle.laws.proofs.Join.{take-append}
 use Rattle.laws.proofs.Parts.{splice-nil, splice-next}
 use Rattle.found.specs.declared.Shape.{Shape}
-use Rattle.found.specs.Shape.{itemBy, sizeBy, shownBy}
-use Rattle.found.proofs.Items.{joined-map, length-item}
-use Rattle.distances.specs.Passes.{indexAt, listed}
-use Rattle.distances.proofs.Named.{buckets-cons, buckets-append}
-
--- what is written of the nodes
-abbrev pub written : Shape → List Node → List ℕ
-written x ns = joined itemBytes (map (itemBy x) ns)
+use Rattle.found.specs.Shape.{itemsBy, sizeBy, shownBy}
+use Rattle.found.proofs.Items.{length-items, items-append}
+use Rattle.distances.specs.Passes.{listed}
 
 module _ (x : Shape) where
-  length-written : (ns : List Node) → length (written x ns) ≡ length ns * sizeBy x
-  length-written ns =
-      ap length (joined-map itemBytes (itemBy x) ns)
-      ∙ length-joined (λ (n : Node). itemBytes (itemBy x n)) (sizeBy x) ns (all-any (λ (n : Node). length (itemBytes (itemBy x n)) ≡ sizeBy x) ns (length-item x))
-
-  written-append : (ns ms : List Node) → written x (ns ++ ms) ≡ written x ns ++ written x ms
-  written-append ns ms = ap (joined itemBytes) (map-append (itemBy x) ns ms) ∙ joined-append itemBytes (map (itemBy x) ns) (map (itemBy x) ms)
-
   module _ (t : Table) where
     abbrev shown : ℕ → List Node
     shown i = shownBy x (t .buckets i)
 
-    listed-by : (m d : ℕ) → listed x t m (d ∷ []) ≡ take m (joined shown (indices (indexAt d) ++ []))
-    unfolding listed
-    listed-by m d = ap (λ (is : List ℕ). take m (joined shown is)) (buckets-cons d [])
-
     pub listed-nothing : (m d : ℕ) → indexAt d ≡ none → listed x t m (d ∷ []) ≡ []
-    unfolding joined
-    listed-nothing m d e = listed-by m d ∙ ap (λ (o : Option ℕ). take m (joined shown (indices o ++ []))) e ∙ take-nil m
+    unfolding listed joined
+    listed-nothing m d e = ap (λ (o : Option ℕ). take m (joined shown (indices o ++ []))) e ∙ take-nil m
 
     pub listed-one : (m d i : ℕ) → indexAt d ≡ some i → listed x t m (d ∷ []) ≡ take m (shown i)
-    unfolding joined
-    listed-one m d i e = listed-by m d ∙ ap (λ (o : Option ℕ). take m (joined shown (indices o ++ []))) e ∙ ap (take m) (append-nil (shown i))
+    unfolding listed joined
+    listed-one m d i e = ap (λ (o : Option ℕ). take m (joined shown (indices o ++ []))) e ∙ ap (take m) (append-nil (shown i))
 
     -- what is written at one distance
 
     pub put-nothing : (m d : ℕ) → indexAt d ≡ none → (k : ℕ) (o : List ℕ)
-        → (k ≡ k + length (listed x t m (d ∷ []))) × (o ≡ splice o (k * sizeBy x) (written x (listed x t m (d ∷ []))))
+        → (k ≡ k + length (listed x t m (d ∷ []))) × (o ≡ splice o (k * sizeBy x) (itemsBy x (listed x t m (d ∷ []))))
     unfolding joined
     put-nothing m d e k o =
         let f = listed-nothing m d e in
-        (omega (arith, ap length f), sym (ap (λ (ns : List Node). splice o (k * sizeBy x) (written x ns)) f ∙ splice-nil o (k * sizeBy x)))
+        (omega (arith, ap length f), sym (ap (λ (ns : List Node). splice o (k * sizeBy x) (itemsBy x ns)) f ∙ splice-nil o (k * sizeBy x)))
 
-    pub put-bucket-is : (m d i : ℕ) → indexAt d ≡ some i → (k : ℕ) (o : List ℕ) {r : ℕ} {u : List ℕ} → r ≡ k + length (take m (shown i)) → u ≡ splice o (k * sizeBy x) (written x (take m (shown i)))
-        → (r ≡ k + length (listed x t m (d ∷ []))) × (u ≡ splice o (k * sizeBy x) (written x (listed x t m (d ∷ []))))
+    pub put-bucket-is : (m d i : ℕ) → indexAt d ≡ some i → (k : ℕ) (o : List ℕ) {r : ℕ} {u : List ℕ} → r ≡ k + length (take m (shown i)) → u ≡ splice o (k * sizeBy x) (itemsBy x (take m (shown i)))
+        → (r ≡ k + length (listed x t m (d ∷ []))) × (u ≡ splice o (k * sizeBy x) (itemsBy x (listed x t m (d ∷ []))))
     put-bucket-is m d i e k o a b =
         let f = listed-one m d i e in
-        (a ∙ ap (λ (ns : List Node). k + length ns) (sym f), b ∙ ap (λ (ns : List Node). splice o (k * sizeBy x) (written x ns)) (sym f))
+        (a ∙ ap (λ (ns : List Node). k + length ns) (sym f), b ∙ ap (λ (ns : List Node). splice o (k * sizeBy x) (itemsBy x ns)) (sym f))
 
     module _ (n : ℕ) (ds : List ℕ) where
       pub listed-none : listed x t n (take 0 ds) ≡ []
@@ -88,7 +68,7 @@ module _ (x : Shape) where
           let q : take (p + 1) ds ≡ take p ds ++ (d ∷ []) = ap (λ (k : ℕ). take k ds) (add-one p) ∙ take-suc ds p 0 h in
           let r : n - length a ≡ n - length (take n a) = omega (arith, length-take n a) in
           ap (λ (l : List ℕ). take n (joined shown (bucketsAt l))) q
-          ∙ ap (λ (is : List ℕ). take n (joined shown is)) (buckets-append (take p ds) (d ∷ []))
+          ∙ ap (λ (is : List ℕ). take n (joined shown is)) (joined-append (λ (x : ℕ). indices (indexAt x)) (take p ds) (d ∷ []))
           ∙ ap (take n) (joined-append shown (bucketsAt (take p ds)) (bucketsAt (d ∷ [])))
           ∙ take-append n a b ∙ ap (λ (k : ℕ). take n a ++ take k b) r
 
@@ -97,7 +77,7 @@ module _ (x : Shape) where
         pub within : p ≤ length ds
         pub same-room : length out ≡ length o
         pub count : k ≡ length (listed x t n (take p ds))
-        pub there : out ≡ splice o 0 (written x (listed x t n (take p ds)))
+        pub there : out ≡ splice o 0 (itemsBy x (listed x t n (take p ds)))
 
       pub writing-starts : (o : List ℕ) → Writing o 0 0 o
       unfolding joined
@@ -106,20 +86,20 @@ module _ (x : Shape) where
             within = omega arith;
             same-room = refl;
             count = sym (ap length listed-none);
-            there = sym (ap (λ (ns : List Node). splice o 0 (written x ns)) listed-none ∙ splice-nil o 0);
+            there = sym (ap (λ (ns : List Node). splice o 0 (itemsBy x ns)) listed-none ∙ splice-nil o 0);
           }
 
       module _ {o out : List ℕ} {k p : ℕ} (w : Writing o k p out) where
         pub count-most : k ≤ n
         count-most = omega (arith, w .count, length-listed (take p ds))
 
-        pub writing-ends : length ds ≤ p → (k ≡ length (listed x t n ds)) × (out ≡ splice o 0 (written x (listed x t n ds)))
+        pub writing-ends : length ds ≤ p → (k ≡ length (listed x t n ds)) × (out ≡ splice o 0 (itemsBy x (listed x t n ds)))
         writing-ends h =
             let e : take p ds ≡ ds = take-all p ds h in
-            (w .count ∙ ap (λ (l : List ℕ). length (listed x t n l)) e, w .there ∙ ap (λ (l : List ℕ). splice o 0 (written x (listed x t n l))) e)
+            (w .count ∙ ap (λ (l : List ℕ). length (listed x t n l)) e, w .there ∙ ap (λ (l : List ℕ). splice o 0 (itemsBy x (listed x t n l))) e)
 
         pub writing-next : {k′ : ℕ} {out′ : List ℕ} → p < length ds → n * sizeBy x ≤ length o → length out′ ≡ length out
-            → k′ ≡ k + length (listed x t (n - k) (getD ds p 0 ∷ [])) → out′ ≡ splice out (k * sizeBy x) (written x (listed x t (n - k) (getD ds p 0 ∷ [])))
+            → k′ ≡ k + length (listed x t (n - k) (getD ds p 0 ∷ [])) → out′ ≡ splice out (k * sizeBy x) (itemsBy x (listed x t (n - k) (getD ds p 0 ∷ [])))
             → Writing o k′ (p + 1) out′
         writing-next {k′} {out′} h f l e g =
             let a : List Node = listed x t n (take p ds) in
@@ -127,14 +107,14 @@ module _ (x : Shape) where
             let z : ℕ = sizeBy x in
             let both : listed x t n (take (p + 1) ds) ≡ a ++ b = listed-next p h ∙ ap (λ (m : ℕ). a ++ listed x t (n - m) (getD ds p 0 ∷ [])) (sym (w .count)) in
             let m : k + length b ≤ n = omega (arith, w .count, length-append a b, ap length both, length-listed (take (p + 1) ds)) in
-            let c : length (written x a) ≡ k * z = length-written a ∙ ap (λ (j : ℕ). j * z) (sym (w .count)) in
-            let r : k * z + length (written x b) ≤ length o = omega (arith, length-written b, add-mul k (length b) z, mul-le-mul-right z m) in
+            let c : length (itemsBy x a) ≡ k * z = length-items x a ∙ ap (λ (j : ℕ). j * z) (sym (w .count)) in
+            let r : k * z + length (itemsBy x b) ≤ length o = omega (arith, length-items x b, add-mul k (length b) z, mul-le-mul-right z m) in
             record {
               within = omega arith;
               same-room = l ∙ w .same-room;
               count = omega (arith, w .count, length-append a b, ap length both);
               there =
-                  g ∙ ap (λ (j : List ℕ). splice j (k * z) (written x b)) (w .there) ∙ ap (λ (j : ℕ). splice (splice o 0 (written x a)) j (written x b)) (sym (zero-add (k * z)))
-                  ∙ splice-next o 0 (k * z) (written x a) (written x b) c (rw zero-add r)
-                  ∙ ap (splice o 0) (sym (ap (written x) both ∙ written-append a b));
+                  g ∙ ap (λ (j : List ℕ). splice j (k * z) (itemsBy x b)) (w .there) ∙ ap (λ (j : ℕ). splice (splice o 0 (itemsBy x a)) j (itemsBy x b)) (sym (zero-add (k * z)))
+                  ∙ splice-next o 0 (k * z) (itemsBy x a) (itemsBy x b) c (rw zero-add r)
+                  ∙ ap (splice o 0) (sym (ap (itemsBy x) both ∙ items-append x a b));
             }

@@ -1,15 +1,15 @@
 -- The passes of nodes_by_distances (01, "kbucket.rs (871)"), distance by distance.
-use Prim.Native.Nat.{ℕ, _-_, _≤_}
+use Prim.Native.Nat.{ℕ, _≤_}
 use mathlib.Core.Path.{_≡_}
-use mathlib.Core.Bool.{Bool, cond, not, _&&_}
+use mathlib.Core.Bool.{Bool, cond, not}
 use mathlib.Core.List.{List, []}
 use mathlib.Core.Option.{Option, none, some}
 use lib.ListN.{length, getD, take}
-use lib.Dec.{eqb, leb}
+use lib.Dec.{eqb}
 use Rattle.model.specs.Base.{joined, allBelow}
 use Rattle.model.specs.Node.{Node, AppliedPending}
-use Rattle.model.specs.Bucket.{maxNodes, count, applyPending}
-use Rattle.model.specs.Table.{Table, numBuckets}
+use Rattle.model.specs.Bucket.{maxNodesPerBucket, numEntries, applyPending}
+use Rattle.model.specs.Table.{Table}
 use Rattle.model.specs.Sizes.{storageSize}
 use Rattle.model.specs.Formed.{formed}
 use Rattle.model.specs.Listing.{applyAll, applied, appliedPass, bucketsAt}
@@ -17,10 +17,6 @@ use Rattle.visit.specs.declared.Given.{Given}
 use Rattle.visit.specs.Passes.{visitOne}
 use Rattle.found.specs.declared.Shape.{Shape}
 use Rattle.found.specs.Shape.{shownBy}
-
--- 01, nodes_by_distances: distances outside 1 to 256 are dropped
-unfoldable pub indexAt : ℕ → Option ℕ
-indexAt d = cond (leb 1 d && leb d numBuckets) (some (d - 1)) none
 
 -- the distance d stands among the first p
 unfoldable pub standsBefore : List ℕ → ℕ → ℕ → Bool
@@ -36,13 +32,13 @@ yields now t o = not (eqb (length (recordsAt now t o)) 0)
 
 abbrev pub heldAt : ℕ → Table → Option ℕ → ℕ
 heldAt now t none = 0
-heldAt now t (some i) = cond (yields now t (some i)) (count (applied now t i)) 0
+heldAt now t (some i) = cond (yields now t (some i)) (numEntries (applied now t i)) 0
 
 pub record Yields (now : ℕ) (t : Table) (o : Option ℕ) (g : Given) : Type 0 where
   pub records : g .records ≡ length (recordsAt now t o)
   pub held : g .count ≡ heldAt now t o
   pub one : g .records ≤ 1
-  pub few : g .count ≤ maxNodes
+  pub few : g .count ≤ maxNodesPerBucket
 
 -- the table once the bucket has been visited
 abbrev pub nextTable : ℕ → Table → Option ℕ → Table

@@ -1,19 +1,19 @@
 // Internal: the passes of nodes_by_distances (kbucket.rs). A dry run counts the records that the applying pass would give, for question 8;
 // the applying pass applies the due pendings in the storage; then the nodes are written.
 ghost use mathlib.Core.Path.{_≡_};
-ghost use mathlib.Core.List.{[], _∷_, map};
+ghost use mathlib.Core.List.{[], _∷_};
 ghost use mathlib.Core.Option.{some};
 ghost use Prim.Native.Nat.{_+_, _-_, _*_, _≤_, _<_};
 ghost use lib.ListN.{length, getD};
-ghost use Rattle.model.specs.Base.{joined};
 ghost use Rattle.model.specs.Bytes.{splice};
 ghost use Rattle.model.specs.Table.{maxRecords};
+ghost use Rattle.model.specs.Listing.{indexAt};
 ghost use Rattle.model.specs.Question.{maxCount};
-ghost use Rattle.model.specs.Layout.{itemBytes, tableOf, bytesOf};
+ghost use Rattle.model.specs.Layout.{tableOf, bytesOf};
 ghost use Rattle.key.specs.Answers.{bucketIndexOf};
 ghost use Rattle.asked.specs.Answers.{Ready, Timely};
-ghost use Rattle.found.specs.Shape.{itemBy, sizeBy};
-ghost use Rattle.distances.specs.Passes.{indexAt, standsBefore, Yields, nextTable, tableAt, distancePass, Holds, listed};
+ghost use Rattle.found.specs.Shape.{itemsBy, sizeBy};
+ghost use Rattle.distances.specs.Passes.{standsBefore, Yields, nextTable, tableAt, distancePass, Holds, listed};
 use found::Shape;
 use key::BucketIndex;
 use visit::Given;
@@ -167,7 +167,7 @@ fn put_one(s: &[u8], d: u64, shape: Shape, out: &mut [u8], k: usize, n: usize) -
     requires { ⌜ n ≤ maxCount ⌝ }
     requires { ⌜ n * sizeBy shape ≤ length (now out) ⌝ }
     ensures { λ r. ⌜ r ≡ k + length (listed shape (tableOf (now (s .entry))) (n - k) (d ∷ [])) ⌝ }
-    ensures { λ _. ⌜ now (out .exit) ≡ splice (now (out .entry)) (k * sizeBy shape) (joined itemBytes (map (itemBy shape) (listed shape (tableOf (now (s .entry))) (n - k) (d ∷ [])))) ⌝ }
+    ensures { λ _. ⌜ now (out .exit) ≡ splice (now (out .entry)) (k * sizeBy shape) (itemsBy shape (listed shape (tableOf (now (s .entry))) (n - k) (d ∷ []))) ⌝ }
 {
     let index = index_at(d);
     match index {
@@ -183,7 +183,7 @@ pub fn put_all(s: &[u8], distances: &[u64], shape: Shape, out: &mut [u8], n: usi
     requires { ⌜ n ≤ maxCount ⌝ }
     requires { ⌜ n * sizeBy shape ≤ length (now out) ⌝ }
     ensures { λ r. ⌜ r ≡ length (listed shape (tableOf (now (s .entry))) n (now (distances .entry))) ⌝ }
-    ensures { λ _. ⌜ now (out .exit) ≡ splice (now (out .entry)) 0 (joined itemBytes (map (itemBy shape) (listed shape (tableOf (now (s .entry))) n (now (distances .entry))))) ⌝ }
+    ensures { λ _. ⌜ now (out .exit) ≡ splice (now (out .entry)) 0 (itemsBy shape (listed shape (tableOf (now (s .entry))) n (now (distances .entry)))) ⌝ }
 {
     let mut k: usize = 0;
     let mut p: usize = 0;

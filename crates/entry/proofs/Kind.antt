@@ -1,7 +1,7 @@
 -- The kind of a key in its bucket, and what the questions of the entry calls say: room for the records, sizes, codes.
-use Prim.Native.Nat.{ℕ, _+_, _≤_}
+use Prim.Native.Nat.{ℕ, _+_}
 use native.Mathlib.Omega.{arith}
-use mathlib.Core.Path.{_≡_, refl, sym, ap, _∙_}
+use mathlib.Core.Path.{_≡_, sym, ap, _∙_}
 use mathlib.Core.Bool.{Bool, true, false, cond, not, _&&_}
 use mathlib.Core.List.{List, []}
 use mathlib.Core.Option.{Option, none, some}
@@ -11,7 +11,7 @@ use borrow.Author.Tests.{le-leb, not-true, not-false}
 use Rattle.model.specs.Base.{same}
 use Rattle.model.specs.Bytes.{Bytes, number}
 use Rattle.model.specs.Node.{Node, PendingNode, AppliedPending}
-use Rattle.model.specs.Bucket.{Bucket, lookup}
+use Rattle.model.specs.Bucket.{Bucket, get}
 use Rattle.model.specs.Table.{EntryKind, Answer, Effect, kindIfPending, kindOfNode, kindOf, kindIn, indexIn, maxRecords}
 use Rattle.model.specs.Sizes.{keySize, storageSize}
 use Rattle.model.specs.Layout.{tableOf}
@@ -19,17 +19,17 @@ use Rattle.model.specs.Formed.{formed}
 use Rattle.model.specs.Call.{ValueArgument}
 use Rattle.model.specs.Question.{valueInRange, kindOfKey}
 use Rattle.laws.proofs.TableBytes.{fits-back}
-use Rattle.laws.proofs.Tests.{clash}
+use Rattle.laws.proofs.Tests.{and-turned}
 use Rattle.asked.specs.Answers.{Answers, refusal, failedOfFive, roomFor, rewritten, inBucket}
 use Rattle.asked.proofs.Questions.{refusal-none, passed-five}
 use Rattle.asked.proofs.OneKey.{in-refused, in-done}
 use Rattle.asked.proofs.Steps.{key-length}
 
 module _ (k : ℕ) (m : Bucket) where
-  pub kind-held : (n : Node) → lookup k m ≡ some n → EntryKind.Present (n .connected) (n .incoming) ≡ kindOf k m
+  pub kind-held : (n : Node) → get k m ≡ some n → EntryKind.Present (n .connected) (n .incoming) ≡ kindOf k m
   kind-held n e = ap (kindOfNode k m) (sym e)
 
-  module _ (e : lookup k m ≡ none) where
+  module _ (e : get k m ≡ none) where
     pub kind-none : m .pending ≡ none → EntryKind.Absent ≡ kindOf k m
     kind-none p = ap (kindIfPending k) (sym p) ∙ ap (kindOfNode k m) (sym e)
 
@@ -94,10 +94,4 @@ module _ (s key : List ℕ) (v : ValueArgument) (state direction time : ℕ) whe
   codes-told e f = ap (λ (b : Bool). failedOfFive key (b && (leb state 1 && leb direction 1)) (some time) s) (sym e) ∙ f
 
   pub node-codes : failedOfFive key (insertCodes v state direction) (some time) s ≡ none → (leb state 1 && (leb direction 1 && valueInRange v)) ≡ true
-  node-codes e = turned (valueInRange v) (leb state 1) (leb direction 1) (passed-five s key (insertCodes v state direction) (some time) e .in-range)
-    where
-      turned : (a b c : Bool) → (a && (b && c)) ≡ true → (b && (c && a)) ≡ true
-      turned true true true h = refl
-      turned true true false h = h
-      turned true false c h = h
-      turned false b c h = clash h refl
+  node-codes e = and-turned (valueInRange v) (leb state 1) (leb direction 1) (passed-five s key (insertCodes v state direction) (some time) e .in-range)

@@ -10,7 +10,7 @@ use lib.ListN.{length, getD}
 use borrow.Author.Tests.{ne-eqb, le-leb, lt-leb}
 use Rattle.model.specs.Base.{allBelow, joined, tabulate}
 use Rattle.model.specs.Bytes.{part, zeros}
-use Rattle.model.specs.Bucket.{maxNodes, incomingNodes, emptyBucket}
+use Rattle.model.specs.Bucket.{maxNodesPerBucket, incomingNodes, emptyBucket}
 use Rattle.model.specs.Table.{numBuckets, maxRecords}
 use Rattle.model.specs.Sizes.{keySize, nodeSize, recordSize, bucketSize, maxIncomingAt, tableFilterAt, bucketFilterAt, recordCountAt, recordAt}
 use Rattle.model.specs.Layout.{bucketBytes, nodesIn, placeIn}
@@ -18,8 +18,9 @@ use Rattle.model.specs.Formed as model
 use Rattle.model.specs.Formed.{areZero, keyIn, stateAt, pendingFormed, bucketFormed, recordFormed, headerFormed, formed}
 use Rattle.laws.proofs.Parts.{part-part, getD-part}
 use Rattle.laws.proofs.Zeros.{part-areZero, areZero-within}
-use Rattle.laws.proofs.BucketFormed.{FormedBucket, bucket-formed}
-use Rattle.laws.proofs.TableBytes.{empty-fits}
+use Rattle.laws.proofs.BucketFormed.{bucket-formed}
+use Rattle.laws.proofs.KeepFormed.{empty-formed}
+use Rattle.laws.proofs.Keep.{empty-fits}
 use Rattle.node.specs.declared.Node as declared
 use Rattle.node.specs.Node.{nodeCodes}
 use Rattle.storage.specs.Read.{readNode}
@@ -48,18 +49,6 @@ regroup false i s f n p c z = refl
 
 -- a bucket
 
-formed-empty : (p : ℕ → Bool) (m : ℕ) → FormedBucket p m emptyBucket
-formed-empty p m =
-    record {
-      at-most = omega arith;
-      different = tt;
-      of-index = tt;
-      disconnected-first = tt;
-      then-connected = tt;
-      incoming-within = omega arith;
-      pending-fits = tt;
-    }
-
 bytes-empty : bucketBytes emptyBucket ≡ zeros bucketSize
 unfolding bucketBytes joined
 bytes-empty = refl
@@ -67,16 +56,16 @@ bytes-empty = refl
 module _ (p : ℕ → Bool) (m : ℕ) (s : List ℕ) (at : ℕ) where
   -- zero bytes are an empty bucket
   pub bucket-zero : at + bucketSize ≤ length s → areZero s at bucketSize ≡ true → bucketFormed p m (part s at bucketSize) ≡ true
-  bucket-zero l z = rw (part-areZero s at bucketSize l z, ← bytes-empty) (bucket-formed p m emptyBucket (formed-empty p m) empty-fits)
+  bucket-zero l z = rw (part-areZero s at bucketSize l z, ← bytes-empty) (bucket-formed p m emptyBucket (record { formed = empty-formed m; of-index = record { held = tt; pending = tt } }) empty-fits)
 
   module _ (n f : ℕ) (en : n ≡ getD s at 0) (ef : f ≡ getD s (at + 1) 0) where
-    pub bucket-many : maxNodes < n → bucketFormed p m (part s at bucketSize) ≡ false
+    pub bucket-many : maxNodesPerBucket < n → bucketFormed p m (part s at bucketSize) ≡ false
     unfolding bucketFormed
-    bucket-many h = rw (getD-part s at bucketSize 0 (omega arith), add-zero, ← en, lt-leb n maxNodes h)
+    bucket-many h = rw (getD-part s at bucketSize 0 (omega arith), add-zero, ← en, lt-leb n maxNodesPerBucket h)
 
-    pub bucket-held : n ≤ maxNodes → bucketFormed p m (part s at bucketSize)
+    pub bucket-held : n ≤ maxNodesPerBucket → bucketFormed p m (part s at bucketSize)
         ≡ ((allBelow n (differs (part s at bucketSize))
-        && (allBelow n (placeFormed p f (part s at bucketSize)) && areZero (part s at bucketSize) (2 + n * nodeSize) ((maxNodes - n) * nodeSize)))
+        && (allBelow n (placeFormed p f (part s at bucketSize)) && areZero (part s at bucketSize) (2 + n * nodeSize) ((maxNodesPerBucket - n) * nodeSize)))
         && (leb f n && (leb (length (incomingNodes (tabulate n (nodeAt (part s at bucketSize))))) m && pendingFormed p (part s at bucketSize))))
     unfolding bucketFormed nodesIn differs placeFormed nodeAt
     bucket-held h =
@@ -87,8 +76,8 @@ module _ (p : ℕ → Bool) (m : ℕ) (s : List ℕ) (at : ℕ) where
         let e : allBelow n (λ j. (model.nodeCodes (placeIn bs j) && p (keyIn (placeIn bs j))) && eqb (getD (placeIn bs j) keySize 0) (stateAt f j)) ≡ ((c && i) && t) =
         all-and n (λ j. model.nodeCodes (placeIn bs j) && p (keyIn (placeIn bs j))) (λ j. eqb (getD (placeIn bs j) keySize 0) (stateAt f j))
         ∙ ap (λ (x : Bool). x && t) (all-and n (λ j. model.nodeCodes (placeIn bs j)) (λ j. p (keyIn (placeIn bs j)))) in
-        rw (e, getD-part s at bucketSize 0 (omega arith), getD-part s at bucketSize 1 (omega arith), add-zero, ← en, ← ef, le-leb n maxNodes h)
-        (regroup (allBelow n (differs bs)) i t (leb f n) (leb (length (incomingNodes (tabulate n (nodeAt bs)))) m) (pendingFormed p bs) c (areZero bs (2 + n * nodeSize) ((maxNodes - n) * nodeSize)))
+        rw (e, getD-part s at bucketSize 0 (omega arith), getD-part s at bucketSize 1 (omega arith), add-zero, ← en, ← ef, le-leb n maxNodesPerBucket h)
+        (regroup (allBelow n (differs bs)) i t (leb f n) (leb (length (incomingNodes (tabulate n (nodeAt bs)))) m) (pendingFormed p bs) c (areZero bs (2 + n * nodeSize) ((maxNodesPerBucket - n) * nodeSize)))
 
 -- a record
 
@@ -117,7 +106,7 @@ module _ (s : List ℕ) (n : ℕ) (en : n ≡ getD s recordCountAt 0) where
   header-many h = rw (← en, lt-leb n maxRecords h) (simp and-false)
 
   pub header-records : n ≤ maxRecords → headerFormed s
-      ≡ ((leb (getD s maxIncomingAt 0) maxNodes && (leb (getD s tableFilterAt 0) 1 && leb (getD s bucketFilterAt 0) 1))
+      ≡ ((leb (getD s maxIncomingAt 0) maxNodesPerBucket && (leb (getD s tableFilterAt 0) 1 && leb (getD s bucketFilterAt 0) 1))
       && (allBelow n (recordAtFormed s) && areZero s (recordAt n) ((maxRecords - n) * recordSize)))
   unfolding headerFormed recordAtFormed
   header-records h = rw (← en, le-leb n maxRecords h) (simp and-assoc)

@@ -2,10 +2,11 @@
 ghost use mathlib.Core.Path.{_≡_};
 ghost use mathlib.Core.Bool.{cond, _&&_};
 ghost use Prim.Native.Nat.{_+_, _*_, _-_, _≤_, _<_};
+ghost use lib.Dec.{eqb, leb};
 ghost use lib.ListN.{length, getD};
 ghost use Rattle.model.specs.Base.{same, allBelow, tabulate};
 ghost use Rattle.model.specs.Bytes.{number, part};
-ghost use Rattle.model.specs.Bucket.{maxNodes, incomingNodes};
+ghost use Rattle.model.specs.Bucket.{maxNodesPerBucket, incomingNodes};
 ghost use Rattle.model.specs.Table.{numBuckets, maxRecords};
 ghost use Rattle.model.specs.Sizes.{keySize, nodeSize, recordSize, bucketSize, storageSize, headerSize};
 ghost use Rattle.model.specs.Node.{connectedIncoming};
@@ -18,7 +19,8 @@ use key::Key;
 use node::Node;
 use storage::Layout;
 
-fn size(x: u8) -> usize
+// Internal: a byte as a size.
+pub fn size(x: u8) -> usize
     ensures { λ r. ⌜ r ≡ x ⌝ }
 {
     x as usize
@@ -39,7 +41,7 @@ fn has_key(s: &[u8], at: usize, key: Key) -> bool
 
 // Internal: no place below k of the bucket at `at` has the key.
 pub fn not_held(s: &[u8], at: usize, k: usize, key: Key) -> bool
-    requires { ⌜ (at + bucketSize ≤ length (now s)) × (k ≤ maxNodes) ⌝ }
+    requires { ⌜ (at + bucketSize ≤ length (now s)) × (k ≤ maxNodesPerBucket) ⌝ }
     ensures { λ r. ⌜ r ≡ notHeld (part (now (s .entry)) at bucketSize) k (num key) ⌝ }
 {
     let mut j: usize = 0;
@@ -52,16 +54,22 @@ pub fn not_held(s: &[u8], at: usize, k: usize, key: Key) -> bool
     true
 }
 
-// The keys of the places below count differ.
+// The keys of the places below count differ. Only a key whose last byte an earlier one has is compared with those before it.
 fn keys_differ(s: &[u8], at: usize, count: usize) -> bool
-    requires { ⌜ (at + bucketSize ≤ length (now s)) × (count ≤ maxNodes) ⌝ }
+    requires { ⌜ (at + bucketSize ≤ length (now s)) × (count ≤ maxNodesPerBucket) ⌝ }
     ensures { λ r. ⌜ r ≡ allBelow count (differs (part (now (s .entry)) at bucketSize)) ⌝ }
 {
+    let mut seen = [0u8; 256];
     let mut ok = true;
     let mut j: usize = 0;
     while j < count {
-        let key = Key::load(s, at + (Layout::PLACES_AT + j * Layout::NODE));
-        ok = ok & not_held(s, at, j, key);
+        let place = at + (Layout::PLACES_AT + j * Layout::NODE);
+        let last = size(s[place + (Layout::KEY - 1)]);
+        if seen[last] != 0 {
+            let key = Key::load(s, place);
+            ok = ok & not_held(s, at, j, key);
+        }
+        seen[last] = 1;
         j += 1;
     }
     ok
@@ -76,17 +84,26 @@ fn of_index(local: Key, key: Key, i: usize) -> bool
     Key::BITS - d.leading_zeros() == i + 1
 }
 
-// The node's codes are in range, and its key is of the index.
-fn node_formed(n: Node, local: Key, i: usize) -> bool
+// The node's codes are in range, its key is of the index, and its state is the one given.
+fn node_formed(n: Node, local: Key, i: usize, state: u8) -> bool
     requires { ⌜ i < numBuckets ⌝ }
-    ensures { λ r. ⌜ r ≡ (nodeCodes n && ofIndex (num local) i (num (n .key))) ⌝ }
+    ensures { λ r. ⌜ r ≡ ((nodeCodes n && ofIndex (num local) i (num (n .key))) && eqb (n .status .state) state) ⌝ }
 {
     let key = n.key;
-    n.in_range() & of_index(local, key, i)
+    if !of_index(local, key, i) {
+        return false;
+    }
+    if n.status.state != state {
+        return false;
+    }
+    if 1 < n.status.direction {
+        return false;
+    }
+    n.in_range()
 }
 
-// The state that place j has where `first` is the first connected place.
-fn state_at(first: usize, j: usize) -> u8
+// Internal: the state that place j has where `first` is the first connected place.
+pub fn state_at(first: usize, j: usize) -> u8
     ensures { λ r. ⌜ r ≡ stateAt first j ⌝ }
 {
     if j < first { 0 } else { 1 }
@@ -94,20 +111,22 @@ fn state_at(first: usize, j: usize) -> u8
 
 // The places below count: codes, index and state of each.
 fn places_formed(s: &[u8], at: usize, count: usize, first: usize, local: Key, i: usize) -> bool
-    requires { ⌜ (at + bucketSize ≤ length (now s)) × (count ≤ maxNodes) × (i < numBuckets) ⌝ }
+    requires { ⌜ (at + bucketSize ≤ length (now s)) × (count ≤ maxNodesPerBucket) × (i < numBuckets) ⌝ }
     ensures { λ r. ⌜ r ≡ allBelow count (placeFormed (ofIndex (num local) i) first (part (now (s .entry)) at bucketSize)) ⌝ }
 {
-    let mut ok = true;
     let mut j: usize = 0;
     while j < count {
         let n = storage::load_node(s, at + (Layout::PLACES_AT + j * Layout::NODE));
-        ok = ok & (node_formed(n, local, i) & (n.status.state == state_at(first, j)));
+        if !node_formed(n, local, i, state_at(first, j)) {
+            return false;
+        }
         j += 1;
     }
-    ok
+    true
 }
 
-fn one(b: bool) -> usize
+// Internal: 1 for true.
+pub fn one(b: bool) -> usize
     ensures { λ r. ⌜ (r ≡ cond b 1 0) × (r ≤ 1) ⌝ }
 {
     if b { 1 } else { 0 }
@@ -121,23 +140,26 @@ fn is_incoming(s: &[u8], at: usize) -> bool
     (s[at + Layout::STATE_AT] == 1) & (s[at + Layout::DIRECTION_AT] == 1)
 }
 
-// How many of the places below count are connected and incoming.
-fn incoming(s: &[u8], at: usize, count: usize) -> usize
-    requires { ⌜ (at + bucketSize ≤ length (now s)) × (count ≤ maxNodes) ⌝ }
-    ensures { λ r. ⌜ r ≡ length (incomingNodes (tabulate count (nodeAt (part (now (s .entry)) at bucketSize)))) ⌝ }
+// At most max_incoming of the places below count are connected and incoming. They are counted only where there are more places.
+fn incoming_within(s: &[u8], at: usize, count: usize, max_incoming: usize) -> bool
+    requires { ⌜ (at + bucketSize ≤ length (now s)) × (count ≤ maxNodesPerBucket) ⌝ }
+    ensures { λ r. ⌜ r ≡ leb (length (incomingNodes (tabulate count (nodeAt (part (now (s .entry)) at bucketSize))))) «max_incoming» ⌝ }
 {
+    if count <= max_incoming {
+        return true;
+    }
     let mut n: usize = 0;
     let mut j: usize = 0;
     while j < count {
         n += one(is_incoming(s, at + (Layout::PLACES_AT + j * Layout::NODE)));
         j += 1;
     }
-    n
+    n <= max_incoming
 }
 
 // The pending of the bucket at `at`.
 fn pending_formed(s: &[u8], at: usize, count: usize, local: Key, i: usize) -> bool
-    requires { ⌜ (at + bucketSize ≤ length (now s)) × (count ≤ maxNodes) × (count ≡ getD (now s) at 0) × (i < numBuckets) ⌝ }
+    requires { ⌜ (at + bucketSize ≤ length (now s)) × (count ≤ maxNodesPerBucket) × (count ≡ getD (now s) at 0) × (i < numBuckets) ⌝ }
     ensures { λ r. ⌜ r ≡ pendingFormed (ofIndex (num local) i) (part (now (s .entry)) at bucketSize) ⌝ }
 {
     let flag = s[at + Layout::PENDING_AT];
@@ -155,10 +177,10 @@ fn pending_formed(s: &[u8], at: usize, count: usize, local: Key, i: usize) -> bo
 
 // The places of the bucket at `at`: the keys differ, those held are formed, the others zero.
 fn held_formed(s: &[u8], at: usize, count: usize, first: usize, local: Key, i: usize) -> bool
-    requires { ⌜ (at + bucketSize ≤ length (now s)) × (count ≤ maxNodes) × (i < numBuckets) ⌝ }
+    requires { ⌜ (at + bucketSize ≤ length (now s)) × (count ≤ maxNodesPerBucket) × (i < numBuckets) ⌝ }
     ensures { λ r. ⌜ r ≡ (allBelow count (differs (part (now (s .entry)) at bucketSize))
         && (allBelow count (placeFormed (ofIndex (num local) i) first (part (now (s .entry)) at bucketSize))
-        && areZero (part (now (s .entry)) at bucketSize) (2 + count * nodeSize) ((maxNodes - count) * nodeSize))) ⌝ }
+        && areZero (part (now (s .entry)) at bucketSize) (2 + count * nodeSize) ((maxNodesPerBucket - count) * nodeSize))) ⌝ }
 {
     let unused = words::all_zero(
         s,
@@ -184,7 +206,7 @@ pub fn bucket_formed(s: &[u8], at: usize, local: Key, i: usize, max_incoming: us
         return false;
     }
     let held = held_formed(s, at, count, first, local, i);
-    let within = incoming(s, at, count) <= max_incoming;
+    let within = incoming_within(s, at, count, max_incoming);
     held & ((first <= count) & (within & pending_formed(s, at, count, local, i)))
 }
 

@@ -1,7 +1,7 @@
 -- What is written of one node: bytes copied one by one, and the bytes of an item by those of the node.
 use mathlib.Core.Path.{_≡_, refl, sym, ap, _∙_}
 use mathlib.Core.Bool.{Bool, true, false, cond, _&&_}
-use mathlib.Core.List.{List, [], _∷_, _++_, map, append-assoc}
+use mathlib.Core.List.{List, [], _∷_, _++_, map, map-append, append-nil, append-assoc}
 use mathlib.Core.Option.{none, some}
 use Prim.Native.Nat.{ℕ, _+_, _*_, _≤_, _<_}
 use native.Mathlib.Nat.{add-mul, mul-le-mul-left}
@@ -20,7 +20,7 @@ use Rattle.model.specs.Call.{matches, inNet}
 use Rattle.model.specs.Layout.{flagByte, valueBytes, nodeBytes, itemBytes, valueIn, nodeIn}
 use Rattle.model.specs.Formed.{nodeCodes}
 use Rattle.laws.proofs.Tests.{cases, split}
-use Rattle.laws.proofs.Lists.{joined-snoc, length-joined}
+use Rattle.laws.proofs.Lists.{joined-append, joined-map, length-joined}
 use Rattle.laws.proofs.All.{all-any}
 use Rattle.laws.proofs.Parts.{length-part, part-part, part-zero, part-snoc, splice-nil, splice-next, slot-before}
 use Rattle.laws.proofs.Bytes.{length-bytes, number-back, Bytes-part}
@@ -32,11 +32,7 @@ use Rattle.node.specs.Node.{valueOf}
 use Rattle.storage.specs.Read.{readValue}
 use Rattle.storage.proofs.Nodes.{valueOf-read}
 use Rattle.found.specs.declared.Shape.{Shape}
-use Rattle.found.specs.Shape.{predicateOf, itemBy, sizeBy}
-
-pub part-none : (s : List ℕ) (at : ℕ) → part s at 0 ≡ []
-unfolding part
-part-none s at = refl
+use Rattle.found.specs.Shape.{predicateOf, itemBy, itemsBy, sizeBy}
 
 -- one byte more is copied
 pub copied : {t : List ℕ} (s u : List ℕ) (at to k : ℕ) → t ≡ splice u to (part s at k) → at + k < length s → to + k < length u
@@ -174,26 +170,21 @@ match-read s at x v r e f =
 
 -- one item more behind those that are there
 
-pub joined-map : {A B : Type 0} (f : B → List ℕ) (g : A → B) (l : List A) → joined f (map g l) ≡ joined (λ (a : A). f (g a)) l
-unfolding joined
-joined-map f g [] = refl
-joined-map f g (a ∷ l) = ap (λ (r : List ℕ). f (g a) ++ r) (joined-map f g l)
+module _ (x : Shape) where
+  pub length-items : (ns : List Node) → length (itemsBy x ns) ≡ length ns * sizeBy x
+  length-items ns =
+      ap length (joined-map itemBytes (itemBy x) ns) ∙ length-joined (λ (n : Node). itemBytes (itemBy x n)) (sizeBy x) ns (all-any _ ns (length-item x))
+
+  pub items-append : (ns ms : List Node) → itemsBy x (ns ++ ms) ≡ itemsBy x ns ++ itemsBy x ms
+  items-append ns ms = ap (joined itemBytes) (map-append (itemBy x) ns ms) ∙ joined-append itemBytes (map (itemBy x) ns) (map (itemBy x) ms)
 
 module _ (x : Shape) (ns : List Node) where
   abbrev pub items : ℕ → List ℕ
-  items j = joined itemBytes (map (itemBy x) (take j ns))
-
-  length-items : (j : ℕ) → j ≤ length ns → length (items j) ≡ j * sizeBy x
-  length-items j h =
-      ap length (joined-map itemBytes (itemBy x) (take j ns))
-      ∙ length-joined (λ (n : Node). itemBytes (itemBy x n)) (sizeBy x) (take j ns) (all-any _ (take j ns) (length-item x))
-      ∙ ap (λ (m : ℕ). m * sizeBy x) (length-take-le j ns h)
+  items j = itemsBy x (take j ns)
 
   items-next : (j : ℕ) (d : Node) → j < length ns → items (j + 1) ≡ items j ++ itemBytes (itemBy x (getD ns j d))
-  items-next j d h =
-      joined-map itemBytes (itemBy x) (take (j + 1) ns)
-      ∙ rw (add-one, take-suc ns j d h) (joined-snoc (λ (n : Node). itemBytes (itemBy x n)) (take j ns) (getD ns j d)
-      ∙ ap (λ (r : List ℕ). r ++ itemBytes (itemBy x (getD ns j d))) (sym (joined-map itemBytes (itemBy x) (take j ns))))
+  unfolding joined
+  items-next j d h = rw (add-one, take-suc ns j d h) (items-append x (take j ns) (getD ns j d ∷ []) ∙ ap (λ (r : List ℕ). items j ++ r) (append-nil _))
 
   pub put-none : (o : List ℕ) (to : ℕ) → o ≡ splice o to (items 0)
   unfolding joined
@@ -206,7 +197,7 @@ module _ (x : Shape) (ns : List Node) where
       let q : (k + j) * w ≡ k * w + j * w = add-mul k j w in
       let r : (k + (j + 1)) * w ≡ k * w + j * w + w = add-mul k (j + 1) w ∙ ap (λ (m : ℕ). k * w + m) (add-mul j 1 w) ∙ omega arith in
       let v : k * w + j * w + length (itemBytes (itemBy x n)) ≤ length o = rw length-item (omega arith) in
-      g ∙ rw (q, e, f) (splice-next o (k * w) (j * w) (items j) (itemBytes (itemBy x (getD ns j d))) (length-items j (omega arith)) (rw f at v) ∙ ap (splice o (k * w)) (sym (items-next j d h)))
+      g ∙ rw (q, e, f) (splice-next o (k * w) (j * w) (items j) (itemBytes (itemBy x (getD ns j d))) (length-items x (take j ns) ∙ ap (λ (m : ℕ). m * w) (length-take-le j ns (omega arith))) (rw f at v) ∙ ap (splice o (k * w)) (sym (items-next j d h)))
 
 -- an entry before the end of n entries
 module _ (x : Shape) (i n l : ℕ) (h : i < n) (f : n * sizeBy x ≤ l) where

@@ -2,4 +2,3 @@
 pub mod Items
 pub mod Run
 pub mod Shown
-pub mod Listings

@@ -3,23 +3,16 @@ use mathlib.Core.Path.{_≡_, sym, ap, _∙_}
 use mathlib.Core.Bool.{Bool, cond}
 use mathlib.Core.Option.{Option, none, some}
 use mathlib.Core.Logic.{_⊎_, inl, inr}
-use Prim.Native.Nat.{ℕ, suc, _+_, _-_, _*_, _^_, _<_, _≤_}
-use native.Mathlib.Nat.{pow-suc, eq-zero-or-pos}
+use Prim.Native.Nat.{ℕ, _+_, _-_, _^_, _<_}
+use native.Mathlib.Nat.{eq-zero-or-pos}
 use native.Mathlib.Omega.{arith}
 use lib.Bits.{xor-zero-l}
-use lib.Count.{leadingZeros, leading-le, leading-of-zero, leading-unique}
+use lib.Count.{leadingZeros, leading-le, leading-of-zero}
 use borrow.Author.Tests.{ne-eqb}
 use Rattle.model.specs.Key.{InBucket, bucketIndex}
-use Rattle.laws.proofs.Index.{log2Of, indexOf, bucket-index, log2-none, some-bucket, top0, top1, top2, top3, word-top, all-zero}
+use Rattle.laws.proofs.Index.{log2Of, indexOf, bucket-index, leading-is, log2-none, some-bucket, top0, top1, top2, top3, word-top, all-zero}
 use Rattle.key.specs.declared.Key.{Key}
 use Rattle.key.specs.Key.{num, Words}
-
--- bucket i's distances have 255 - i leading zeros
-pub leading-is : (i d : ℕ) → i < 256 → InBucket i d → 255 - i ≡ leadingZeros 256 d
-leading-is i d h b =
-    let twice : 2 ^ suc i ≤ 2 * d + 1 = (let s : 2 ^ suc i ≡ 2 ^ i * 2 = pow-suc 2 i in omega (arith, b .from)) in
-    let sum : (255 - i) + suc i ≡ 256 = omega arith in
-    leading-unique 256 d (255 - i) (suc i) sum (b .below) twice
 
 -- all the bits are leading zeros at 0 alone
 pub none-left : (d : ℕ) → d < 2 ^ 256 → 256 - leadingZeros 256 d ≡ 0 → none ≡ log2Of d

@@ -8,6 +8,7 @@ use native.Mathlib.Decide.{decLt}
 use native.Mathlib.Numerals.{add-one}
 use native.Mathlib.Omega.{arith}
 use lib.ListN.{drop}
+use Rattle.model.specs.Base.{first}
 use Rattle.model.specs.Key.{testBit}
 use Rattle.model.specs.Visit.{setsDown, clearsUp}
 use Rattle.model.specs.Fits.{All}
@@ -15,7 +16,7 @@ use Rattle.laws.proofs.Tests.{cases}
 use Rattle.laws.proofs.Visits.{out-clear, out-set}
 use Rattle.key.specs.declared.BucketIndex.{BucketIndex}
 use Rattle.key.specs.declared.ClosestBucketsIter.{ClosestBucketsIter}
-use Rattle.key.specs.Visits.{first, remaining, Stepped}
+use Rattle.key.specs.Visits.{remaining, Stepped}
 
 -- ---- one bit further up
 

@@ -24,7 +24,7 @@ more-lt p n hx h = omega arith
 highs : (p q : ℕ) {x y : ℕ} → x < 2 ^ 64 → y < 2 ^ 64 → p * 2 ^ 64 + x ≡ q * 2 ^ 64 + y → p ≡ q
 highs p q hx hy e = omega arith
 
-lows : (p q : ℕ) {x y : ℕ} → x < 2 ^ 64 → y < 2 ^ 64 → p * 2 ^ 64 + x ≡ q * 2 ^ 64 + y → x ≡ y
+pub lows : (p q : ℕ) {x y : ℕ} → x < 2 ^ 64 → y < 2 ^ 64 → p * 2 ^ 64 + x ≡ q * 2 ^ 64 + y → x ≡ y
 lows p q hx hy e = omega arith
 
 module _ (p q x y : ℕ) (hx : x < 2 ^ 64) (hy : y < 2 ^ 64) where

@@ -2,19 +2,14 @@
 use Prim.Native.Nat.{ℕ, suc, _-_}
 use mathlib.Core.Path.{_≡_}
 use mathlib.Core.List.{List, [], _∷_, _++_}
-use mathlib.Core.Option.{Option, none, some}
 use lib.ListN.{drop}
+use Rattle.model.specs.Base.{first}
 use Rattle.model.specs.Visit.{setsDown, clearsUp}
 use Rattle.key.specs.declared.BucketIndex.{BucketIndex}
 use Rattle.key.specs.declared.ClosestBucketsIter.{ClosestBucketsIter}
 use Rattle.key.specs.declared.ClosestBucketsIterState.{ClosestBucketsIterState}
 use Rattle.key.specs.Key.{num}
 use Rattle.key.specs.Answers.{bucketIndexOf}
-
--- the first of a list, if it has one
-abbrev pub first : List ℕ → Option ℕ
-first [] = none
-first (x ∷ l) = some x
 
 -- what a state has still to visit; d is the local-target distance
 abbrev pub toVisit : ℕ → ClosestBucketsIterState → List ℕ

@@ -5,14 +5,14 @@ ghost use Prim.Native.Nat.{suc, _+_, _-_, _≤_, _<_};
 ghost use lib.Count.{leadingZeros};
 ghost use lib.Dec.{ltb};
 ghost use lib.ListN.{length};
-ghost use Rattle.model.specs.Base.{same};
+ghost use Rattle.model.specs.Base.{same, first};
 ghost use Rattle.model.specs.Bytes.{number, bytes, part, splice};
 ghost use Rattle.model.specs.Key.{distance, log2Distance, bucketIndex, testBit};
 ghost use Rattle.model.specs.Sizes.{keySize};
 ghost use Rattle.model.specs.Visit.{setsDown, clearsUp, visits};
 ghost use Rattle.key.specs.Key.{num};
 ghost use Rattle.key.specs.Answers.{bucketIndexOf, log2DistanceOf};
-ghost use Rattle.key.specs.Visits.{first, remaining, Stepped};
+ghost use Rattle.key.specs.Visits.{remaining, Stepped};
 
 // A key of 256 bits, or the distance of two: four words, w0 the most significant.
 pub struct Key {
@@ -213,7 +213,7 @@ pub struct ClosestBucketsNext {
 }
 
 impl ClosestBucketsIter {
-    // Starts at the bucket of the highest set bit of the distance, or at bucket 0.
+    // Internal: starts at the bucket of the highest set bit of the distance, or at bucket 0.
     pub fn new(distance: Key) -> ClosestBucketsIter
         ensures { λ r. ⌜ remaining r ≡ visits (num distance) ⌝ }
     {
@@ -260,7 +260,7 @@ impl ClosestBucketsIter {
         BucketIndex::Nothing
     }
 
-    // The first of what remains, and an iterator of the rest.
+    // Internal: the first of what remains, and an iterator of the rest.
     pub fn next(self) -> ClosestBucketsNext
         ensures { λ r. ⌜ Stepped self (r .index) (r .iter) ⌝ }
     {

@@ -103,3 +103,8 @@ apply-all-queue now [] t = sym (append-nil (t .queue))
 apply-all-queue now (j ∷ is) t =
     let a = applyPending (t .settings .bucket) now (t .buckets j) in
     apply-all-queue now is (visit now j t) ∙ append-assoc (t .queue) (a .1) (applyAll now is (visit now j t) .1)
+
+-- first some buckets, then the others
+pub applyAll-append : (now : ℕ) (xs ys : List ℕ) (t : Table) → applyAll now (xs ++ ys) t .0 ≡ applyAll now ys (applyAll now xs t .0) .0
+applyAll-append now [] ys t = refl
+applyAll-append now (i ∷ xs) ys t = applyAll-append now xs ys _

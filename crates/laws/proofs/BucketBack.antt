@@ -11,11 +11,11 @@ use borrow.Author.Tests.{eqb-true, lt-ltb, le-ltb, not-true}
 use Rattle.model.specs.Base.{same, joined}
 use Rattle.model.specs.Bytes.{part, Bytes}
 use Rattle.model.specs.Node.{Node, PendingNode}
-use Rattle.model.specs.Bucket.{maxNodes, nodes, count, holds}
+use Rattle.model.specs.Bucket.{maxNodesPerBucket, nodes, numEntries, holds}
 use Rattle.model.specs.Sizes.{nodeSize, timeSize, pendingAt, pendingSize, bucketSize}
 use Rattle.model.specs.Layout.{nodeBytes, pendingBytes, bucketBytes, nodeIn, placeIn, nodesIn, pendingIn, bucketIn}
 use Rattle.model.specs.Formed.{areZero, nodeCodes, keyIn, notHeld, pendingFormed, bucketFormed}
-use Rattle.model.specs.Fits.{All, Opt, FitsNode, FitsPending, FitsBucket}
+use Rattle.model.specs.Fits.{All, Opt, FormedBucket, FitsNode, FitsPending, FitsBucket}
 use Rattle.laws.proofs.Tests.{same-sym, split, cases}
 use Rattle.laws.proofs.Lists.{all-gives, conj-gives, length-tabulate, getD-tabulate}
 use Rattle.laws.proofs.Parts.{part-all, part-append, part-cons, length-part, joined-slots, slot-before}
@@ -23,8 +23,29 @@ use Rattle.laws.proofs.Bytes.{number-back, number-fits, Bytes-part}
 use Rattle.laws.proofs.Zeros.{part-areZero}
 use Rattle.laws.proofs.NodeFormed.{node-back, node-fits}
 use Rattle.laws.proofs.BucketBytes.{length-nodes}
-use Rattle.laws.proofs.BucketFormed.{Checked, checked, FormedBucket, Different-if, none-holds}
-use Rattle.laws.proofs.All.{all-by-getD, all-tabulate}
+use Rattle.laws.proofs.BucketFormed.{Checked, checked, Different-if, none-holds}
+use Rattle.laws.proofs.All.{all-by-getD, all-tabulate, opt-map}
+
+-- what is read of any bytes
+module _ (s : List ℕ) where
+  pub length-nodesIn : length (nodesIn s) ≡ getD s 0 0
+  unfolding nodesIn
+  length-nodesIn = length-tabulate (getD s 0 0) (λ j. nodeIn (placeIn s j))
+
+  pub nodes-in : nodes (bucketIn s) ≡ nodesIn s
+  unfolding bucketIn
+  nodes-in = take-append-drop (getD s 1 0) (nodesIn s)
+
+  pub count-in : numEntries (bucketIn s) ≡ getD s 0 0
+  count-in = sym (length-nodes (bucketIn s)) ∙ ap length nodes-in ∙ length-nodesIn
+
+  pub first-in : getD s 1 0 ≤ getD s 0 0 → length (bucketIn s .disconnected) ≡ getD s 1 0
+  unfolding bucketIn
+  first-in h = length-take-le (getD s 1 0) (nodesIn s) (rw length-nodesIn h)
+
+  pub pending-of : bucketIn s .pending ≡ pendingIn s
+  unfolding bucketIn
+  pending-of = refl
 
 module _ (s : List ℕ) (l : length s ≡ bucketSize) (h : Bytes s) where
   -- the pending, where there is one
@@ -73,25 +94,6 @@ module _ (s : List ℕ) (l : length s ≡ bucketSize) (h : Bytes s) where
     passed : Checked p m s
     passed = checked p m s c
 
-    length-nodesIn : length (nodesIn s) ≡ held
-    unfolding nodesIn
-    length-nodesIn = length-tabulate held (λ j. nodeIn (placeIn s j))
-
-    nodes-of : nodes (bucketIn s) ≡ nodesIn s
-    unfolding bucketIn
-    nodes-of = take-append-drop firstAt (nodesIn s)
-
-    count-of : count (bucketIn s) ≡ held
-    count-of = sym (length-nodes (bucketIn s)) ∙ ap length nodes-of ∙ length-nodesIn
-
-    first-of : length (bucketIn s .disconnected) ≡ firstAt
-    unfolding bucketIn
-    first-of = length-take-le firstAt (nodesIn s) (rw length-nodesIn (passed .first))
-
-    pending-of : bucketIn s .pending ≡ pendingIn s
-    unfolding bucketIn
-    pending-of = refl
-
     within : (j : ℕ) → j < held → 2 + j * nodeSize + nodeSize ≤ length s
     within j i = omega (arith, slot-before j held nodeSize i, passed .at-most)
 
@@ -107,23 +109,23 @@ module _ (s : List ℕ) (l : length s ≡ bucketSize) (h : Bytes s) where
     pub bucket-back : bucketBytes (bucketIn s) ≡ s
     unfolding bucketBytes
     bucket-back =
-        let u : ℕ = (maxNodes - held) * nodeSize in
-        let a : held ≤ maxNodes = passed .at-most in
-        let e : part s 2 (maxNodes * nodeSize + pendingSize) ≡ part s 2 (held * nodeSize + (u + pendingSize)) = ap (part s 2) (omega arith) in
+        let u : ℕ = (maxNodesPerBucket - held) * nodeSize in
+        let a : held ≤ maxNodesPerBucket = passed .at-most in
+        let e : part s 2 (maxNodesPerBucket * nodeSize + pendingSize) ≡ part s 2 (held * nodeSize + (u + pendingSize)) = ap (part s 2) (omega arith) in
         let b : 2 + held * nodeSize + u ≡ pendingAt = omega arith in
         rw (
-          count-of,
-          first-of,
-          nodes-of,
+          count-in s,
+          first-in s (passed .first),
+          nodes-in s,
           held-back,
-          pending-of,
+          pending-of s,
           pending-back p (passed .pending),
           ← part-areZero s (2 + held * nodeSize) u (omega arith) (passed .unused),
         )
         (sym (sym (part-all s bucketSize (omega arith))
         ∙ rw (
-          part-cons s 0 (1 + maxNodes * nodeSize + pendingSize) (omega arith),
-          part-cons s 1 (maxNodes * nodeSize + pendingSize) (omega arith),
+          part-cons s 0 (1 + maxNodesPerBucket * nodeSize + pendingSize) (omega arith),
+          part-cons s 1 (maxNodesPerBucket * nodeSize + pendingSize) (omega arith),
           e,
           part-append s 2 (held * nodeSize) (u + pendingSize),
           part-append s (2 + held * nodeSize) u pendingSize,
@@ -146,7 +148,7 @@ module _ (s : List ℕ) (l : length s ≡ bucketSize) (h : Bytes s) where
     disconnected-of =
         all-by-getD _ (bucketIn s .disconnected) (nodeIn [])
         (λ j i.
-        let b : j < firstAt = rw first-of at i in
+        let b : j < firstAt = rw (first-in s (passed .first)) at i in
         let a : j < held = omega (arith, passed .first) in
         rw (getD-take firstAt (nodesIn s) j (nodeIn []) b, node-of j (nodeIn []) a, passed .states j a, lt-ltb j firstAt b))
 
@@ -155,7 +157,7 @@ module _ (s : List ℕ) (l : length s ≡ bucketSize) (h : Bytes s) where
     connected-of =
         all-by-getD _ (bucketIn s .connected) (nodeIn [])
         (λ j i.
-        let a : firstAt + j < held = omega (arith, length-nodesIn, length-drop firstAt (nodesIn s), i) in
+        let a : firstAt + j < held = omega (arith, length-nodesIn s, length-drop firstAt (nodesIn s), i) in
         rw (getD-drop firstAt (nodesIn s) j (nodeIn []), node-of (firstAt + j) (nodeIn []) a, passed .states (firstAt + j) a, le-ltb (firstAt + j) firstAt (omega arith)))
 
     pending-good : Opt (λ (q : PendingNode). (p (q .node .key) ≡ true) × (holds (q .node .key) (bucketIn s) ≡ false)) (pendingIn s)
@@ -167,29 +169,36 @@ module _ (s : List ℕ) (l : length s ≡ bucketSize) (h : Bytes s) where
         let t = pending-some p (passed .pending) e in (
           t .0,
           none-holds key (bucketIn s)
-              (rw nodes-of
+              (rw (nodes-in s)
               (all-tabulate (λ (x : Node). same (x .key) key ≡ false) held (λ j. nodeIn (placeIn s j))
               (λ j i. not-true (same (keyIn (placeIn s j)) key) (all-gives held (λ x. not (same (keyIn (placeIn s x)) key)) j i (t .1))))),
         ))
         (λ e. tt)
 
-    pub bucket-good : FormedBucket p m (bucketIn s)
+    pub bucket-good : FormedBucket (λ (k : ℕ). p k ≡ true) m (bucketIn s)
     unfolding nodesIn nodeIn
     bucket-good =
         record {
-          at-most = rw count-of (passed .at-most);
-          different =
-              rw nodes-of
-              (Different-if (nodesIn s) (nodeIn [])
-              (λ j a i b.
-              let y : j < held = rw length-nodesIn at a in
-              let z : i < held = omega arith in
-              rw (node-of j (nodeIn []) y, node-of i (nodeIn []) z) (differs j i y b)));
-          of-index = rw nodes-of (all-tabulate (λ (x : Node). p (x .key) ≡ true) held (λ j. nodeIn (placeIn s j)) (passed .of-index));
-          disconnected-first = disconnected-of;
-          then-connected = connected-of;
-          incoming-within = rw nodes-of (passed .incoming-within);
-          pending-fits = rw pending-of pending-good;
+          formed =
+              record {
+                at-most = rw (count-in s) (passed .at-most);
+                different =
+                    rw (nodes-in s)
+                    (Different-if (nodesIn s) (nodeIn [])
+                    (λ j a i b.
+                    let y : j < held = rw (length-nodesIn s) at a in
+                    let z : i < held = omega arith in
+                    rw (node-of j (nodeIn []) y, node-of i (nodeIn []) z) (differs j i y b)));
+                disconnected-first = disconnected-of;
+                then-connected = connected-of;
+                incoming-within = rw (nodes-in s) (passed .incoming-within);
+                pending-apart = rw (pending-of s) (opt-map _ _ (λ (q : PendingNode) e. e .1) (pendingIn s) pending-good);
+              };
+          of-index =
+              record {
+                held = rw (nodes-in s) (all-tabulate (λ (x : Node). p (x .key) ≡ true) held (λ j. nodeIn (placeIn s j)) (passed .of-index));
+                pending = rw (pending-of s) (opt-map _ _ (λ (q : PendingNode) e. (e .0, tt)) (pendingIn s) pending-good);
+              };
         }
 
     pub bucket-fits : FitsBucket (bucketIn s)
@@ -197,15 +206,14 @@ module _ (s : List ℕ) (l : length s ≡ bucketSize) (h : Bytes s) where
     bucket-fits =
         record {
           held =
-              rw nodes-of
+              rw (nodes-in s)
               (all-tabulate FitsNode held (λ j. nodeIn (placeIn s j)) (λ j i. node-fits (placeIn s j) (place-length j i) (Bytes-part s (2 + j * nodeSize) nodeSize h)));
           pending =
-              rw pending-of
+              rw (pending-of s)
               (cases (Opt FitsPending) (eqb (getD s pendingAt 0) 1)
-              (λ e.
-              record {
-                node = node-fits (part s (pendingAt + 1) nodeSize) (length-part s (pendingAt + 1) nodeSize (omega arith)) (Bytes-part s (pendingAt + 1) nodeSize h);
-                deadline = number-fits s (pendingAt + 1 + nodeSize) timeSize (omega arith) h;
-              })
+              (λ e. (
+                node-fits (part s (pendingAt + 1) nodeSize) (length-part s (pendingAt + 1) nodeSize (omega arith)) (Bytes-part s (pendingAt + 1) nodeSize h),
+                number-fits s (pendingAt + 1 + nodeSize) timeSize (omega arith) h,
+              ))
               (λ e. tt));
         }

@@ -9,7 +9,7 @@ use lib.Seq.{take-append-seam, drop-append-seam}
 use Rattle.model.specs.Base.{joined, tabulate}
 use Rattle.model.specs.Bytes.{bytes, part, zeros, Bytes}
 use Rattle.model.specs.Node.{Node, PendingNode}
-use Rattle.model.specs.Bucket.{Bucket, maxNodes, nodes, count, emptyBucket}
+use Rattle.model.specs.Bucket.{Bucket, maxNodesPerBucket, nodes, numEntries, emptyBucket}
 use Rattle.model.specs.Sizes.{nodeSize, timeSize, pendingAt, pendingSize, bucketSize}
 use Rattle.model.specs.Layout.{nodeBytes, pendingBytes, bucketBytes, nodeIn, placeIn, nodesIn, pendingIn, bucketIn}
 use Rattle.model.specs.Fits.{Opt, FitsNode, FitsPending, FitsBucket}
@@ -30,7 +30,7 @@ Bytes-pending none f = Bytes-zeros pendingSize
 Bytes-pending (some p) f =
     let ns : List ℕ = nodeBytes (p .node) in
     let d : List ℕ = bytes timeSize (p .deadline) in
-    Bytes-cons 1 (ns ++ d) (omega arith) (Bytes-append ns d (Bytes-node (p .node) (f .node)) (Bytes-bytes timeSize (p .deadline)))
+    Bytes-cons 1 (ns ++ d) (omega arith) (Bytes-append ns d (Bytes-node (p .node) (f .0)) (Bytes-bytes timeSize (p .deadline)))
 
 pub pending-there : (o : Option PendingNode) (a : List ℕ) → length a ≡ pendingAt → Opt FitsPending o → pendingIn (a ++ pendingBytes o) ≡ o
 unfolding part
@@ -46,60 +46,60 @@ pending-there (some p) a e f =
       part-right a (1 ∷ (ns ++ d)) pendingAt (1 + nodeSize) timeSize e,
       part-front ns d nodeSize n,
       part-end ns d nodeSize timeSize n m,
-      node-there (p .node) (f .node),
-      number-there timeSize (p .deadline) (f .deadline),
+      node-there (p .node) (f .0),
+      number-there timeSize (p .deadline) (f .1),
     )
 
 -- the bucket
 
-pub length-nodes : (b : Bucket) → length (nodes b) ≡ count b
+pub length-nodes : (b : Bucket) → length (nodes b) ≡ numEntries b
 length-nodes b = length-append (b .disconnected) (b .connected)
 
 -- what stands before the pending: the two counts and the places
 abbrev pub placesBytes : Bucket → List ℕ
-placesBytes b = count b ∷ length (b .disconnected) ∷ (joined nodeBytes (nodes b) ++ zeros ((maxNodes - count b) * nodeSize))
+placesBytes b = numEntries b ∷ length (b .disconnected) ∷ (joined nodeBytes (nodes b) ++ zeros ((maxNodesPerBucket - numEntries b) * nodeSize))
 
 pub bucket-cut : (b : Bucket) → bucketBytes b ≡ placesBytes b ++ pendingBytes (b .pending)
 unfolding bucketBytes
 bucket-cut b = simp append-assoc
 
-pub length-held : (b : Bucket) → length (joined nodeBytes (nodes b)) ≡ count b * nodeSize
+pub length-held : (b : Bucket) → length (joined nodeBytes (nodes b)) ≡ numEntries b * nodeSize
 length-held b = length-joined nodeBytes nodeSize (nodes b) (all-any _ (nodes b) length-node) ∙ ap (λ (k : ℕ). k * nodeSize) (length-nodes b)
 
-pub length-places : (b : Bucket) → count b ≤ maxNodes → length (placesBytes b) ≡ pendingAt
-length-places b l = rw (length-append (joined nodeBytes (nodes b)) (zeros ((maxNodes - count b) * nodeSize)), length-held b, length-replicate {A = ℕ} ((maxNodes - count b) * nodeSize) 0) (omega arith)
+pub length-places : (b : Bucket) → numEntries b ≤ maxNodesPerBucket → length (placesBytes b) ≡ pendingAt
+length-places b l = rw (length-append (joined nodeBytes (nodes b)) (zeros ((maxNodesPerBucket - numEntries b) * nodeSize)), length-held b, length-replicate {A = ℕ} ((maxNodesPerBucket - numEntries b) * nodeSize) 0) (omega arith)
 
-pub length-bucket : (b : Bucket) → count b ≤ maxNodes → length (bucketBytes b) ≡ bucketSize
+pub length-bucket : (b : Bucket) → numEntries b ≤ maxNodesPerBucket → length (bucketBytes b) ≡ bucketSize
 length-bucket b l = rw (bucket-cut b, length-append (placesBytes b) (pendingBytes (b .pending)), length-places b l, length-pending (b .pending))
 
-pub Bytes-bucket : (b : Bucket) → count b ≤ maxNodes → FitsBucket b → Bytes (bucketBytes b)
+pub Bytes-bucket : (b : Bucket) → numEntries b ≤ maxNodesPerBucket → FitsBucket b → Bytes (bucketBytes b)
 unfolding bucketBytes
 Bytes-bucket b l f =
     let ns : List ℕ = joined nodeBytes (nodes b) in
-    let z : List ℕ = zeros ((maxNodes - count b) * nodeSize) in
+    let z : List ℕ = zeros ((maxNodesPerBucket - numEntries b) * nodeSize) in
     let q : List ℕ = pendingBytes (b .pending) in
-    Bytes-cons (count b) (length (b .disconnected) ∷ (ns ++ (z ++ q))) (omega arith)
+    Bytes-cons (numEntries b) (length (b .disconnected) ∷ (ns ++ (z ++ q))) (omega arith)
     (Bytes-cons (length (b .disconnected)) (ns ++ (z ++ q)) (omega arith)
     (Bytes-append ns (z ++ q) (Bytes-joined nodeBytes (nodes b) (all-map FitsNode (λ n. Bytes (nodeBytes n)) Bytes-node (nodes b) (f .held)))
-    (Bytes-append z q (Bytes-zeros ((maxNodes - count b) * nodeSize)) (Bytes-pending (b .pending) (f .pending)))))
+    (Bytes-append z q (Bytes-zeros ((maxNodesPerBucket - numEntries b) * nodeSize)) (Bytes-pending (b .pending) (f .pending)))))
 
-pub place-there : (b : Bucket) (j : ℕ) (d : Node) → j < count b → placeIn (bucketBytes b) j ≡ nodeBytes (getD (nodes b) j d)
+pub place-there : (b : Bucket) (j : ℕ) (d : Node) → j < numEntries b → placeIn (bucketBytes b) j ≡ nodeBytes (getD (nodes b) j d)
 unfolding bucketBytes
 place-there b j d l =
     let ns : List ℕ = joined nodeBytes (nodes b) in
-    let r : List ℕ = zeros ((maxNodes - count b) * nodeSize) ++ pendingBytes (b .pending) in
-    let h : j * nodeSize + nodeSize ≤ length ns = omega (arith, length-held b, slot-before j (count b) nodeSize l) in
-    part-right (count b ∷ length (b .disconnected) ∷ []) (ns ++ r) 2 (j * nodeSize) nodeSize refl
+    let r : List ℕ = zeros ((maxNodesPerBucket - numEntries b) * nodeSize) ++ pendingBytes (b .pending) in
+    let h : j * nodeSize + nodeSize ≤ length ns = omega (arith, length-held b, slot-before j (numEntries b) nodeSize l) in
+    part-right (numEntries b ∷ length (b .disconnected) ∷ []) (ns ++ r) 2 (j * nodeSize) nodeSize refl
     ∙ part-left ns r (j * nodeSize) nodeSize h
     ∙ part-joined nodeBytes nodeSize (nodes b) (all-any _ (nodes b) length-node) j d (rw length-nodes l)
 
 pub nodes-there : (b : Bucket) → FitsBucket b → nodesIn (bucketBytes b) ≡ nodes b
 unfolding nodesIn bucketBytes
 nodes-there b f =
-    tabulate-is (nodes b) (nodeIn []) (count b) (λ j. nodeIn (placeIn (bucketBytes b) j)) (length-nodes b)
+    tabulate-is (nodes b) (nodeIn []) (numEntries b) (λ j. nodeIn (placeIn (bucketBytes b) j)) (length-nodes b)
     (λ j l. ap nodeIn (place-there b j (nodeIn []) l) ∙ node-there (getD (nodes b) j (nodeIn [])) (all-getD FitsNode (nodes b) j (nodeIn []) (f .held) (rw length-nodes l)))
 
-pub bucket-there : (b : Bucket) → count b ≤ maxNodes → FitsBucket b → bucketIn (bucketBytes b) ≡ b
+pub bucket-there : (b : Bucket) → numEntries b ≤ maxNodesPerBucket → FitsBucket b → bucketIn (bucketBytes b) ≡ b
 unfolding bucketIn
 bucket-there b l f =
     let p : pendingIn (bucketBytes b) ≡ b .pending = rw (bucket-cut b) (pending-there (b .pending) (placesBytes b) (length-places b l) (f .pending)) in

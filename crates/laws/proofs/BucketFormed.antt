@@ -14,11 +14,11 @@ use borrow.Author.Tests.{eq-eqb, eqb-true, leb-true, le-leb, lt-ltb, le-ltb}
 use Rattle.model.specs.Base.{same, allBelow, joined, isSome}
 use Rattle.model.specs.Bytes.{bytes, part, zeros}
 use Rattle.model.specs.Node.{Node, PendingNode}
-use Rattle.model.specs.Bucket.{Bucket, maxNodes, nodes, count, find, orElse, holds, incomingNodes}
+use Rattle.model.specs.Bucket.{Bucket, maxNodesPerBucket, nodes, numEntries, find, orElse, holds, incomingNodes}
 use Rattle.model.specs.Sizes.{keySize, nodeSize, timeSize, pendingAt, pendingSize}
 use Rattle.model.specs.Layout.{flagByte, nodeBytes, pendingBytes, bucketBytes, nodeIn, placeIn, nodesIn}
 use Rattle.model.specs.Formed.{areZero, nodeCodes, keyIn, stateAt, notHeld, pendingFormed, bucketFormed}
-use Rattle.model.specs.Fits.{All, Opt, Different, FitsNode, FitsPending, FitsBucket}
+use Rattle.model.specs.Fits.{All, Opt, Different, FormedBucket, FitsNode, FitsPending, FitsBucket}
 use Rattle.laws.proofs.Tests.{clash, same-sym, split, or-left, or-right}
 use Rattle.laws.proofs.Lists.{lt-or-le, all-gives, all-if, conj-gives, conj-if}
 use Rattle.laws.proofs.Parts.{part-right, part-between, part-front, part-all, getD-right}
@@ -26,11 +26,11 @@ use Rattle.laws.proofs.Zeros.{areZero-part}
 use Rattle.laws.proofs.NodeBytes.{length-node, node-key, node-state}
 use Rattle.laws.proofs.NodeFormed.{node-codes}
 use Rattle.laws.proofs.BucketBytes.{length-nodes, placesBytes, length-places, length-held, bucket-cut, place-there, nodes-there}
-use Rattle.laws.proofs.All.{all-append, all-left, all-right, all-getD, all-by-getD, opt-map}
+use Rattle.laws.proofs.All.{all-append, all-left, all-right, all-getD, all-by-getD, opt-map, opt-both}
 
 -- what question 2 asks of a bucket's bytes, place by place
 pub record Checked (ofIndex : ℕ → Bool) (maxIncoming : ℕ) (s : List ℕ) : Type 0 where
-  pub at-most : getD s 0 0 ≤ maxNodes
+  pub at-most : getD s 0 0 ≤ maxNodesPerBucket
   pub different : (j : ℕ) → j < getD s 0 0 → notHeld s j (keyIn (placeIn s j)) ≡ true
   pub of-index : (j : ℕ) → j < getD s 0 0 → ofIndex (keyIn (placeIn s j)) ≡ true
   pub states : (j : ℕ) → j < getD s 0 0 → getD (placeIn s j) keySize 0 ≡ stateAt (getD s 1 0) j
@@ -38,7 +38,7 @@ pub record Checked (ofIndex : ℕ → Bool) (maxIncoming : ℕ) (s : List ℕ) :
   pub incoming-within : length (incomingNodes (nodesIn s)) ≤ maxIncoming
   pub pending : pendingFormed ofIndex s ≡ true
   pub codes : (j : ℕ) → j < getD s 0 0 → nodeCodes (placeIn s j) ≡ true
-  pub unused : areZero s (2 + getD s 0 0 * nodeSize) ((maxNodes - getD s 0 0) * nodeSize) ≡ true
+  pub unused : areZero s (2 + getD s 0 0 * nodeSize) ((maxNodesPerBucket - getD s 0 0) * nodeSize) ≡ true
 
 module _ (ofIndex : ℕ → Bool) (m : ℕ) (s : List ℕ) where
   abbrev tests : List Bool
@@ -50,16 +50,16 @@ module _ (ofIndex : ℕ → Bool) (m : ℕ) (s : List ℕ) where
       ∷ leb (length (incomingNodes (nodesIn s))) m
       ∷ pendingFormed ofIndex s
       ∷ allBelow (getD s 0 0) (λ j. nodeCodes (placeIn s j))
-      ∷ areZero s (2 + getD s 0 0 * nodeSize) ((maxNodes - getD s 0 0) * nodeSize)
+      ∷ areZero s (2 + getD s 0 0 * nodeSize) ((maxNodesPerBucket - getD s 0 0) * nodeSize)
       ∷ []
 
   pub checked : bucketFormed ofIndex m s ≡ true → Checked ofIndex m s
   unfolding bucketFormed
   checked h =
       let n : ℕ = getD s 0 0 in
-      let t = conj-gives (leb n maxNodes) tests h in
+      let t = conj-gives (leb n maxNodesPerBucket) tests h in
       record {
-        at-most = leb-true n maxNodes (t .0);
+        at-most = leb-true n maxNodesPerBucket (t .0);
         different = λ j l. all-gives n (λ k. notHeld s k (keyIn (placeIn s k))) j l (t .1 .0);
         of-index = λ j l. all-gives n (λ k. ofIndex (keyIn (placeIn s k))) j l (t .1 .1 .0);
         states = λ j l. eqb-true _ _ (all-gives n (λ k. eqb (getD (placeIn s k) keySize 0) (stateAt (getD s 1 0) k)) j l (t .1 .1 .1 .0));
@@ -74,8 +74,8 @@ module _ (ofIndex : ℕ → Bool) (m : ℕ) (s : List ℕ) where
   unfolding bucketFormed
   checked-if c =
       let n : ℕ = getD s 0 0 in
-      conj-if (leb n maxNodes) tests (
-        le-leb n maxNodes (c .at-most),
+      conj-if (leb n maxNodesPerBucket) tests (
+        le-leb n maxNodesPerBucket (c .at-most),
         (
           all-if n _ (c .different),
           (
@@ -140,16 +140,6 @@ Different-if (n ∷ ns) d h = (
   Different-if ns d (λ j l i m. h (suc j) (omega arith) (suc i) (omega arith)),
 )
 
--- what question 2 asks of a bucket, with any test of the keys' index
-pub record FormedBucket (ofIndex : ℕ → Bool) (maxIncoming : ℕ) (b : Bucket) : Type 0 where
-  pub at-most : count b ≤ maxNodes
-  pub different : Different (nodes b)
-  pub of-index : All (λ (n : Node). ofIndex (n .key) ≡ true) (nodes b)
-  pub disconnected-first : All (λ (n : Node). n .connected ≡ false) (b .disconnected)
-  pub then-connected : All (λ (n : Node). n .connected ≡ true) (b .connected)
-  pub incoming-within : length (incomingNodes (nodes b)) ≤ maxIncoming
-  pub pending-fits : Opt (λ (p : PendingNode). (ofIndex (p .node .key) ≡ true) × (holds (p .node .key) b ≡ false)) (b .pending)
-
 -- what is written
 
 pending-formed : (p : ℕ → Bool) (o : Option PendingNode) (a : List ℕ) → length a ≡ pendingAt → Opt FitsPending o
@@ -165,26 +155,26 @@ pending-formed p (some q) a e f h =
     let d : List ℕ = bytes timeSize (q .deadline) in
     let n : length ns ≡ nodeSize = length-node (q .node) in
     let g : part (a ++ (1 ∷ (ns ++ d))) (pendingAt + 1) nodeSize ≡ ns = part-right a (1 ∷ (ns ++ d)) pendingAt 1 nodeSize e ∙ part-front ns d nodeSize n in
-    rw (getD-right a (1 ∷ (ns ++ d)) pendingAt 0 e, g, node-key (q .node) (f .node), h .0, h .1, node-codes (q .node))
+    rw (getD-right a (1 ∷ (ns ++ d)) pendingAt 0 e, g, node-key (q .node) (f .0), h .0, h .1, node-codes (q .node))
 
-module _ (p : ℕ → Bool) (m : ℕ) (b : Bucket) (g : FormedBucket p m b) (f : FitsBucket b) where
+module _ (p : ℕ → Bool) (m : ℕ) (b : Bucket) (g : FormedBucket (λ (k : ℕ). p k ≡ true) m b) (f : FitsBucket b) where
   abbrev written : List ℕ
   written = bucketBytes b
 
   abbrev place : ℕ → Node
   place j = getD (nodes b) j (nodeIn [])
 
-  fits-at : (j : ℕ) → j < count b → FitsNode (place j)
+  fits-at : (j : ℕ) → j < numEntries b → FitsNode (place j)
   fits-at j l = all-getD FitsNode (nodes b) j (nodeIn []) (f .held) (rw length-nodes l)
 
-  key-at : (j : ℕ) → j < count b → keyIn (placeIn written j) ≡ place j .key
+  key-at : (j : ℕ) → j < numEntries b → keyIn (placeIn written j) ≡ place j .key
   key-at j l = ap keyIn (place-there b j (nodeIn []) l) ∙ node-key (place j) (fits-at j l)
 
-  not-held : (k key : ℕ) → k ≤ count b → ((j : ℕ) → j < k → same (place j .key) key ≡ false) → notHeld written k key ≡ true
+  not-held : (k key : ℕ) → k ≤ numEntries b → ((j : ℕ) → j < k → same (place j .key) key ≡ false) → notHeld written k key ≡ true
   unfolding notHeld
   not-held k key l h = all-if k _ (λ j i. rw (key-at j (omega arith), h j i))
 
-  state-at : (j : ℕ) → j < count b → flagByte (place j .connected) ≡ stateAt (length (b .disconnected)) j
+  state-at : (j : ℕ) → j < numEntries b → flagByte (place j .connected) ≡ stateAt (length (b .disconnected)) j
   state-at j l = ⊎-elim before behind (lt-or-le j n)
     where
       n : ℕ
@@ -195,43 +185,43 @@ module _ (p : ℕ → Bool) (m : ℕ) (b : Bucket) (g : FormedBucket p m b) (f :
           rw (
             lt-ltb j n i,
             List·getD-append (b .disconnected) (b .connected) (nodeIn []) j i,
-            all-getD (λ (x : Node). x .connected ≡ false) (b .disconnected) j (nodeIn []) (g .disconnected-first) i,
+            all-getD (λ (x : Node). x .connected ≡ false) (b .disconnected) j (nodeIn []) (g .formed .disconnected-first) i,
           )
 
       behind : n ≤ j → flagByte (place j .connected) ≡ stateAt n j
       behind i =
           let e : place j ≡ getD (b .connected) (j - n) (nodeIn []) =
           ap (λ (x : ℕ). getD (nodes b) x (nodeIn [])) (omega arith) ∙ getD-append-add (b .disconnected) (b .connected) (j - n) (nodeIn []) in
-          rw (le-ltb j n i, e, all-getD (λ (x : Node). x .connected ≡ true) (b .connected) (j - n) (nodeIn []) (g .then-connected) (omega arith))
+          rw (le-ltb j n i, e, all-getD (λ (x : Node). x .connected ≡ true) (b .connected) (j - n) (nodeIn []) (g .formed .then-connected) (omega arith))
 
   pending-passes : pendingFormed p written ≡ true
   pending-passes =
       rw (bucket-cut b)
-      (pending-formed p (b .pending) (placesBytes b) (length-places b (g .at-most)) (f .pending)
+      (pending-formed p (b .pending) (placesBytes b) (length-places b (g .formed .at-most)) (f .pending)
       (opt-map _ _
-      (λ q h. (h .0, rw (bucket-cut b) at (not-held (count b) (q .node .key) (omega arith) (λ j l. all-getD (λ (n : Node). same (n .key) (q .node .key) ≡ false) (nodes b) j (nodeIn []) (holds-none (q .node .key) b (h .1)) (rw length-nodes l)))))
-      (b .pending) (g .pending-fits)))
+      (λ q h. (h .0 .0, rw (bucket-cut b) at (not-held (numEntries b) (q .node .key) (omega arith) (λ j l. all-getD (λ (n : Node). same (n .key) (q .node .key) ≡ false) (nodes b) j (nodeIn []) (holds-none (q .node .key) b (h .1)) (rw length-nodes l)))))
+      (b .pending) (opt-both _ _ (b .pending) (g .of-index .pending) (g .formed .pending-apart))))
 
-  unused-zero : areZero written (2 + count b * nodeSize) ((maxNodes - count b) * nodeSize) ≡ true
+  unused-zero : areZero written (2 + numEntries b * nodeSize) ((maxNodesPerBucket - numEntries b) * nodeSize) ≡ true
   unfolding bucketBytes
   unused-zero =
-      let k : ℕ = (maxNodes - count b) * nodeSize in
+      let k : ℕ = (maxNodesPerBucket - numEntries b) * nodeSize in
       let ns : List ℕ = joined nodeBytes (nodes b) in
       let q : List ℕ = pendingBytes (b .pending) in
-      areZero-part written (2 + count b * nodeSize) k
-      (part-right (count b ∷ length (b .disconnected) ∷ []) (ns ++ (zeros k ++ q)) 2 (count b * nodeSize) k refl
-      ∙ part-between ns (zeros k) q (count b * nodeSize) k (length-held b) (length-replicate {A = ℕ} k 0))
+      areZero-part written (2 + numEntries b * nodeSize) k
+      (part-right (numEntries b ∷ length (b .disconnected) ∷ []) (ns ++ (zeros k ++ q)) 2 (numEntries b * nodeSize) k refl
+      ∙ part-between ns (zeros k) q (numEntries b * nodeSize) k (length-held b) (length-replicate {A = ℕ} k 0))
 
   bucket-checked : Checked p m written
   unfolding bucketBytes
   bucket-checked =
       record {
-        at-most = g .at-most;
-        different = λ j l. rw (key-at j l) (not-held j (place j .key) (omega arith) (λ i k. same-sym (place i .key) (place j .key) ∙ Different-getD (nodes b) (nodeIn []) (g .different) j (rw length-nodes l) i k));
-        of-index = λ j l. rw (key-at j l) (all-getD (λ (n : Node). p (n .key) ≡ true) (nodes b) j (nodeIn []) (g .of-index) (rw length-nodes l));
+        at-most = g .formed .at-most;
+        different = λ j l. rw (key-at j l) (not-held j (place j .key) (omega arith) (λ i k. same-sym (place i .key) (place j .key) ∙ Different-getD (nodes b) (nodeIn []) (g .formed .different) j (rw length-nodes l) i k));
+        of-index = λ j l. rw (key-at j l) (all-getD (λ (n : Node). p (n .key) ≡ true) (nodes b) j (nodeIn []) (g .of-index .held) (rw length-nodes l));
         states = λ j l. ap (λ (x : List ℕ). getD x keySize 0) (place-there b j (nodeIn []) l) ∙ node-state (place j) ∙ state-at j l;
         first = omega arith;
-        incoming-within = rw (nodes-there b f) (g .incoming-within);
+        incoming-within = rw (nodes-there b f) (g .formed .incoming-within);
         pending = pending-passes;
         codes = λ j l. rw (place-there b j (nodeIn []) l) (node-codes (place j));
         unused = unused-zero;

@@ -7,12 +7,12 @@ use native.Mathlib.Numerals.{add-one, one-add}
 use native.Mathlib.Omega.{arith}
 use lib.Arith.{digits-lt, digits-div, mod-mul}
 use lib.Pow.{pow-add}
-use lib.ListN.{length, getD, take, drop, set, length-append}
+use lib.ListN.{length, getD, take, drop, length-append}
 use lib.Seq.{getD-drop}
 use Rattle.model.specs.Base.{joined}
-use Rattle.model.specs.Bytes.{number, bytes, part, splice, zeros, Bytes}
+use Rattle.model.specs.Bytes.{number, bytes, part, zeros, Bytes}
 use Rattle.model.specs.Fits.{All}
-use Rattle.laws.proofs.Parts.{length-part, part-snoc, splice-snoc}
+use Rattle.laws.proofs.Parts.{length-part, part-snoc}
 
 -- numbers
 
@@ -95,13 +95,6 @@ number-there k x h = number-bytes k x ∙ mod-eq-of-lt h
 -- a number read byte by byte, the first first
 pub number-one-more : (s : List ℕ) (at i : ℕ) → at + i < length s → number (part s at (i + 1)) ≡ number (part s at i) * 256 + getD s (at + i) 0
 number-one-more s at i h = rw (part-snoc, number-snoc)
-
--- a number written byte by byte, the last first
-pub splice-one-less : (s : List ℕ) (at i x : ℕ) → at + suc i ≤ length s → splice (set s (at + i) (x % 256)) at (bytes i (x / 256)) ≡ splice s at (bytes (suc i) x)
-unfolding bytes
-splice-one-less s at i x h =
-    let n : length (bytes i (x / 256)) ≡ i = length-bytes i (x / 256) in
-    sym (splice-snoc s (bytes i (x / 256)) at (x % 256) (omega arith) ∙ rw n)
 
 -- a number of k bytes fits k bytes
 pub number-fits : (s : List ℕ) (at k : ℕ) → at + k ≤ length s → Bytes s → number (part s at k) < 256 ^ k

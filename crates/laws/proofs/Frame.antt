@@ -1,4 +1,4 @@
--- What a call does not touch: the buckets that are not named by `touched`, and the settings but for an accepted `new`.
+-- What a call does not touch: the buckets that are not named by `touched`.
 use Prim.Native.Nat.{ℕ}
 use mathlib.Core.Path.{_≡_, refl, ap, _∙_}
 use mathlib.Core.Bool.{Bool, true, false, cond}
@@ -10,10 +10,9 @@ use Rattle.model.specs.Node.{AppliedPending}
 use Rattle.model.specs.Bucket.{Bucket, applyPending}
 use Rattle.model.specs.Table.{Table, Answer, Effect, write, indexIn}
 use Rattle.model.specs.Call.{Call}
-use Rattle.model.specs.Listing.{applyAll, applies}
-use Rattle.model.specs.Question.{firstFailed}
-use Rattle.model.specs.Step.{onKey, takeOldest, act, questions, unlessRefused, step}
-use Rattle.model.specs.StepBytes.{indices, touched}
+use Rattle.model.specs.Listing.{indices, applyAll, applies}
+use Rattle.model.specs.Step.{onKey, takeOldest, act}
+use Rattle.model.specs.StepBytes.{touched}
 use Rattle.model.specs.Fits.{All}
 use Rattle.laws.proofs.Tests.{clash}
 
@@ -51,17 +50,9 @@ pub onKey-other : (t : Table) (self : Answer) (f : ℕ → Bucket → Effect) (o
 onKey-other t self f none i h = refl
 onKey-other t self f (some j) i h = write-other t i j (f j (t .buckets j) .bucket) (f j (t .buckets j) .records) (h .0)
 
-pub onKey-settings : (t : Table) (self : Answer) (f : ℕ → Bucket → Effect) (o : Option ℕ) → onKey t self f o .table .settings ≡ t .settings
-onKey-settings t self f none = refl
-onKey-settings t self f (some j) = refl
-
 pub takeOldest-buckets : (t : Table) (q : List AppliedPending) → takeOldest t q .table .buckets ≡ t .buckets
 takeOldest-buckets t [] = refl
 takeOldest-buckets t (a ∷ q) = refl
-
-pub takeOldest-settings : (t : Table) (q : List AppliedPending) → takeOldest t q .table .settings ≡ t .settings
-takeOldest-settings t [] = refl
-takeOldest-settings t (a ∷ q) = refl
 
 pub act-frame : (c : Call) (t : Table) (i : ℕ) → isNew c ≡ false → Untouched i (touched c t) → act c t .table .buckets i ≡ t .buckets i
 unfolding act
@@ -76,35 +67,3 @@ act-frame (Call.pendingUpdate k st dr) t i n h = onKey-other t _ _ (indexIn t (n
 act-frame (Call.absentInsert k v st dr now) t i n h = onKey-other t _ _ (indexIn t (number k)) i h
 act-frame (Call.list l n now out) t i m h = applyAll-other now i (applies l n now t) t h
 act-frame Call.takeAppliedPending t i n h = ap (λ (bs : ℕ → Bucket). bs i) (takeOldest-buckets t (t .queue))
-
-pub act-settings : (c : Call) (t : Table) → isNew c ≡ false → act c t .table .settings ≡ t .settings
-unfolding act
-act-settings (Call.new k timeout m tf bf) t n = clash refl n
-act-settings (Call.updateNodeStatus k st dr now) t n = onKey-settings t _ _ (indexIn t (number k))
-act-settings (Call.updateNode k v st now) t n = onKey-settings t _ _ (indexIn t (number k))
-act-settings (Call.insertOrUpdate k v st dr now) t n = onKey-settings t _ _ (indexIn t (number k))
-act-settings (Call.remove k now) t n = onKey-settings t _ _ (indexIn t (number k))
-act-settings (Call.entry k now) t n = onKey-settings t _ _ (indexIn t (number k))
-act-settings (Call.presentUpdate k st dr) t n = onKey-settings t _ _ (indexIn t (number k))
-act-settings (Call.pendingUpdate k st dr) t n = onKey-settings t _ _ (indexIn t (number k))
-act-settings (Call.absentInsert k v st dr now) t n = onKey-settings t _ _ (indexIn t (number k))
-act-settings (Call.list l n now out) t m = applyAll-settings now (applies l n now t) t
-act-settings Call.takeAppliedPending t n = takeOldest-settings t (t .queue)
-
--- a bucket that a call does not name as touched stays
-pub step-frame : (c : Call) (t : Table) (i : ℕ) → isNew c ≡ false → Untouched i (touched c t) → step c t .table .buckets i ≡ t .buckets i
-unfolding step
-step-frame c t i n h = answered (firstFailed (questions c t))
-  where
-    answered : (o : Option ℕ) → unlessRefused o c t .table .buckets i ≡ t .buckets i
-    answered none = act-frame c t i n h
-    answered (some q) = refl
-
--- no call but `new` changes the settings
-pub step-settings : (c : Call) (t : Table) → isNew c ≡ false → step c t .table .settings ≡ t .settings
-unfolding step
-step-settings c t n = answered (firstFailed (questions c t))
-  where
-    answered : (o : Option ℕ) → unlessRefused o c t .table .settings ≡ t .settings
-    answered none = act-settings c t n
-    answered (some q) = refl

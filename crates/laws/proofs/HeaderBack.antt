@@ -9,7 +9,7 @@ use lib.Dec.{leb}
 use borrow.Author.Tests.{leb-true}
 use Rattle.model.specs.Base.{joined, allBelow}
 use Rattle.model.specs.Bytes.{part, Bytes}
-use Rattle.model.specs.Bucket.{maxNodes}
+use Rattle.model.specs.Bucket.{maxNodesPerBucket}
 use Rattle.model.specs.Table.{maxRecords}
 use Rattle.model.specs.Sizes.{keySize, timeSize, recordSize, timeoutAt, maxIncomingAt, tableFilterAt, bucketFilterAt, recordCountAt, recordsAt, recordAt, headerSize}
 use Rattle.model.specs.Layout.{recordBytes, headerBytes, recordIn, settingsIn, recordPart, tableOf}
@@ -24,7 +24,7 @@ use Rattle.laws.proofs.All.{all-tabulate}
 
 -- what question 2 asks of the header, record by record
 pub record CheckedHeader (s : List ℕ) : Type 0 where
-  pub maxIncoming : getD s maxIncomingAt 0 ≤ maxNodes
+  pub maxIncoming : getD s maxIncomingAt 0 ≤ maxNodesPerBucket
   pub tableFilter : leb (getD s tableFilterAt 0) 1 ≡ true
   pub bucketFilter : leb (getD s bucketFilterAt 0) 1 ≡ true
   pub at-most : getD s recordCountAt 0 ≤ maxRecords
@@ -36,7 +36,7 @@ unfolding headerFormed
 checked-header s h =
     let n : ℕ = getD s recordCountAt 0 in
     let t =
-    conj-gives (leb (getD s maxIncomingAt 0) maxNodes)
+    conj-gives (leb (getD s maxIncomingAt 0) maxNodesPerBucket)
     (leb (getD s tableFilterAt 0) 1
     ∷ leb (getD s bucketFilterAt 0) 1
     ∷ leb n maxRecords
@@ -44,7 +44,7 @@ checked-header s h =
     ∷ areZero s (recordAt n) ((maxRecords - n) * recordSize)
     ∷ []) h in
     record {
-      maxIncoming = leb-true (getD s maxIncomingAt 0) maxNodes (t .0);
+      maxIncoming = leb-true (getD s maxIncomingAt 0) maxNodesPerBucket (t .0);
       tableFilter = t .1 .0;
       bucketFilter = t .1 .1 .0;
       at-most = leb-true n maxRecords (t .1 .1 .1 .0);

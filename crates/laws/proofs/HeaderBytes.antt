@@ -10,7 +10,7 @@ use borrow.Author.Tests.{le-leb}
 use Rattle.model.specs.Base.{joined, tabulate}
 use Rattle.model.specs.Bytes.{number, bytes, part, zeros, Bytes}
 use Rattle.model.specs.Node.{AppliedPending}
-use Rattle.model.specs.Bucket.{maxNodes}
+use Rattle.model.specs.Bucket.{maxNodesPerBucket}
 use Rattle.model.specs.Table.{Table, maxRecords}
 use Rattle.model.specs.Sizes.{keySize, timeSize, recordSize, timeoutAt, maxIncomingAt, tableFilterAt, bucketFilterAt, recordCountAt, recordsAt, recordAt, headerSize}
 use Rattle.model.specs.Layout.{flagByte, recordBytes, headerBytes, recordIn, settingsIn, recordPart}
@@ -174,7 +174,7 @@ module _ (t : Table) (r : List ℕ) where
         tableFilter-there,
         bucketFilter-there,
         recordCount-there,
-        le-leb (t .settings .bucket .maxIncoming) maxNodes (f .maxIncoming),
+        le-leb (t .settings .bucket .maxIncoming) maxNodesPerBucket (f .maxIncoming),
         flag-code (t .settings .tableFilter),
         flag-code (t .settings .bucket .filter),
         le-leb (length (t .queue)) maxRecords l,

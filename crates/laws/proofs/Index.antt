@@ -27,13 +27,18 @@ bucket-pos {i} {d} b = lt-of-lt-of-le (pow-pos i) (b .from)
 
 -- ---- bucket i's distances have the index i
 
+-- bucket i's distances have 255 - i leading zeros
+pub leading-is : (i d : ℕ) → i < 256 → InBucket i d → 255 - i ≡ leadingZeros 256 d
+leading-is i d h b =
+    let twice : 2 ^ suc i ≤ 2 * d + 1 = (let s : 2 ^ suc i ≡ 2 ^ i * 2 = pow-suc 2 i in omega (arith, b .from)) in
+    let sum : (255 - i) + suc i ≡ 256 = omega arith in
+    leading-unique 256 d (255 - i) (suc i) sum (b .below) twice
+
 pub log2-is : (i d : ℕ) → i < 256 → InBucket i d → some (i + 1) ≡ log2Of d
 log2-is i d h b =
     let p : 0 < d = bucket-pos b in
     let ne : eqb d 0 ≡ false = ne-eqb d 0 (λ e. omega arith) in
-    let twice : 2 ^ suc i ≤ 2 * d + 1 = (let s : 2 ^ suc i ≡ 2 ^ i * 2 = pow-suc 2 i in omega (arith, b .from)) in
-    let sum : (255 - i) + suc i ≡ 256 = omega arith in
-    let z : 255 - i ≡ leadingZeros 256 d = leading-unique 256 d (255 - i) (suc i) sum (b .below) twice in
+    let z = leading-is i d h b in
     let back : i + 1 ≡ 256 - leadingZeros 256 d = omega arith in
     ap {B = Option ℕ} some back ∙ ap (λ (t : Bool). cond {A = Option ℕ} t none (some (256 - leadingZeros 256 d))) (sym ne)
 
@@ -76,21 +81,6 @@ index-nothing d h e = go (some-bucket d h)
         let w : _≡_ {A = ℕ} 0 1 = cc in
         absurd (omega arith)
 
--- from the index to the log2 distance
-pub log2-at : (d i : ℕ) → d < 2 ^ 256 → indexOf d ≡ some i → some (i + 1) ≡ log2Of d
-log2-at d i h e = let b = index-at d i h e in log2-is i d (b .0) (b .1)
-
--- a log2 distance is one more than the bucket
-pub log2-gives : (d k : ℕ) → d < 2 ^ 256 → log2Of d ≡ some k → (i : ℕ) × (k ≡ i + 1) × (i < 256) × InBucket i d
-log2-gives d k h e = go (some-bucket d h)
-  where
-    go : (d ≡ 0) ⊎ ((j : ℕ) × (j < 256) × InBucket j d) → (i : ℕ) × (k ≡ i + 1) × (i < 256) × InBucket i d
-    go (inl z) = let n : none ≡ log2Of d = log2-none d z in let w : _≡_ {A = ℕ} 0 1 = cc in absurd (omega arith)
-    go (inr t) = (t .0, Option·some-injective k (t .0 + 1) (sym e ∙ sym (log2-is (t .0) d (t .1) (t .2))), t .1, t .2)
-
-pub log2-nothing : (d : ℕ) → d < 2 ^ 256 → indexOf d ≡ none → none ≡ log2Of d
-log2-nothing d h e = log2-none d (index-nothing d h e)
-
 -- ---- the same of the keys
 
 pub log2-distance : (local key : ℕ) → log2Distance local key ≡ log2Of (distance local key)
@@ -115,9 +105,6 @@ key-index-nothing local key l k e = index-nothing (distance local key) (xor-lt 2
 
 pub key-log2-is : (local key i : ℕ) → i < 256 → InBucket i (distance local key) → log2Distance local key ≡ some (i + 1)
 key-log2-is local key i h b = log2-distance local key ∙ sym (log2-is i (distance local key) h b)
-
-pub key-log2-at : (local key i : ℕ) → local < 2 ^ 256 → key < 2 ^ 256 → bucketIndex local key ≡ some i → log2Distance local key ≡ some (i + 1)
-key-log2-at local key i l k e = let b = key-index-at local key i l k e in key-log2-is local key i (b .0) (b .1)
 
 pub key-log2-none : (local key : ℕ) → distance local key ≡ 0 → log2Distance local key ≡ none
 key-log2-none local key e = log2-distance local key ∙ sym (log2-none (distance local key) e)
@@ -184,51 +171,3 @@ module _ (w0 w1 w2 w3 : ℕ) (h0 : w0 < 2 ^ 64) (h1 : w1 < 2 ^ 64) (h2 : w2 < 2 
 
   pub all-zero : w0 ≡ 0 → w1 ≡ 0 → w2 ≡ 0 → w3 ≡ 0 → n ≡ 0
   all-zero x y z u = both-zero ((w0 * 2 ^ 64 + w1) * 2 ^ 64 + w2) w3 (three-zero x y z) u
-
-  -- the index, by the leading zeros of that word
-  pub index0 : (w0 ≡ 0 → ⊥) → some (255 - leadingZeros 64 w0) ≡ indexOf n
-  index0 z = let t = top0 z in index-is (255 - leadingZeros 64 w0) n (t .0) (t .1)
-
-  pub index1 : w0 ≡ 0 → (w1 ≡ 0 → ⊥) → some (191 - leadingZeros 64 w1) ≡ indexOf n
-  index1 y z = let t = top1 y z in index-is (191 - leadingZeros 64 w1) n (t .0) (t .1)
-
-  pub index2 : w0 ≡ 0 → w1 ≡ 0 → (w2 ≡ 0 → ⊥) → some (127 - leadingZeros 64 w2) ≡ indexOf n
-  index2 x y z = let t = top2 x y z in index-is (127 - leadingZeros 64 w2) n (t .0) (t .1)
-
-  pub index3 : w0 ≡ 0 → w1 ≡ 0 → w2 ≡ 0 → (w3 ≡ 0 → ⊥) → some (63 - leadingZeros 64 w3) ≡ indexOf n
-  index3 x y z u = let t = top3 x y z u in index-is (63 - leadingZeros 64 w3) n (t .0) (t .1)
-
-  pub index4 : w0 ≡ 0 → w1 ≡ 0 → w2 ≡ 0 → w3 ≡ 0 → none ≡ indexOf n
-  index4 x y z u = index-none n (all-zero x y z u)
-
-  -- and the log2 distance
-  pub log2-0 : (w0 ≡ 0 → ⊥) → some (256 - leadingZeros 64 w0) ≡ log2Of n
-  log2-0 z =
-      let t = top0 z in
-      let s = word-top w0 h0 z in
-      let e : 256 - leadingZeros 64 w0 ≡ 255 - leadingZeros 64 w0 + 1 = omega (arith, s .1) in
-      ap {B = Option ℕ} some e ∙ log2-is (255 - leadingZeros 64 w0) n (t .0) (t .1)
-
-  pub log2-1 : w0 ≡ 0 → (w1 ≡ 0 → ⊥) → some (192 - leadingZeros 64 w1) ≡ log2Of n
-  log2-1 y z =
-      let t = top1 y z in
-      let s = word-top w1 h1 z in
-      let e : 192 - leadingZeros 64 w1 ≡ 191 - leadingZeros 64 w1 + 1 = omega (arith, s .1) in
-      ap {B = Option ℕ} some e ∙ log2-is (191 - leadingZeros 64 w1) n (t .0) (t .1)
-
-  pub log2-2 : w0 ≡ 0 → w1 ≡ 0 → (w2 ≡ 0 → ⊥) → some (128 - leadingZeros 64 w2) ≡ log2Of n
-  log2-2 x y z =
-      let t = top2 x y z in
-      let s = word-top w2 h2 z in
-      let e : 128 - leadingZeros 64 w2 ≡ 127 - leadingZeros 64 w2 + 1 = omega (arith, s .1) in
-      ap {B = Option ℕ} some e ∙ log2-is (127 - leadingZeros 64 w2) n (t .0) (t .1)
-
-  pub log2-3 : w0 ≡ 0 → w1 ≡ 0 → w2 ≡ 0 → (w3 ≡ 0 → ⊥) → some (64 - leadingZeros 64 w3) ≡ log2Of n
-  log2-3 x y z u =
-      let t = top3 x y z u in
-      let s = word-top w3 h3 u in
-      let e : 64 - leadingZeros 64 w3 ≡ 63 - leadingZeros 64 w3 + 1 = omega (arith, s .1) in
-      ap {B = Option ℕ} some e ∙ log2-is (63 - leadingZeros 64 w3) n (t .0) (t .1)
-
-  pub log2-4 : w0 ≡ 0 → w1 ≡ 0 → w2 ≡ 0 → w3 ≡ 0 → none ≡ log2Of n
-  log2-4 x y z u = log2-none n (all-zero x y z u)

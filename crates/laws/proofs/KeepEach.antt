@@ -9,16 +9,11 @@ use Rattle.model.specs.Base.{same}
 use Rattle.model.specs.Value.{Value, sameValue}
 use Rattle.model.specs.Node.{Node, PendingNode, AppliedPending, withStatus, withValue}
 use Rattle.model.specs.Result.{BucketInsertResult, FailureReason, UpdateResult, isInserted}
-use Rattle.model.specs.Bucket.{Bucket, BucketSettings, nodes, isFull, holds, lookup, failsBucketFilter, isMaxIncoming, withPending, cleared, put, placed, takeOut, insertFull, insert, applyFull, applyDue, applyIfDue, applyPending, reinsert, isFirst, updateIfPending, updateStatusOf, updateStatus, updateValueOf, updateValue, pendingWithStatus, updatePending, remove}
-use Rattle.model.specs.Fits.{All, Opt}
+use Rattle.model.specs.Bucket.{Bucket, BucketSettings, nodes, isFull, holds, get, failsBucketFilter, isMaxIncoming, withPending, cleared, put, placed, takeOut, insertFull, insert, applyFull, applyDue, applyIfDue, applyPending, reinsert, isFirst, takenOut, updateIfPending, updateStatusOf, updateStatus, updateValueOf, updateValue, pendingWithStatus, updatePending, remove}
+use Rattle.model.specs.Fits.{All, Opt, Each}
 use Rattle.laws.proofs.Tests.{cases}
-use Rattle.laws.proofs.KeepLists.{put-between, omit-append, all-omit, revalue-append, all-revalue, all-find, lookup-nodes}
+use Rattle.laws.proofs.KeepLists.{put-between, omit-append, all-omit, revalue-append, all-revalue, all-find, get-nodes}
 use Rattle.laws.proofs.All.{all-insert}
-
--- every node has the property P, and a pending's deadline the property D
-pub record Each (P : Node → Type 0) (D : ℕ → Type 0) (b : Bucket) : Type 0 where
-  pub held : All P (nodes b)
-  pub pending : Opt (λ (p : PendingNode). P (p .node) × D (p .deadline)) (b .pending)
 
 -- a record's key is a node's that had the property, and so is the node that it evicted
 abbrev pub EachRecord : (Node → Type 0) → (ℕ → Type 0) → List AppliedPending → Type 0
@@ -77,30 +72,37 @@ module _ (P : Node → Type 0) (D : ℕ → Type 0) where
       (λ _. subst⁻¹ (λ (t : Bool). Q (cond t (insertFull s now n b (n .connected) (b .disconnected) (b .pending)) (BucketInsertResult.Inserted, placed n b))) f
       (placed-each n b h e))))
 
-  applyFull-each : (s : BucketSettings) (n : Node) (b : Bucket) (ds : List Node) → ds ≡ b .disconnected → P n → Each P D b → Each P D (applyFull s n b ds .0)
-  applyFull-each s n b [] q h e = e
-  applyFull-each s n b (x ∷ ds) q h e =
-      cases (λ (r : Bucket × List AppliedPending). Each P D (r .0)) (failsBucketFilter s (n .value) b || isMaxIncoming s n b) (λ _. e)
-      (λ _. put-each n (record { disconnected = ds; connected = b .connected; pending = none }) h
-      (record { held = subst⁻¹ (λ (l : List Node). All P (l ++ b .connected)) q (e .held) .1; pending = tt }))
+  -- applying, with the records that it gives
+  module _ (K : ℕ → Type 0) (key : (n : Node) → P n → K (n .key)) where
+    abbrev Kept : Bucket × List AppliedPending → Type 0
+    Kept r = Each P D (r .0) × EachRecord P K (r .1)
 
-  applyDue-each : (s : BucketSettings) (now : ℕ) (n : Node) (b : Bucket) → P n → Each P D b → Each P D (applyDue s now n b .0)
-  unfolding applyDue
-  applyDue-each s now n b h e =
-      let Q : Bucket × List AppliedPending → Type 0 = λ r. Each P D (r .0) in
-      cases Q (isFull b) (λ _. applyFull-each s n b (b .disconnected) refl h e)
-      (λ f. cases Q (isInserted (insert s now n b .0)) (λ _. insert-free-each s now n b f h e) (λ _. e))
+    applyFull-kept : (s : BucketSettings) (n : Node) (b : Bucket) (ds : List Node) → ds ≡ b .disconnected → P n → Each P D b → Kept (applyFull s n b ds)
+    applyFull-kept s n b [] q h e = (e, tt)
+    applyFull-kept s n b (x ∷ ds) q h e =
+        let l : All P ((x ∷ ds) ++ b .connected) = subst⁻¹ (λ (l : List Node). All P (l ++ b .connected)) q (e .held) in
+        cases Kept (failsBucketFilter s (n .value) b || isMaxIncoming s n b) (λ _. (e, tt))
+        (λ _. (put-each n (record { disconnected = ds; connected = b .connected; pending = none }) h (record { held = l .1; pending = tt }), ((key n h, l .0), tt)))
 
-  applyIfDue-each : (s : BucketSettings) (now : ℕ) (b : Bucket) (p : Option PendingNode) → Opt (λ (q : PendingNode). P (q .node) × D (q .deadline)) p
-      → Each P D b → Each P D (applyIfDue s now b p .0)
-  applyIfDue-each s now b none h e = e
-  applyIfDue-each s now b (some p) h e =
-      cases (λ (r : Bucket × List AppliedPending). Each P D (r .0)) (leb (p .deadline) now)
-      (λ _. applyDue-each s now (p .node) (withPending none b) (h .0) (withPending-each none b e tt)) (λ _. e)
+    applyDue-kept : (s : BucketSettings) (now : ℕ) (n : Node) (b : Bucket) → P n → Each P D b → Kept (applyDue s now n b)
+    unfolding applyDue
+    applyDue-kept s now n b h e =
+        cases Kept (isFull b) (λ _. applyFull-kept s n b (b .disconnected) refl h e)
+        (λ f. cases Kept (isInserted (insert s now n b .0)) (λ _. (insert-free-each s now n b f h e, ((key n h, tt), tt))) (λ _. (e, tt)))
+
+    applyIfDue-kept : (s : BucketSettings) (now : ℕ) (b : Bucket) (p : Option PendingNode) → Opt (λ (q : PendingNode). P (q .node) × D (q .deadline)) p
+        → Each P D b → Kept (applyIfDue s now b p)
+    applyIfDue-kept s now b none h e = (e, tt)
+    applyIfDue-kept s now b (some p) h e =
+        cases Kept (leb (p .deadline) now)
+        (λ _. applyDue-kept s now (p .node) (withPending none b) (h .0) (withPending-each none b e tt)) (λ _. (e, tt))
+
+    pub applyPending-kept : (s : BucketSettings) (now : ℕ) (b : Bucket) → Each P D b → Kept (applyPending s now b)
+    unfolding applyPending
+    applyPending-kept s now b e = applyIfDue-kept s now b (b .pending) (e .pending) e
 
   pub applyPending-each : (s : BucketSettings) (now : ℕ) (b : Bucket) → Each P D b → Each P D (applyPending s now b .0)
-  unfolding applyPending
-  applyPending-each s now b e = applyIfDue-each s now b (b .pending) (e .pending) e
+  applyPending-each s now b e = applyPending-kept (λ k. Unit {0}) (λ n h. tt) s now b e .0
 
   pub reinsert-each : (s : BucketSettings) (n : Node) (b : Bucket) → P n → Each P D b → Each P D (reinsert s n b .1)
   unfolding reinsert
@@ -118,18 +120,18 @@ module _ (P : Node → Type 0) (D : ℕ → Type 0) where
       → Opt P o → Each P D b → Each P D (updateStatusOf s k u d b o .1)
   updateStatusOf-each s k u d b none g h e = updateIfPending-each k (withStatus u d) b (b .pending) g (e .pending) e
   updateStatusOf-each s k u d b (some n) g h e =
-      reinsert-each s (withStatus u d n) (withPending (cond (u && isFirst k (nodes b)) none (b .pending)) (takeOut k b)) (g n h)
+      reinsert-each s (withStatus u d n) (takenOut k u b) (g n h)
       (withPending-each _ (takeOut k b) (takeOut-each k b e)
       (cases (Opt (λ (q : PendingNode). P (q .node) × D (q .deadline))) (u && isFirst k (nodes b)) (λ _. tt) (λ _. e .pending)))
 
   -- the node that is found
-  lookup-each : (k : ℕ) (b : Bucket) → Each P D b → Opt P (lookup k b)
-  lookup-each k b e = subst⁻¹ (Opt P) (lookup-nodes k b) (all-find P k (nodes b) (e .held))
+  get-each : (k : ℕ) (b : Bucket) → Each P D b → Opt P (get k b)
+  get-each k b e = subst⁻¹ (Opt P) (get-nodes k b) (all-find P k (nodes b) (e .held))
 
   pub updateStatus-each : (s : BucketSettings) (k : ℕ) (u : Bool) (d : Option Bool) (b : Bucket) → ((n : Node) → P n → P (withStatus u d n))
       → Each P D b → Each P D (updateStatus s k u d b .1)
   unfolding updateStatus
-  updateStatus-each s k u d b g e = updateStatusOf-each s k u d b (lookup k b) g (lookup-each k b e) e
+  updateStatus-each s k u d b g e = updateStatusOf-each s k u d b (get k b) g (get-each k b e) e
 
   updateValueOf-each : (s : BucketSettings) (k : ℕ) (v : Value) (b : Bucket) (o : Option Node) → ((n : Node) → P n → P (withValue v n))
       → Each P D b → Each P D (updateValueOf s k v b o .1)
@@ -146,7 +148,7 @@ module _ (P : Node → Type 0) (D : ℕ → Type 0) where
   pub updateValue-each : (s : BucketSettings) (k : ℕ) (v : Value) (b : Bucket) → ((n : Node) → P n → P (withValue v n))
       → Each P D b → Each P D (updateValue s k v b .1)
   unfolding updateValue
-  updateValue-each s k v b g e = updateValueOf-each s k v b (lookup k b) g e
+  updateValue-each s k v b g e = updateValueOf-each s k v b (get k b) g e
 
   pub updatePending-each : (u d : Bool) (b : Bucket) → ((n : Node) → P n → P (withStatus u (some d) n)) → Each P D b → Each P D (updatePending u d b)
   unfolding updatePending
@@ -161,29 +163,3 @@ module _ (P : Node → Type 0) (D : ℕ → Type 0) where
   unfolding remove
   remove-each s now k b e =
       cases (λ (r : Bool × Bucket). Each P D (r .1)) (holds k b) (λ _. applyPending-each s now (takeOut k b) (takeOut-each k b e)) (λ _. e)
-
-  -- the records that applying gives
-  module _ (K : ℕ → Type 0) (key : (n : Node) → P n → K (n .key)) where
-    applyFull-records : (s : BucketSettings) (n : Node) (b : Bucket) (ds : List Node) → ds ≡ b .disconnected → P n → Each P D b → EachRecord P K (applyFull s n b ds .1)
-    applyFull-records s n b [] q h e = tt
-    applyFull-records s n b (x ∷ ds) q h e =
-        cases (λ (r : Bucket × List AppliedPending). EachRecord P K (r .1)) (failsBucketFilter s (n .value) b || isMaxIncoming s n b) (λ _. tt)
-        (λ _. ((key n h, subst⁻¹ (λ (l : List Node). All P (l ++ b .connected)) q (e .held) .0), tt))
-
-    applyDue-records : (s : BucketSettings) (now : ℕ) (n : Node) (b : Bucket) → P n → Each P D b → EachRecord P K (applyDue s now n b .1)
-    unfolding applyDue
-    applyDue-records s now n b h e =
-        let Q : Bucket × List AppliedPending → Type 0 = λ r. EachRecord P K (r .1) in
-        cases Q (isFull b) (λ _. applyFull-records s n b (b .disconnected) refl h e)
-        (λ f. cases Q (isInserted (insert s now n b .0)) (λ _. ((key n h, tt), tt)) (λ _. tt))
-
-    applyIfDue-records : (s : BucketSettings) (now : ℕ) (b : Bucket) (p : Option PendingNode) → Opt (λ (q : PendingNode). P (q .node) × D (q .deadline)) p
-        → Each P D b → EachRecord P K (applyIfDue s now b p .1)
-    applyIfDue-records s now b none h e = tt
-    applyIfDue-records s now b (some p) h e =
-        cases (λ (r : Bucket × List AppliedPending). EachRecord P K (r .1)) (leb (p .deadline) now)
-        (λ _. applyDue-records s now (p .node) (withPending none b) (h .0) (withPending-each none b e tt)) (λ _. tt)
-
-    pub applyPending-records : (s : BucketSettings) (now : ℕ) (b : Bucket) → Each P D b → EachRecord P K (applyPending s now b .1)
-    unfolding applyPending
-    applyPending-records s now b e = applyIfDue-records s now b (b .pending) (e .pending) e

@@ -2,45 +2,32 @@
 use Prim.Native.Nat.{ℕ, suc, _≤_, _<_}
 use native.Mathlib.Omega.{arith}
 use mathlib.Core.Path.{_≡_, refl, sym, ap, _∙_, subst, subst⁻¹}
-use mathlib.Core.Bool.{Bool, true, false, cond, not, _&&_, _||_}
+use mathlib.Core.Bool.{Bool, true, false, not, _&&_, _||_}
 use mathlib.Core.List.{List, [], _∷_, _++_}
 use mathlib.Core.Option.{Option, none, some}
 use lib.ListN.{length, length-append}
 use lib.Dec.{leb}
-use borrow.Author.Tests.{leb-false, leb-true, lt-leb}
+use borrow.Author.Tests.{leb-false, lt-leb}
 use Rattle.model.specs.Base.{same, isSome}
 use Rattle.model.specs.Value.{Value, sameValue}
 use Rattle.model.specs.Node.{Node, PendingNode, AppliedPending, connectedIncoming, withStatus, withValue}
 use Rattle.model.specs.Result.{BucketInsertResult, FailureReason, UpdateResult, isInserted}
-use Rattle.model.specs.Bucket.{Bucket, BucketSettings, maxNodes, emptyBucket, nodes, count, isFull, holds, lookup, failsBucketFilter, incomingNodes, isMaxIncoming, withPending, cleared, only, put, placed, omit, takeOut, insertFull, insert, applyFull, applyDue, applyIfDue, applyPending, reinsert, isFirst, updateIfPending, updateStatusOf, updateStatus, revalue, updateValueOf, updateValue, pendingWithStatus, updatePending, remove}
-use Rattle.model.specs.Fits.{All, Opt, Different}
+use Rattle.model.specs.Bucket.{Bucket, BucketSettings, maxNodesPerBucket, emptyBucket, nodes, numEntries, isFull, holds, get, failsBucketFilter, incomingNodes, isMaxIncoming, withPending, cleared, only, put, placed, omit, takeOut, insertFull, insert, applyFull, applyDue, applyIfDue, applyPending, reinsert, isFirst, takenOut, updateIfPending, updateStatusOf, updateStatus, revalue, updateValueOf, updateValue, pendingWithStatus, updatePending, remove}
+use Rattle.model.specs.Fits.{All, Opt, Different, Formed}
 use Rattle.laws.proofs.Tests.{cases, or-right, same-sym}
-use Rattle.laws.proofs.KeepLists.{lookup-key, more-mono, incoming-rest, Without, different-insert, put-between, more, more-within, length-select-insert, length-insert, lookup-nodes, holds-without, without-holds, omit-append, all-omit, without-omit, different-omit, length-omit, length-omit-held, incoming-omit, revalue-append, all-revalue, different-revalue, length-revalue, incoming-revalue}
+use Rattle.laws.proofs.KeepLists.{get-key, more-mono, incoming-rest, Without, different-insert, put-between, more, more-within, length-select-insert, length-insert, get-nodes, holds-without, without-holds, omit-append, all-omit, without-omit, different-omit, length-omit, length-omit-held, incoming-omit, revalue-append, all-revalue, different-revalue, length-revalue, incoming-revalue}
 use Rattle.laws.proofs.All.{all-append, all-insert, opt-map}
 
--- what question 2 asks of a bucket, all but the index
-pub record Formed (maxIncoming : ℕ) (b : Bucket) : Type 0 where
-  pub at-most : count b ≤ maxNodes
-  pub different : Different (nodes b)
-  pub disconnected-first : All (λ (n : Node). n .connected ≡ false) (b .disconnected)
-  pub then-connected : All (λ (n : Node). n .connected ≡ true) (b .connected)
-  pub incoming-within : length (incomingNodes (nodes b)) ≤ maxIncoming
-  pub pending-apart : Opt (λ (p : PendingNode). holds (p .node .key) b ≡ false) (b .pending)
-
-pub count-nodes : (b : Bucket) → count b ≡ length (nodes b)
+pub count-nodes : (b : Bucket) → numEntries b ≡ length (nodes b)
 count-nodes b = sym (length-append (b .disconnected) (b .connected))
 
-pub full-count : (b : Bucket) → isFull b ≡ true → maxNodes ≤ count b
+pub free-count : (b : Bucket) → isFull b ≡ false → numEntries b < maxNodesPerBucket
 unfolding isFull
-full-count b e = leb-true maxNodes (count b) e
+free-count b e = leb-false maxNodesPerBucket (numEntries b) e
 
-pub free-count : (b : Bucket) → isFull b ≡ false → count b < maxNodes
+pub free-isFull : (b : Bucket) → numEntries b < maxNodesPerBucket → isFull b ≡ false
 unfolding isFull
-free-count b e = leb-false maxNodes (count b) e
-
-pub free-isFull : (b : Bucket) → count b < maxNodes → isFull b ≡ false
-unfolding isFull
-free-isFull b c = lt-leb maxNodes (count b) c
+free-isFull b c = lt-leb maxNodesPerBucket (numEntries b) c
 
 -- a node that is not at the maximum leaves the connected incoming nodes within it
 incoming-room : (s : BucketSettings) (n : Node) (b : Bucket) → isMaxIncoming s n b ≡ false → length (incomingNodes (nodes b)) ≤ s .maxIncoming
@@ -68,7 +55,7 @@ withPending-formed m p b w h =
 pub nodes-put : (Q : List Node → Type 0) (n : Node) (b : Bucket) → ((xs ys : List Node) → xs ++ ys ≡ nodes b → Q (xs ++ (n ∷ ys))) → Q (nodes (put n b))
 nodes-put Q n b h = put-between Q (n .connected) n (b .disconnected) (b .connected) h
 
-pub count-put : (n : Node) (b : Bucket) → count (put n b) ≡ suc (count b)
+pub count-put : (n : Node) (b : Bucket) → numEntries (put n b) ≡ suc (numEntries b)
 count-put n b =
     count-nodes (put n b)
     ∙ nodes-put (λ (l : List Node). length l ≡ suc (length (nodes b))) n b (λ xs ys q. length-insert n xs ys ∙ ap (λ (l : List Node). suc (length l)) q)
@@ -94,11 +81,11 @@ opt-apart n b (some p) e h = holds-put n (p .node .key) b e h
 
 -- a node of a new key is placed
 pub put-formed : (m : ℕ) (n : Node) (b : Bucket) → Formed m b → holds (n .key) b ≡ false
-    → Opt (λ (p : PendingNode). same (n .key) (p .node .key) ≡ false) (b .pending) → count b < maxNodes
+    → Opt (λ (p : PendingNode). same (n .key) (p .node .key) ≡ false) (b .pending) → numEntries b < maxNodesPerBucket
     → more (connectedIncoming n) (length (incomingNodes (nodes b))) ≤ m → Formed m (put n b)
 put-formed m n b w a p c i =
     record {
-      at-most = subst⁻¹ (λ (x : ℕ). x ≤ maxNodes) (count-put n b) c;
+      at-most = subst⁻¹ (λ (x : ℕ). x ≤ maxNodesPerBucket) (count-put n b) c;
       different =
           nodes-put Different n b
           (λ xs ys q. different-insert n xs ys (subst⁻¹ (Without (n .key)) q (holds-without (n .key) b a)) (subst⁻¹ Different q (w .different)));
@@ -124,7 +111,7 @@ cleared-opt : (P : PendingNode → Type 0) (k : ℕ) (o : Option PendingNode) �
 cleared-opt P k none h = tt
 cleared-opt P k (some p) h = cases (Opt P) (same (p .node .key) k) (λ _. tt) (λ _. h)
 
-pub placed-formed : (s : BucketSettings) (n : Node) (b : Bucket) → Formed (s .maxIncoming) b → holds (n .key) b ≡ false → count b < maxNodes
+pub placed-formed : (s : BucketSettings) (n : Node) (b : Bucket) → Formed (s .maxIncoming) b → holds (n .key) b ≡ false → numEntries b < maxNodesPerBucket
     → isMaxIncoming s n b ≡ false → Formed (s .maxIncoming) (placed n b)
 placed-formed s n b w a c i =
     put-formed (s .maxIncoming) n (withPending (cleared (n .key) (b .pending)) b)
@@ -144,11 +131,11 @@ takeOut-holds j k b h =
     without-holds j (takeOut k b)
     (subst (Without j) (nodes-takeOut k b) (all-omit (λ (m : Node). same (m .key) j ≡ false) k (nodes b) (holds-without j b h)))
 
-pub count-takeOut-held : (k : ℕ) (b : Bucket) → holds k b ≡ true → count (takeOut k b) < count b
+pub count-takeOut-held : (k : ℕ) (b : Bucket) → holds k b ≡ true → numEntries (takeOut k b) < numEntries b
 count-takeOut-held k b h =
     let e = count-nodes (takeOut k b) ∙ sym (ap length (nodes-takeOut k b)) in
     let f = count-nodes b in
-    let l = length-omit-held k (nodes b) (sym (ap isSome (lookup-nodes k b)) ∙ h) in
+    let l = length-omit-held k (nodes b) (sym (ap isSome (get-nodes k b)) ∙ h) in
     omega arith
 
 pub takeOut-formed : (m k : ℕ) (b : Bucket) → Formed m b → Formed m (takeOut k b)
@@ -233,7 +220,7 @@ pub applyPending-formed : (s : BucketSettings) (now : ℕ) (b : Bucket) → Form
 unfolding applyPending
 applyPending-formed s now b w = applyIfDue-formed s now b (b .pending) (w .pending-apart) w
 
-pub reinsert-formed : (s : BucketSettings) (n : Node) (b : Bucket) → Formed (s .maxIncoming) b → holds (n .key) b ≡ false → count b < maxNodes
+pub reinsert-formed : (s : BucketSettings) (n : Node) (b : Bucket) → Formed (s .maxIncoming) b → holds (n .key) b ≡ false → numEntries b < maxNodesPerBucket
     → Formed (s .maxIncoming) (reinsert s n b .1)
 unfolding reinsert
 reinsert-formed s n b w h c =
@@ -248,22 +235,22 @@ updateIfPending-formed m k f b (some p) g h w =
     cases (λ (r : UpdateResult × Bucket). Formed m (r .1)) (same (p .node .key) k)
     (λ _. withPending-formed m _ b w (ap (λ (x : ℕ). holds x b) (g (p .node)) ∙ h)) (λ _. w)
 
-updateStatusOf-formed : (s : BucketSettings) (k : ℕ) (u : Bool) (d : Option Bool) (b : Bucket) (o : Option Node) → lookup k b ≡ o
+updateStatusOf-formed : (s : BucketSettings) (k : ℕ) (u : Bool) (d : Option Bool) (b : Bucket) (o : Option Node) → get k b ≡ o
     → Formed (s .maxIncoming) b → Formed (s .maxIncoming) (updateStatusOf s k u d b o .1)
 updateStatusOf-formed s k u d b none e w = updateIfPending-formed (s .maxIncoming) k (withStatus u d) b (b .pending) (λ n. refl) (w .pending-apart) w
 updateStatusOf-formed s k u d b (some n) e w =
     let out : Formed (s .maxIncoming) (takeOut k b) = takeOut-formed (s .maxIncoming) k b w in
     let less = count-takeOut-held k b (ap isSome e) in
     let most = w .at-most in
-    reinsert-formed s (withStatus u d n) (withPending (cond (u && isFirst k (nodes b)) none (b .pending)) (takeOut k b))
+    reinsert-formed s (withStatus u d n) (takenOut k u b)
     (withPending-formed (s .maxIncoming) _ (takeOut k b) out
     (cases (Opt (λ (p : PendingNode). holds (p .node .key) (takeOut k b) ≡ false)) (u && isFirst k (nodes b)) (λ _. tt) (λ _. out .pending-apart)))
-    (ap (λ (x : ℕ). holds x (takeOut k b)) (subst (Opt (λ (m : Node). m .key ≡ k)) e (lookup-key k b)) ∙ takeOut-without k b) (omega arith)
+    (ap (λ (x : ℕ). holds x (takeOut k b)) (subst (Opt (λ (m : Node). m .key ≡ k)) e (get-key k b)) ∙ takeOut-without k b) (omega arith)
 
 pub updateStatus-formed : (s : BucketSettings) (k : ℕ) (u : Bool) (d : Option Bool) (b : Bucket) → Formed (s .maxIncoming) b
     → Formed (s .maxIncoming) (updateStatus s k u d b .1)
 unfolding updateStatus
-updateStatus-formed s k u d b w = updateStatusOf-formed s k u d b (lookup k b) refl w
+updateStatus-formed s k u d b w = updateStatusOf-formed s k u d b (get k b) refl w
 
 -- another value in the key's place
 pub nodes-revalue : (k : ℕ) (v : Value) (b : Bucket)
@@ -299,7 +286,7 @@ updateValueOf-formed s k v b (some n) w =
 
 pub updateValue-formed : (s : BucketSettings) (k : ℕ) (v : Value) (b : Bucket) → Formed (s .maxIncoming) b → Formed (s .maxIncoming) (updateValue s k v b .1)
 unfolding updateValue
-updateValue-formed s k v b w = updateValueOf-formed s k v b (lookup k b) w
+updateValue-formed s k v b w = updateValueOf-formed s k v b (get k b) w
 
 pub updatePending-formed : (m : ℕ) (u d : Bool) (b : Bucket) → Formed m b → Formed m (updatePending u d b)
 unfolding updatePending

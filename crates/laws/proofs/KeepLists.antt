@@ -9,7 +9,7 @@ use lib.ListN.{length}
 use Rattle.model.specs.Base.{same, select, isSome}
 use Rattle.model.specs.Value.{Value}
 use Rattle.model.specs.Node.{Node, connectedIncoming, withValue}
-use Rattle.model.specs.Bucket.{Bucket, find, orElse, lookup, holds, nodes, only, omit, revalue, incomingNodes}
+use Rattle.model.specs.Bucket.{Bucket, find, orElse, get, holds, nodes, only, omit, revalue, incomingNodes}
 use Rattle.model.specs.Fits.{All, Opt, Different}
 use Rattle.laws.proofs.All.{all-insert}
 use Rattle.laws.proofs.Tests.{same-true, same-of, clash, cases, split, same-sym}
@@ -92,8 +92,8 @@ pub find-insert : (k : ℕ) (n : Node) (xs ys : List Node) → n .key ≡ k → 
 find-insert k n [] ys e = subst⁻¹ (λ (t : Bool). isSome (cond t (some n) (find k ys)) ≡ true) (same-of (n .key) k e) refl
 find-insert k n (x ∷ xs) ys e = cases (λ (o : Option Node). isSome o ≡ true) (same (x .key) k) (λ _. refl) (λ _. find-insert k n xs ys e)
 
-pub lookup-nodes : (k : ℕ) (b : Bucket) → lookup k b ≡ find k (nodes b)
-lookup-nodes k b = sym (find-append k (b .disconnected) (b .connected))
+pub get-nodes : (k : ℕ) (b : Bucket) → get k b ≡ find k (nodes b)
+get-nodes k b = sym (find-append k (b .disconnected) (b .connected))
 
 without-find : (k : ℕ) (ns : List Node) → Without k ns → find k ns ≡ none
 without-find k [] h = refl
@@ -108,10 +108,10 @@ find-without k (n ∷ ns) h =
 
 -- a key is not held exactly when no node of the bucket has it
 pub holds-without : (k : ℕ) (b : Bucket) → holds k b ≡ false → Without k (nodes b)
-holds-without k b h = find-without k (nodes b) (sym (ap isSome (lookup-nodes k b)) ∙ h)
+holds-without k b h = find-without k (nodes b) (sym (ap isSome (get-nodes k b)) ∙ h)
 
 pub without-holds : (k : ℕ) (b : Bucket) → Without k (nodes b) → holds k b ≡ false
-without-holds k b h = ap isSome (lookup-nodes k b ∙ without-find k (nodes b) h)
+without-holds k b h = ap isSome (get-nodes k b ∙ without-find k (nodes b) h)
 
 -- the node that is found has the property that every node has
 pub all-find : (P : Node → Type 0) (k : ℕ) (ns : List Node) → All P ns → Opt P (find k ns)
@@ -123,8 +123,8 @@ pub find-key : (k : ℕ) (ns : List Node) → Opt (λ (n : Node). n .key ≡ k) 
 find-key k [] = tt
 find-key k (n ∷ ns) = cases (Opt (λ (m : Node). m .key ≡ k)) (same (n .key) k) (λ e. same-true (n .key) k e) (λ _. find-key k ns)
 
-pub lookup-key : (k : ℕ) (b : Bucket) → Opt (λ (n : Node). n .key ≡ k) (lookup k b)
-lookup-key k b = subst⁻¹ (Opt (λ (n : Node). n .key ≡ k)) (lookup-nodes k b) (find-key k (nodes b))
+pub get-key : (k : ℕ) (b : Bucket) → Opt (λ (n : Node). n .key ≡ k) (get k b)
+get-key k b = subst⁻¹ (Opt (λ (n : Node). n .key ≡ k)) (get-nodes k b) (find-key k (nodes b))
 
 -- a key taken out
 pub omit-append : (k : ℕ) (xs ys : List Node) → omit k (xs ++ ys) ≡ omit k xs ++ omit k ys

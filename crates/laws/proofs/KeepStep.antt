@@ -16,16 +16,17 @@ use Rattle.model.specs.Key.{distance, log2Distance, lessOne, bucketIndex}
 use Rattle.model.specs.Value.{Value}
 use Rattle.model.specs.Node.{Node, AppliedPending}
 use Rattle.model.specs.Result.{FailureReason, UpdateResult, InsertResult, isFailed}
-use Rattle.model.specs.Bucket.{Bucket, BucketSettings, maxNodes, emptyBucket, holds, insert, applyPending, updateStatus, updateValue, updatePending, remove}
+use Rattle.model.specs.Bucket.{Bucket, BucketSettings, maxNodesPerBucket, emptyBucket, holds, insert, applyPending, updateStatus, updateValue, updatePending, remove}
 use Rattle.model.specs.Table.{Settings, Table, EntryKind, Answer, Effect, numBuckets, maxRecords, emptyTable, afterApplying, asStored, failsTableFilter, thenStatus, updateNodeIn, thenValue, insertOrUpdateIn, kindOf, write, indexIn}
 use Rattle.model.specs.Sizes.{keySize, timeSize}
 use Rattle.model.specs.Call.{ValueArgument, Call, isOne, optional, valueOf}
 use Rattle.model.specs.Listing.{applyAll, applies}
 use Rattle.model.specs.Question.{firstFailed, keysFit, codesInRange, clockFits, outputFits, kindFits}
 use Rattle.model.specs.Step.{Outcome, unchanged, onKey, nodeOf, settingsOf, takeOldest, act, queueFits, questions, unlessRefused, step}
-use Rattle.model.specs.Fits.{All, Opt, WellFormed, FitsAddress, FitsValue, FitsNode, FitsRecord, FitsBucket, FitsSettings, Fits, FitsArgument, FitsCall}
+use Rattle.model.specs.Fits.{All, Opt, WellFormed, FitsAddress, FitsValue, FitsNode, FitsDeadline, FitsRecord, FitsBucket, FitsSettings, Fits, FitsArgument, FitsCall}
 use Rattle.laws.proofs.Tests.{same-true, clash, cases, and-left}
-use Rattle.laws.proofs.Keep.{empty-well-formed, insert-well-formed, applyPending-well-formed, updateStatus-well-formed, updateValue-well-formed, updatePending-well-formed, remove-well-formed, empty-fits, insert-fits, applyPending-fits, records-fit, updateStatus-fits, updateValue-fits, updatePending-fits, remove-fits}
+use Rattle.laws.proofs.KeepEach.{insert-each, applyPending-each, updateStatus-each, updateValue-each, updatePending-each, remove-each}
+use Rattle.laws.proofs.Keep.{empty-well-formed, insert-well-formed, applyPending-well-formed, updateStatus-well-formed, updateValue-well-formed, updatePending-well-formed, remove-well-formed, empty-fits, records-fit, withStatus-fits, withValue-fits}
 use Rattle.laws.proofs.All.{all-append}
 
 -- the bucket index is 0 to 255
@@ -102,7 +103,7 @@ unfolding applyPending
 apply-empty s now = refl
 
 pub apply-at : (s : Settings) (i now : ℕ) (b : Bucket) → FitsAt s i b → FitsAt s i (applyPending (s .bucket) now b .0)
-apply-at s i now b h = record { fits = applyPending-fits (s .bucket) now b (h .fits); formed = applyPending-well-formed s i now b (h .formed) }
+apply-at s i now b h = record { fits = applyPending-each FitsNode FitsDeadline (s .bucket) now b (h .fits); formed = applyPending-well-formed s i now b (h .formed) }
 
 pub applyAll-fits : (now : ℕ) (is : List ℕ) (t : Table) → FitsEndless t → FitsEndless (applyAll now is t .0)
 applyAll-fits now [] t f = f
@@ -117,20 +118,20 @@ applyAll-fits now (i ∷ is) t f =
 -- what a call on one key does to its bucket
 module _ (s : Settings) (i : ℕ) where
   pub status-at : (k : ℕ) (u : Bool) (d : Option Bool) (b : Bucket) → FitsAt s i b → FitsAt s i (updateStatus (s .bucket) k u d b .1)
-  status-at k u d b h = record { fits = updateStatus-fits (s .bucket) k u d b (h .fits); formed = updateStatus-well-formed s i k u d b (h .formed) }
+  status-at k u d b h = record { fits = updateStatus-each FitsNode FitsDeadline (s .bucket) k u d b (withStatus-fits u d) (h .fits); formed = updateStatus-well-formed s i k u d b (h .formed) }
 
   pub value-at : (k : ℕ) (v : Value) (b : Bucket) → FitsValue v → FitsAt s i b → FitsAt s i (updateValue (s .bucket) k v b .1)
-  value-at k v b f h = record { fits = updateValue-fits (s .bucket) k v b f (h .fits); formed = updateValue-well-formed s i k v b (h .formed) }
+  value-at k v b f h = record { fits = updateValue-each FitsNode FitsDeadline (s .bucket) k v b (withValue-fits v f) (h .fits); formed = updateValue-well-formed s i k v b (h .formed) }
 
   pub pending-at : (u d : Bool) (b : Bucket) → FitsAt s i b → FitsAt s i (updatePending u d b)
-  pending-at u d b h = record { fits = updatePending-fits u d b (h .fits); formed = updatePending-well-formed s i u d b (h .formed) }
+  pending-at u d b h = record { fits = updatePending-each FitsNode FitsDeadline u d b (withStatus-fits u (some d)) (h .fits); formed = updatePending-well-formed s i u d b (h .formed) }
 
   pub remove-at : (now k : ℕ) (b : Bucket) → FitsAt s i b → FitsAt s i (remove (s .bucket) now k b .1)
-  remove-at now k b h = record { fits = remove-fits (s .bucket) now k b (h .fits); formed = remove-well-formed s i now k b (h .formed) }
+  remove-at now k b h = record { fits = remove-each FitsNode FitsDeadline (s .bucket) now k b (h .fits); formed = remove-well-formed s i now k b (h .formed) }
 
   pub insert-at : (now : ℕ) (n : Node) (b : Bucket) → FitsNode n → bucketIndex (s .localKey) (n .key) ≡ some i → now + s .bucket .pendingTimeout < 256 ^ timeSize
       → FitsAt s i b → FitsAt s i (insert (s .bucket) now n b .1)
-  insert-at now n b f e d h = record { fits = insert-fits (s .bucket) now n b f d (h .fits); formed = insert-well-formed s i now n b e (h .formed) }
+  insert-at now n b f e d h = record { fits = insert-each FitsNode FitsDeadline (s .bucket) now n b f d (h .fits); formed = insert-well-formed s i now n b e (h .formed) }
 
   thenStatus-at : (k : ℕ) (u : Option Bool) (v : UpdateResult) (b : Bucket) → FitsAt s i b → FitsAt s i (thenStatus (s .bucket) k u v b .1)
   thenStatus-at k none v b h = h
@@ -191,19 +192,19 @@ node-fits : (k : List ℕ) (v : ValueArgument) (st dr : ℕ) → Bytes k → Fit
 node-fits k v st dr b f e = record { key = key-fits k b e; value = value-fits v f }
 
 pub new-settings-fit : (k : List ℕ) (timeout m tf bf : ℕ) → FitsCall (Call.new k timeout m tf bf) → keysFit (Call.new k timeout m tf bf) ≡ true
-    → codesInRange (Call.new k timeout m tf bf) ≡ true → FitsSettings (settingsOf k timeout m tf bf)
+    → codesInRange (Call.new k timeout m tf bf) ≡ true → FitsSettings (settingsOf (number k) timeout m tf bf)
 unfolding keysFit codesInRange
 new-settings-fit k timeout m tf bf c e r =
     record {
       localKey = key-fits k (c .0) (and-left (eqb (length k) keySize) true e);
       pendingTimeout = c .1;
-      maxIncoming = leb-true m maxNodes (and-left (leb m maxNodes) (leb tf 1 && leb bf 1) r);
+      maxIncoming = leb-true m maxNodesPerBucket (and-left (leb m maxNodesPerBucket) (leb tf 1 && leb bf 1) r);
     }
 
 -- the call's work, with an endless queue
 pub act-fits : (c : Call) (t : Table) → FitsCall c → keysFit c ≡ true → codesInRange c ≡ true → clockFits c t ≡ true → FitsEndless t → FitsEndless (act c t .table)
 unfolding act keysFit clockFits
-act-fits (Call.new k timeout m tf bf) t c e r d h = new-endless (settingsOf k timeout m tf bf) (new-settings-fit k timeout m tf bf c e r)
+act-fits (Call.new k timeout m tf bf) t c e r d h = new-endless (settingsOf (number k) timeout m tf bf) (new-settings-fit k timeout m tf bf c e r)
 act-fits (Call.updateNodeStatus k st dr now) t c e r d h =
     let s : BucketSettings = t .settings .bucket in
     applying-fits t (Answer.Update UpdateResult.NotModified) (number k) h
@@ -288,7 +289,7 @@ new-fits k timeout m tf bf t c e =
     let a = accepted (Call.new k timeout m tf bf) t e in
     subst⁻¹ (λ (o : Outcome). Fits (o .table)) (step-accepted (Call.new k timeout m tf bf) t e)
     (with-queue (act (Call.new k timeout m tf bf) t .table)
-    (new-endless (settingsOf k timeout m tf bf) (new-settings-fit k timeout m tf bf c (a .keys) (a .codes)))
+    (new-endless (settingsOf (number k) timeout m tf bf) (new-settings-fit k timeout m tf bf c (a .keys) (a .codes)))
     (queue-within (Call.new k timeout m tf bf) t (a .queue)))
 
 -- every call keeps a table that fits

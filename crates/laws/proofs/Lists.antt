@@ -1,16 +1,16 @@
 -- Laws of lists by index: `tabulate`, `joined`, `allBelow` and `All`.
 use mathlib.Core.Path.{_≡_, refl, sym, ap, _∙_}
-use mathlib.Core.Bool.{Bool, true, false, _&&_, and-false}
-use mathlib.Core.List.{List, [], _∷_, _++_, append-assoc, append-nil}
+use mathlib.Core.Bool.{Bool, true, false, _&&_, and-false, and-assoc}
+use mathlib.Core.List.{List, [], _∷_, _++_, map, map-append, append-assoc, append-nil}
 use mathlib.Core.Logic.{_⊎_, ⊎-elim, inl, inr}
 use Prim.Native.Nat.{ℕ, zero, suc, _+_, _*_, _≤_, _<_}
 use native.Mathlib.Nat.{not-suc-le-zero, eq-or-lt-of-le}
 use native.Mathlib.Numerals.{add-one}
 use native.Mathlib.Decide.{decLt}
 use native.Mathlib.Omega.{arith}
-use lib.ListN.{length, getD, set, length-append, length-set, List·getD-append}
-use lib.Seq.{ext-getD, getD-at, getD-set-same, getD-set-other}
-use Rattle.model.specs.Base.{tabulate, joined, allBelow}
+use lib.ListN.{length, getD, take, length-append, List·getD-append}
+use lib.Seq.{ext-getD, getD-at, getD-take, length-take-le}
+use Rattle.model.specs.Base.{every, tabulate, joined, allBelow}
 use Rattle.model.specs.Fits.{All}
 use Rattle.laws.proofs.Tests.{and-left, and-right}
 
@@ -61,6 +61,19 @@ getD-tabulate (suc k) f i d h =
     (λ l. List·getD-append (tabulate k f) (f k ∷ []) d i (rw length-tabulate l) ∙ getD-tabulate k f i d l)
     (eq-or-lt-of-le le)
 
+pub take-tabulate : {A : Type 0} (f : ℕ → A) (d : A) (m n : ℕ) → m ≤ n → take m (tabulate n f) ≡ tabulate m f
+take-tabulate f d m n h =
+    let e : length (take m (tabulate n f)) ≡ m = length-take-le m (tabulate n f) (rw length-tabulate h) in
+    ext-getD d _ _ (e ∙ sym (length-tabulate m f))
+    (λ j i.
+    let b : j < m = omega arith in
+    getD-take m (tabulate n f) j d b ∙ getD-tabulate n f j d (omega arith) ∙ sym (getD-tabulate m f j d b))
+
+pub map-tabulate : {A B : Type 0} (f : A → B) (k : ℕ) (g : ℕ → A) → map f (tabulate k g) ≡ tabulate k (λ i. f (g i))
+unfolding tabulate
+map-tabulate f zero g = refl
+map-tabulate f (suc k) g = map-append f (tabulate k g) (g k ∷ []) ∙ ap (λ (xs : List _). xs ++ (f (g k) ∷ [])) (map-tabulate f k g)
+
 -- a list is that of its elements
 pub tabulate-getD : {A : Type 0} (l : List A) (d : A) → tabulate (length l) (λ i. getD l i d) ≡ l
 tabulate-getD l d = ext-getD d _ l (length-tabulate (length l) _) (λ i h. getD-tabulate (length l) (λ j. getD l j d) i d (rw length-tabulate at h))
@@ -68,23 +81,6 @@ tabulate-getD l d = ext-getD d _ l (length-tabulate (length l) _) (λ i h. getD-
 -- a list by index, each element known
 pub tabulate-is : {A : Type 0} (l : List A) (d : A) (k : ℕ) (f : ℕ → A) → length l ≡ k → ((i : ℕ) → i < k → f i ≡ getD l i d) → tabulate k f ≡ l
 tabulate-is l d k f e h = tabulate-ext k f (λ i. getD l i d) h ∙ rw (← e) (tabulate-getD l d)
-
--- a list whose elements but the j-th are those of another
-pub tabulate-set : {A : Type 0} (k : ℕ) (f g : ℕ → A) (j : ℕ) (x : A) → j < k → g j ≡ x → ((i : ℕ) → i < k → (i ≡ j → ⊥) → g i ≡ f i)
-    → tabulate k g ≡ set (tabulate k f) j x
-tabulate-set k f g j x l e h =
-    ext-getD x _ _ (length-tabulate k g ∙ sym (length-set (tabulate k f) j x ∙ length-tabulate k f))
-    (λ i m.
-    let b : i < k = rw length-tabulate at m in
-    ⊎-elim
-    (λ q. other i b (λ (p : i ≡ j). omega (arith, p)))
-    (λ r. ⊎-elim
-    (λ p. getD-tabulate k g i x b ∙ ap g p ∙ e ∙ sym (getD-set-same (tabulate k f) j x x (rw length-tabulate l)) ∙ ap (λ (n : ℕ). getD (set (tabulate k f) j x) n x) (sym p))
-    (λ q. other i b (λ (p : i ≡ j). omega (arith, p))) r)
-    (order i j))
-  where
-    other : (i : ℕ) → i < k → (i ≡ j → ⊥) → getD (tabulate k g) i x ≡ getD (set (tabulate k f) j x) i x
-    other i b n = getD-tabulate k g i x b ∙ h i b n ∙ sym (getD-set-other (tabulate k f) j i x x n ∙ getD-tabulate k f i x b)
 
 -- joined
 
@@ -97,6 +93,11 @@ pub joined-snoc : {A B : Type 0} (f : A → List B) (xs : List A) (x : A) → jo
 unfolding joined
 joined-snoc f [] x = append-nil (f x)
 joined-snoc f (y ∷ xs) x = rw (joined-snoc f xs x) (simp append-assoc)
+
+pub joined-map : {A B C : Type 0} (f : B → List C) (g : A → B) (l : List A) → joined f (map g l) ≡ joined (λ (a : A). f (g a)) l
+unfolding joined
+joined-map f g [] = refl
+joined-map {C = C} f g (a ∷ l) = ap (λ (r : List C). f (g a) ++ r) (joined-map f g l)
 
 pub length-joined : {A B : Type 0} (f : A → List B) (w : ℕ) (xs : List A) → All (λ (x : A). length (f x) ≡ w) xs → length (joined f xs) ≡ length xs * w
 unfolding joined
@@ -139,6 +140,10 @@ pub all-ext : (k : ℕ) (f g : ℕ → Bool) → ((i : ℕ) → i < k → f i �
 unfolding allBelow
 all-ext zero f g h = refl
 all-ext (suc k) f g h = rw (all-ext k f g (λ i l. h i (omega arith)), h k (omega arith))
+
+pub every-append : {A : Type 0} (f : A → Bool) (xs ys : List A) → every f (xs ++ ys) ≡ (every f xs && every f ys)
+every-append f [] ys = refl
+every-append f (x ∷ xs) ys = rw (every-append f xs ys, and-assoc)
 
 -- a test made of several, grouped to the right
 

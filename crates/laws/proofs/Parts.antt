@@ -6,8 +6,8 @@ use native.Mathlib.Nat.{add-zero, zero-add, suc-add, zero-mul, not-suc-le-zero, 
 use native.Mathlib.Numerals.{add-one}
 use native.Mathlib.Omega.{arith}
 use mathlib.Core.Logic.{⊎-elim}
-use lib.ListN.{length, getD, take, drop, set, length-append, length-take, length-drop, length-set, take-append-drop, drop-of-length-le, List·getD-append}
-use lib.Seq.{take-suc, take-nil, drop-cons, take-append-le, drop-append-le, drop-append-add, take-at, drop-at, set-split, take-all, getD-take, getD-set-same, drop-set-lt, take-set-le, getD-drop, take-take, drop-drop, take-add, getD-append-add}
+use lib.ListN.{length, getD, take, drop, set, length-append, length-take, length-drop, take-append-drop, drop-of-length-le}
+use lib.Seq.{take-suc, take-nil, drop-cons, take-append-le, drop-append-add, take-at, drop-at, set-split, take-all, getD-take, getD-drop, take-take, drop-drop, take-add, getD-append-add}
 use Rattle.model.specs.Base.{joined, tabulate}
 use Rattle.model.specs.Bytes.{part, splice}
 use Rattle.model.specs.Fits.{All}
@@ -18,6 +18,10 @@ use Rattle.laws.proofs.Lists.{order, joined-snoc}
 pub length-part : (s : List ℕ) (at k : ℕ) → at + k ≤ length s → length (part s at k) ≡ k
 unfolding part
 length-part s at k h = simp (length-take, length-drop) (omega arith)
+
+pub part-none : (s : List ℕ) (at : ℕ) → part s at 0 ≡ []
+unfolding part
+part-none s at = refl
 
 pub getD-part : (s : List ℕ) (at k i : ℕ) → i < k → getD (part s at k) i 0 ≡ getD s (at + i) 0
 unfolding part
@@ -51,16 +55,6 @@ splice-nil s at = rw (add-zero, take-append-drop)
 pub length-splice : (s : List ℕ) (at : ℕ) (v : List ℕ) → at + length v ≤ length s → length (splice s at v) ≡ length s
 unfolding splice
 length-splice s at v h = simp (length-append, length-take, length-drop) (omega arith)
-
--- the last byte may be put first
-pub splice-snoc : (s v : List ℕ) (at b : ℕ) → at + length v < length s → splice s at (v ++ (b ∷ [])) ≡ splice (set s (at + length v) b) at v
-unfolding splice
-splice-snoc s v at b h =
-    let k : ℕ = at + length v in
-    let e : drop k (set s k b) ≡ b ∷ drop (suc k) s =
-    drop-cons (set s k b) k 0 (rw length-set h) ∙ rw (getD-set-same s k b 0 h, drop-set-lt (suc k) s k b (omega arith)) in
-    let n : at + length (v ++ (b ∷ [])) ≡ suc k = simp length-append (omega arith) in
-    rw (take-set-le at s k b (omega arith), e, n) (simp append-assoc)
 
 -- bytes may be put in two steps
 pub splice-append : (s : List ℕ) (at : ℕ) (a b : List ℕ) → at + length a + length b ≤ length s → splice (splice s at a) (at + length a) b ≡ splice s at (a ++ b)
@@ -115,27 +109,6 @@ unfolding part splice
 splice-part s at k h =
     let l : length (take k (drop at s)) ≡ k = simp (length-take, length-drop) (omega arith) in
     rw (l, ← drop-drop k at s, take-append-drop, take-append-drop)
-
--- bytes put within a part
-pub splice-within : (s : List ℕ) (at n i : ℕ) (v : List ℕ) → i + length v ≤ n → at + n ≤ length s → splice s at (splice (part s at n) i v) ≡ splice s (at + i) v
-unfolding part splice
-splice-within s at n i v h h′ =
-    let d : List ℕ = drop at s in
-    let m : List ℕ = take n d in
-    let q : ℕ = i + length v in
-    let lm : length m ≡ n = simp (length-take, length-drop) (omega arith) in
-    let l : length (take i m ++ (v ++ drop q m)) ≡ n = simp (length-append, length-take, length-drop) (omega arith) in
-    let a : at + i + length v ≡ at + q = omega arith in
-    let e : drop q m ++ drop n d ≡ drop q d = sym (drop-append-le q m (drop n d) (omega arith)) ∙ ap (drop q) (take-append-drop n d) in
-    rw (l, ← drop-drop n at s, a, ← drop-drop q at s, ← e, take-add at i s, take-take i n d (omega arith)) (simp append-assoc)
-
--- what is written over what was written
-pub splice-over : (s : List ℕ) (at : ℕ) (a b : List ℕ) → length a ≡ length b → at + length b ≤ length s → splice (splice s at a) at b ≡ splice s at b
-unfolding splice
-splice-over s at a b e h =
-    let l : length (take at s) ≡ at = rw length-take (omega arith) in
-    let d : List ℕ = drop (at + length b) s in
-    rw (e, take-at (take at s) (a ++ d) at l, ← drop-drop (length b) at (take at s ++ (a ++ d)), drop-at (take at s) (a ++ d) at l, drop-at a d (length b) e)
 
 pub part-all : (s : List ℕ) (k : ℕ) → length s ≤ k → part s 0 k ≡ s
 unfolding part
@@ -216,10 +189,6 @@ part-front a b k e = part-left a b 0 k (omega arith) ∙ part-all a k (omega ari
 pub getD-right : (a b : List ℕ) (n i : ℕ) → length a ≡ n → getD (a ++ b) (n + i) 0 ≡ getD b i 0
 getD-right a b n i e = rw (← e) (getD-append-add a b i 0)
 
-pub getD-left : (a b : List ℕ) (n i : ℕ) → length a ≡ n → i < n → getD (a ++ b) i 0 ≡ getD a i 0
-getD-left a b n i e h = List·getD-append a b 0 i (omega arith)
-
--- past the end there is nothing
 pub part-past : (s : List ℕ) (at k : ℕ) → length s ≤ at → part s at k ≡ []
 unfolding part
 part-past s at k h = rw (drop-of-length-le s h) (take-nil k)

@@ -25,7 +25,7 @@ module _ (s : List ℕ) (l : length s ≡ storageSize) (t : Table) (f : Fits t) 
   header-length = length-header t (f .queue)
 
   bucket-length : (i : ℕ) → length (bucketBytes (t .buckets i)) ≡ bucketSize
-  bucket-length i = length-bucket (t .buckets i) (f .well-formed i .at-most)
+  bucket-length i = length-bucket (t .buckets i) (f .well-formed i .formed .at-most)
 
   within : (i : ℕ) → i < numBuckets → bucketAt i + bucketSize ≤ storageSize
   within i h = omega (arith, slot-before i numBuckets bucketSize h)

@@ -13,20 +13,21 @@ use Rattle.model.specs.Bytes.{part, Bytes}
 use Rattle.model.specs.Key.{bucketIndex}
 use Rattle.model.specs.Node.{Node, PendingNode}
 use Rattle.model.specs.Bucket.{Bucket, emptyBucket, nodes}
-use Rattle.model.specs.Table.{Settings, Table, numBuckets}
+use Rattle.model.specs.Table.{Table, numBuckets}
 use Rattle.model.specs.Sizes.{maxIncomingAt, headerSize, bucketSize, bucketAt, storageSize}
 use Rattle.model.specs.Layout.{headerBytes, bucketBytes, bytesOf, bucketIn, settingsIn, bucketPart, tableOf}
 use Rattle.model.specs.Formed.{keyIn, isAt, headerFormed, bucketFormed, formed}
-use Rattle.model.specs.Fits.{All, WellFormed, FitsBucket, Fits}
+use Rattle.model.specs.Fits.{All, FormedBucket, Fits}
 use Rattle.laws.proofs.Tests.{same-self, same-true, clash, and-left, and-right}
 use Rattle.laws.proofs.Lists.{lt-or-le, all-gives, all-if, length-tabulate, getD-tabulate, length-joined}
 use Rattle.laws.proofs.Parts.{part-all, part-append, part-right, part-joined, part-past, length-part, joined-slots, slot-before}
 use Rattle.laws.proofs.Bytes.{Bytes-append, Bytes-joined, Bytes-part}
 use Rattle.laws.proofs.BucketBytes.{length-bucket, Bytes-bucket, bucket-there, bucket-none}
-use Rattle.laws.proofs.BucketFormed.{FormedBucket, bucket-formed}
+use Rattle.laws.proofs.BucketFormed.{bucket-formed}
 use Rattle.laws.proofs.BucketBack.{bucket-back, bucket-good, bucket-fits}
 use Rattle.laws.proofs.HeaderBytes.{length-header, Bytes-header, key-there, maxIncoming-there, settings-there, queue-there, header-formed}
 use Rattle.laws.proofs.HeaderBack.{header-back, settings-fit, records-fit, queue-fits}
+use Rattle.laws.proofs.Keep.{empty-well-formed, empty-fits}
 use Rattle.laws.proofs.All.{all-map, all-tabulate, opt-map}
 
 -- the test of a key's index
@@ -38,50 +39,17 @@ pub index-at : (o : Option ℕ) (i : ℕ) → isAt o i ≡ true → o ≡ some i
 index-at none i h = clash h refl
 index-at (some j) i h = ap some (same-true j i h)
 
--- what question 2 asks of bucket i, said of the bucket and of the table
-module _ (s : Settings) (i : ℕ) (b : Bucket) where
-  abbrev ofIndex : ℕ → Bool
-  ofIndex k = isAt (bucketIndex (s .localKey) k) i
-
-  pub formed-of : WellFormed s i b → FormedBucket ofIndex (s .bucket .maxIncoming) b
-  formed-of w =
-      record {
-        at-most = w .at-most;
-        different = w .different;
-        of-index = all-map _ _ (λ (n : Node) e. at-index (bucketIndex (s .localKey) (n .key)) i e) (nodes b) (w .of-index);
-        disconnected-first = w .disconnected-first;
-        then-connected = w .then-connected;
-        incoming-within = w .incoming-within;
-        pending-fits = opt-map _ _ (λ (p : PendingNode) e. (at-index (bucketIndex (s .localKey) (p .node .key)) i (e .0), e .1)) (b .pending) (w .pending-fits);
-      }
-
-  pub well-formed-of : FormedBucket ofIndex (s .bucket .maxIncoming) b → WellFormed s i b
-  well-formed-of w =
-      record {
-        at-most = w .at-most;
-        different = w .different;
-        of-index = all-map _ _ (λ (n : Node) e. index-at (bucketIndex (s .localKey) (n .key)) i e) (nodes b) (w .of-index);
-        disconnected-first = w .disconnected-first;
-        then-connected = w .then-connected;
-        incoming-within = w .incoming-within;
-        pending-fits = opt-map _ _ (λ (p : PendingNode) e. (index-at (bucketIndex (s .localKey) (p .node .key)) i (e .0), e .1)) (b .pending) (w .pending-fits);
-      }
-
--- an empty bucket
-pub empty-well-formed : (s : Settings) (i : ℕ) → WellFormed s i emptyBucket
-empty-well-formed s i =
+-- the keys' index, by another property
+formed-map : (P Q : ℕ → Type 0) (m : ℕ) (b : Bucket) → ((k : ℕ) → P k → Q k) → FormedBucket P m b → FormedBucket Q m b
+formed-map P Q m b f w =
     record {
-      at-most = omega arith;
-      different = tt;
-      of-index = tt;
-      disconnected-first = tt;
-      then-connected = tt;
-      incoming-within = omega arith;
-      pending-fits = tt;
+      formed = w .formed;
+      of-index =
+          record {
+            held = all-map _ _ (λ (n : Node) e. f (n .key) e) (nodes b) (w .of-index .held);
+            pending = opt-map _ _ (λ (p : PendingNode) e. (f (p .node .key) (e .0), tt)) (b .pending) (w .of-index .pending);
+          };
     }
-
-pub empty-fits : FitsBucket emptyBucket
-empty-fits = record { held = tt; pending = tt }
 
 -- from a table that fits to its bytes
 
@@ -90,7 +58,7 @@ module _ (t : Table) (f : Fits t) where
   behind = joined bucketBytes (tabulate numBuckets (t .buckets))
 
   lengths : All (λ (b : Bucket). length (bucketBytes b) ≡ bucketSize) (tabulate numBuckets (t .buckets))
-  lengths = all-tabulate (λ (b : Bucket). length (bucketBytes b) ≡ bucketSize) numBuckets (t .buckets) (λ i l. length-bucket (t .buckets i) (f .well-formed i .at-most))
+  lengths = all-tabulate (λ (b : Bucket). length (bucketBytes b) ≡ bucketSize) numBuckets (t .buckets) (λ i l. length-bucket (t .buckets i) (f .well-formed i .formed .at-most))
 
   pub length-bytesOf : length (bytesOf t) ≡ storageSize
   unfolding bytesOf
@@ -107,7 +75,7 @@ module _ (t : Table) (f : Fits t) where
   bytes-bytesOf =
       Bytes-append (headerBytes t) behind (Bytes-header t (f .settings) (f .records) (f .queue))
       (Bytes-joined bucketBytes (tabulate numBuckets (t .buckets))
-      (all-tabulate (λ (b : Bucket). Bytes (bucketBytes b)) numBuckets (t .buckets) (λ i l. Bytes-bucket (t .buckets i) (f .well-formed i .at-most) (f .buckets i))))
+      (all-tabulate (λ (b : Bucket). Bytes (bucketBytes b)) numBuckets (t .buckets) (λ i l. Bytes-bucket (t .buckets i) (f .well-formed i .formed .at-most) (f .buckets i))))
 
   pub bucketPart-there : (i : ℕ) → i < numBuckets → bucketPart (bytesOf t) i ≡ bucketBytes (t .buckets i)
   unfolding bytesOf
@@ -119,7 +87,7 @@ module _ (t : Table) (f : Fits t) where
   pub bucket-at : (i : ℕ) → bucketIn (bucketPart (bytesOf t) i) ≡ t .buckets i
   bucket-at i =
       ⊎-elim
-      (λ l. ap bucketIn (bucketPart-there i l) ∙ bucket-there (t .buckets i) (f .well-formed i .at-most) (f .buckets i))
+      (λ l. ap bucketIn (bucketPart-there i l) ∙ bucket-there (t .buckets i) (f .well-formed i .formed .at-most) (f .buckets i))
       (λ l. ap bucketIn (part-past (bytesOf t) (bucketAt i) bucketSize (omega (arith, length-bytesOf))) ∙ bucket-none ∙ sym (f .past i l))
       (lt-or-le i numBuckets)
 
@@ -137,7 +105,7 @@ module _ (t : Table) (f : Fits t) where
   formed-there =
       rw (header-formed t behind (f .settings) (f .queue), key-there t behind (f .settings .localKey), maxIncoming-there t behind)
       (all-if numBuckets _
-      (λ i l. rw (bucketPart-there i l) (bucket-formed (ofIndex (t .settings) i (t .buckets i)) (t .settings .bucket .maxIncoming) (t .buckets i) (formed-of (t .settings) i (t .buckets i) (f .well-formed i)) (f .buckets i))))
+      (λ i l. rw (bucketPart-there i l) (bucket-formed _ (t .settings .bucket .maxIncoming) (t .buckets i) (formed-map _ _ _ _ (λ k e. at-index (bucketIndex (t .settings .localKey) k) i e) (f .well-formed i)) (f .buckets i))))
 
 -- bytes that are a table's, header and buckets each by itself
 pub bytes-are : (t : Table) (s : List ℕ) → length s ≡ storageSize → part s 0 headerSize ≡ headerBytes t
@@ -150,18 +118,20 @@ bytes-are t s l e h =
 
 -- from formed bytes to their table
 
-module _ (s : List ℕ) (h : Bytes s) (l : length s ≡ storageSize) (f : formed s ≡ true) where
+-- what question 2 tells of the header and of each bucket
+module _ (s : List ℕ) (f : formed s ≡ true) where
   abbrev test : ℕ → Bool
   test i = bucketFormed (λ k. isAt (bucketIndex (keyIn s) k) i) (getD s maxIncomingAt 0) (bucketPart s i)
 
-  header-passes : headerFormed s ≡ true
+  pub header-passes : headerFormed s ≡ true
   unfolding formed
   header-passes = and-left (headerFormed s) (allBelow numBuckets test) f
 
-  bucket-passes : (i : ℕ) → i < numBuckets → test i ≡ true
+  pub bucket-passes : (i : ℕ) → i < numBuckets → test i ≡ true
   unfolding formed
   bucket-passes i m = all-gives numBuckets test i m (and-right (headerFormed s) (allBelow numBuckets test) f)
 
+module _ (s : List ℕ) (h : Bytes s) (l : length s ≡ storageSize) (f : formed s ≡ true) where
   part-length : (i : ℕ) → i < numBuckets → length (bucketPart s i) ≡ bucketSize
   part-length i m = length-part s (bucketAt i) bucketSize (omega (arith, slot-before i numBuckets bucketSize m))
 
@@ -171,8 +141,8 @@ module _ (s : List ℕ) (h : Bytes s) (l : length s ≡ storageSize) (f : formed
   pub table-back : bytesOf (tableOf s) ≡ s
   unfolding tableOf
   table-back =
-      sym (bytes-are (tableOf s) s l (sym (header-back s (omega arith) h header-passes))
-      (λ i m. sym (bucket-back (bucketPart s i) (part-length i m) (part-bytes i) _ _ (bucket-passes i m))))
+      sym (bytes-are (tableOf s) s l (sym (header-back s (omega arith) h (header-passes s f)))
+      (λ i m. sym (bucket-back (bucketPart s i) (part-length i m) (part-bytes i) _ _ (bucket-passes s f i m))))
 
   empty-past : (i : ℕ) → numBuckets ≤ i → tableOf s .buckets i ≡ emptyBucket
   unfolding tableOf
@@ -182,14 +152,14 @@ module _ (s : List ℕ) (h : Bytes s) (l : length s ≡ storageSize) (f : formed
   unfolding tableOf settingsIn
   fits-back =
       record {
-        settings = settings-fit s (omega arith) h header-passes;
-        buckets = λ i. ⊎-elim (λ m. bucket-fits (bucketPart s i) (part-length i m) (part-bytes i) _ _ (bucket-passes i m)) (λ m. rw (empty-past i m) empty-fits) (lt-or-le i numBuckets);
+        settings = settings-fit s (omega arith) h (header-passes s f);
+        buckets = λ i. ⊎-elim (λ m. bucket-fits (bucketPart s i) (part-length i m) (part-bytes i) _ _ (bucket-passes s f i m)) (λ m. rw (empty-past i m) empty-fits) (lt-or-le i numBuckets);
         well-formed =
             λ i. ⊎-elim
-            (λ m. well-formed-of (tableOf s .settings) i (bucketIn (bucketPart s i)) (bucket-good (bucketPart s i) (part-length i m) (part-bytes i) _ _ (bucket-passes i m)))
+            (λ m. formed-map _ _ _ _ (λ k e. index-at (bucketIndex (keyIn s) k) i e) (bucket-good (bucketPart s i) (part-length i m) (part-bytes i) _ _ (bucket-passes s f i m)))
             (λ m. rw (empty-past i m) (empty-well-formed (tableOf s .settings) i))
             (lt-or-le i numBuckets);
         past = empty-past;
-        records = records-fit s (omega arith) h header-passes;
-        queue = queue-fits s (omega arith) h header-passes;
+        records = records-fit s (omega arith) h (header-passes s f);
+        queue = queue-fits s (omega arith) h (header-passes s f);
       }

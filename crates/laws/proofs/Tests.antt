@@ -70,3 +70,7 @@ or-second false b e = e
 -- same is symmetric
 pub same-sym : (a b : ℕ) → same a b ≡ same b a
 same-sym a b = split (same b a) (λ e. same-of a b (sym (same-true b a e)) ∙ sym e) (λ e. same-not a b (λ p. same-false b a e (sym p)) ∙ sym e)
+
+-- three tests in another order
+pub and-turned : (a b c : Bool) → (a && (b && c)) ≡ true → (b && (c && a)) ≡ true
+and-turned a b c e = let f = and-right a (b && c) e in rw (and-left b c f, and-right b c f, and-left a (b && c) e)

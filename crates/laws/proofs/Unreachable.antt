@@ -3,20 +3,20 @@
 use Prim.Native.Nat.{ℕ, _<_}
 use native.Mathlib.Omega.{arith}
 use mathlib.Core.Path.{_≡_, refl, ap, _∙_, subst, subst⁻¹}
-use mathlib.Core.Bool.{Bool, true, false, cond, _&&_}
+use mathlib.Core.Bool.{Bool, true, false, cond}
 use mathlib.Core.List.{List, [], _∷_}
 use mathlib.Core.Option.{Option, none, some}
 use Rattle.model.specs.Base.{same, isSome}
 use Rattle.model.specs.Value.{Value, sameValue}
 use Rattle.model.specs.Node.{Node, PendingNode, withStatus, withValue, sameStatus, promotes}
 use Rattle.model.specs.Result.{FailureReason, BucketInsertResult, UpdateResult, InsertResult, isFailed}
-use Rattle.model.specs.Bucket.{Bucket, BucketSettings, maxNodes, nodes, count, isFull, find, holds, lookup, failsBucketFilter, isMaxIncoming, withPending, cleared, placed, takeOut, insertFull, insert, reinsert, statusResult, isFirst, updateIfPending, updateStatusOf, updateStatus, updateValueOf, updateValue, pendingWithStatus, updatePending}
+use Rattle.model.specs.Bucket.{Bucket, BucketSettings, maxNodesPerBucket, numEntries, isFull, find, holds, get, failsBucketFilter, isMaxIncoming, withPending, cleared, placed, takeOut, insertFull, insert, reinsert, statusResult, takenOut, updateIfPending, updateStatusOf, updateStatus, updateValueOf, updateValue, pendingWithStatus, updatePending}
 use Rattle.model.specs.Table.{Table, EntryKind, Answer, insertUpdates, thenValue, kindIn, kindIfPending, kindOfNode, kindOf}
 use Rattle.model.specs.Question.{isPresent, isPending}
-use Rattle.model.specs.Fits.{Opt}
+use Rattle.model.specs.Fits.{Opt, Formed}
 use Rattle.laws.proofs.Tests.{clash, cases, split, same-true}
-use Rattle.laws.proofs.KeepLists.{find-insert, lookup-nodes, lookup-key}
-use Rattle.laws.proofs.KeepFormed.{Formed, free-isFull, nodes-put, count-takeOut-held, takeOut-without}
+use Rattle.laws.proofs.KeepLists.{find-insert, get-nodes, get-key}
+use Rattle.laws.proofs.KeepFormed.{free-isFull, nodes-put, count-takeOut-held, takeOut-without}
 
 -- what an insert answers where a place is free
 abbrev Free : BucketInsertResult → Type 0
@@ -27,7 +27,7 @@ Free BucketInsertResult.TooManyIncoming = Unit {0}
 Free BucketInsertResult.Full = ⊥
 Free BucketInsertResult.NodeExists = Unit {0}
 
-insert-free : (s : BucketSettings) (now : ℕ) (n : Node) (b : Bucket) → count b < maxNodes → Free (insert s now n b .0)
+insert-free : (s : BucketSettings) (now : ℕ) (n : Node) (b : Bucket) → numEntries b < maxNodesPerBucket → Free (insert s now n b .0)
 unfolding insert
 insert-free s now n b c =
     let Q : BucketInsertResult × Bucket → Type 0 = λ r. Free (r .0) in
@@ -36,11 +36,11 @@ insert-free s now n b c =
     (λ _. cases Q (isMaxIncoming s n b) (λ _. tt) (λ _. cases Q (isFull b) (λ f. clash f (free-isFull b c)) (λ _. tt))))
 
 -- bucket.rs, apply_pending: "Bucket cannot be full"
-pub free-not-full : (s : BucketSettings) (now : ℕ) (n : Node) (b : Bucket) → count b < maxNodes → insert s now n b .0 ≡ BucketInsertResult.Full → ⊥
+pub free-not-full : (s : BucketSettings) (now : ℕ) (n : Node) (b : Bucket) → numEntries b < maxNodesPerBucket → insert s now n b .0 ≡ BucketInsertResult.Full → ⊥
 free-not-full s now n b c e = subst Free e (insert-free s now n b c)
 
 -- bucket.rs, apply_pending: with free places it is not made pending again
-pub free-not-pending : (s : BucketSettings) (now : ℕ) (n : Node) (b : Bucket) (k : ℕ) → count b < maxNodes
+pub free-not-pending : (s : BucketSettings) (now : ℕ) (n : Node) (b : Bucket) (k : ℕ) → numEntries b < maxNodesPerBucket
     → insert s now n b .0 ≡ BucketInsertResult.Pending k → ⊥
 free-not-pending s now n b k c e = subst Free e (insert-free s now n b c)
 
@@ -80,14 +80,14 @@ pending-not-exists m s now b p w e =
     absent-not-exists s now (p .node) (withPending none b) (subst (Opt (λ (q : PendingNode). holds (q .node .key) b ≡ false)) e (w .pending-apart))
 
 -- bucket.rs, update_status: the bucket has a free place once the node of key k is taken out, and does not hold the key
-pub status-room : (m k : ℕ) (b : Bucket) (n : Node) → Formed m b → lookup k b ≡ some n → count (takeOut k b) < maxNodes
+pub status-room : (m k : ℕ) (b : Bucket) (n : Node) → Formed m b → get k b ≡ some n → numEntries (takeOut k b) < maxNodesPerBucket
 status-room m k b n w e = let l = count-takeOut-held k b (ap isSome e) in let a = w .at-most in omega arith
 
-pub status-absent : (k : ℕ) (b : Bucket) (n : Node) → lookup k b ≡ some n → holds (n .key) (takeOut k b) ≡ false
-status-absent k b n e = ap (λ (x : ℕ). holds x (takeOut k b)) (subst (Opt (λ (x : Node). x .key ≡ k)) e (lookup-key k b)) ∙ takeOut-without k b
+pub status-absent : (k : ℕ) (b : Bucket) (n : Node) → get k b ≡ some n → holds (n .key) (takeOut k b) ≡ false
+status-absent k b n e = ap (λ (x : ℕ). holds x (takeOut k b)) (subst (Opt (λ (x : Node). x .key ≡ k)) e (get-key k b)) ∙ takeOut-without k b
 
 -- bucket.rs, update_status: the node is changed and inserted, whatever the pending is by then
-module _ (m : ℕ) (s : BucketSettings) (now k : ℕ) (u : Bool) (d : Option Bool) (b : Bucket) (n : Node) (p : Option PendingNode) (w : Formed m b) (e : lookup k b ≡ some n) where
+module _ (m : ℕ) (s : BucketSettings) (now k : ℕ) (u : Bool) (d : Option Bool) (b : Bucket) (n : Node) (p : Option PendingNode) (w : Formed m b) (e : get k b ≡ some n) where
   -- "The node was removed and shouldn't already exist"
   pub status-not-exists : insert s now (withStatus u d n) (withPending p (takeOut k b)) .0 ≡ BucketInsertResult.NodeExists → ⊥
   status-not-exists = absent-not-exists s now (withStatus u d n) (withPending p (takeOut k b)) (status-absent k b n e)
@@ -114,7 +114,7 @@ abbrev pub asStatus : BucketInsertResult × Bucket → Option FailureReason × B
 asStatus r = (failure (r .0), r .1)
 
 -- an insert of a new key where a place is free: only two tests stand before the placing
-pub insert-placing : (s : BucketSettings) (now : ℕ) (n : Node) (b : Bucket) → holds (n .key) b ≡ false → count b < maxNodes
+pub insert-placing : (s : BucketSettings) (now : ℕ) (n : Node) (b : Bucket) → holds (n .key) b ≡ false → numEntries b < maxNodesPerBucket
     → insert s now n b
     ≡ cond (failsBucketFilter s (n .value) b) (BucketInsertResult.FailedFilter, b)
     (cond (isMaxIncoming s n b) (BucketInsertResult.TooManyIncoming, b) (BucketInsertResult.Inserted, placed n b))
@@ -127,7 +127,7 @@ insert-placing s now n b h c =
     ap (λ (t : Bool). cond t (BucketInsertResult.NodeExists, b) (R (isFull b))) h ∙ ap R (free-isFull b c)
 
 -- the status step's placing is an insert, at any time
-pub reinsert-is-insert : (s : BucketSettings) (now : ℕ) (n : Node) (b : Bucket) → holds (n .key) b ≡ false → count b < maxNodes
+pub reinsert-is-insert : (s : BucketSettings) (now : ℕ) (n : Node) (b : Bucket) → holds (n .key) b ≡ false → numEntries b < maxNodesPerBucket
     → reinsert s n b ≡ asStatus (insert s now n b)
 unfolding reinsert
 reinsert-is-insert s now n b h c =
@@ -142,12 +142,8 @@ reinsert-is-insert s now n b h c =
     same-tests false true = refl
     same-tests false false = refl
 
--- bucket.rs, update_status: the bucket from which the node of key k is taken out; place 0 given Connected clears the pending
-abbrev pub takenOut : ℕ → Bool → Bucket → Bucket
-takenOut k u b = withPending (cond (u && isFirst k (nodes b)) none (b .pending)) (takeOut k b)
-
 -- bucket.rs, update_status on a held key is an insert of the changed node, at any time
-pub updateStatus-is-insert : (m : ℕ) (s : BucketSettings) (now k : ℕ) (u : Bool) (d : Option Bool) (b : Bucket) (n : Node) → Formed m b → lookup k b ≡ some n
+pub updateStatus-is-insert : (m : ℕ) (s : BucketSettings) (now k : ℕ) (u : Bool) (d : Option Bool) (b : Bucket) (n : Node) → Formed m b → get k b ≡ some n
     → updateStatus s k u d b
     ≡ (statusResult n (withStatus u d n) (failure (insert s now (withStatus u d n) (takenOut k u b) .0)), insert s now (withStatus u d n) (takenOut k u b) .1)
 unfolding updateStatus
@@ -187,7 +183,7 @@ valueOf-promotes-not s k v b (some n) =
 
 value-promotes-not : (s : BucketSettings) (k : ℕ) (v : Value) (b : Bucket) → NoPromotion (updateValue s k v b .0)
 unfolding updateValue
-value-promotes-not s k v b = valueOf-promotes-not s k v b (lookup k b)
+value-promotes-not s k v b = valueOf-promotes-not s k v b (get k b)
 
 -- kbucket.rs, insert_or_update: "Value update cannot promote a connection."
 pub value-not-promoted : (s : BucketSettings) (k : ℕ) (v : Value) (b : Bucket) → updateValue s k v b .0 ≡ UpdateResult.UpdatedAndPromoted → ⊥
@@ -209,7 +205,7 @@ statusResult-not-pending m n none = cases NotPending (sameStatus m n) (λ _. tt)
 pub held-status-not-pending : (s : BucketSettings) (k : ℕ) (u : Bool) (d : Option Bool) (b : Bucket) → holds k b ≡ true
     → updateStatus s k u d b .0 ≡ UpdateResult.UpdatedPending → ⊥
 unfolding updateStatus
-held-status-not-pending s k u d b h e = subst NotPending e (found (lookup k b) h)
+held-status-not-pending s k u d b h e = subst NotPending e (found (get k b) h)
   where
     found : (o : Option Node) → isSome o ≡ true → NotPending (updateStatusOf s k u d b o .0)
     found none h = clash h refl
@@ -218,7 +214,7 @@ held-status-not-pending s k u d b h e = subst NotPending e (found (lookup k b) h
 pub held-value-not-pending : (s : BucketSettings) (k : ℕ) (v : Value) (b : Bucket) → holds k b ≡ true
     → updateValue s k v b .0 ≡ UpdateResult.UpdatedPending → ⊥
 unfolding updateValue
-held-value-not-pending s k v b h e = subst NotPending e (found (lookup k b) h)
+held-value-not-pending s k v b h e = subst NotPending e (found (get k b) h)
   where
     found : (o : Option Node) → isSome o ≡ true → NotPending (updateValueOf s k v b o .0)
     found none h = clash h refl
@@ -232,7 +228,7 @@ waiting-not-present k none = refl
 waiting-not-present k (some p) = cases (λ (e : EntryKind). isPresent e ≡ false) (same (p .node .key) k) (λ _. refl) (λ _. refl)
 
 pub present-held : (k : ℕ) (b : Bucket) → isPresent (kindOf k b) ≡ true → holds k b ≡ true
-present-held k b h = found (lookup k b) h
+present-held k b h = found (get k b) h
   where
     found : (o : Option Node) → isPresent (kindOfNode k b o) ≡ true → isSome o ≡ true
     found none h = clash h (waiting-not-present k (b .pending))
@@ -240,7 +236,7 @@ present-held k b h = found (lookup k b) h
 
 placed-held : (k : ℕ) (n : Node) (b : Bucket) → n .key ≡ k → holds k (placed n b) ≡ true
 placed-held k n b e =
-    ap isSome (lookup-nodes k (placed n b))
+    ap isSome (get-nodes k (placed n b))
     ∙ nodes-put (λ (l : List Node). isSome (find k l) ≡ true) n (withPending (cleared (n .key) (b .pending)) b) (λ xs ys q. find-insert k n xs ys e)
 
 -- entry.rs, PresentEntry::update: an entry whose update does not fail is still in the bucket
@@ -255,7 +251,7 @@ reinsert-held s k m n b e =
 pub present-stays : (s : BucketSettings) (k : ℕ) (u : Bool) (d : Option Bool) (b : Bucket) → holds k b ≡ true → isFailed (updateStatus s k u d b .0) ≡ false
     → holds k (updateStatus s k u d b .1) ≡ true
 unfolding updateStatus
-present-stays s k u d b h = stays (lookup k b) (lookup-key k b) h
+present-stays s k u d b h = stays (get k b) (get-key k b) h
   where
     stays : (o : Option Node) → Opt (λ (n : Node). n .key ≡ k) o → isSome o ≡ true → isFailed (updateStatusOf s k u d b o .0) ≡ false
         → holds k (updateStatusOf s k u d b o .1) ≡ true
@@ -264,7 +260,7 @@ present-stays s k u d b h = stays (lookup k b) (lookup-key k b) h
 
 -- entry.rs: "We can only build a ConnectedPendingEntry if the entry is pending"
 pub pending-waits : (k : ℕ) (b : Bucket) → isPending (kindOf k b) ≡ true → (p : PendingNode) × (b .pending ≡ some p) × (p .node .key ≡ k)
-pending-waits k b h = found (lookup k b) h
+pending-waits k b h = found (get k b) h
   where
     waits : (o : Option PendingNode) → isPending (kindIfPending k o) ≡ true → (p : PendingNode) × (o ≡ some p) × (p .node .key ≡ k)
     waits none h = clash h refl
@@ -279,7 +275,7 @@ pending-waits k b h = found (lookup k b) h
 -- entry.rs, PendingEntry::update: the entry is still pending
 pub pending-stays : (k : ℕ) (u d : Bool) (b : Bucket) → isPending (kindOf k b) ≡ true → kindOf k (updatePending u d b) ≡ EntryKind.Pending u d
 unfolding updatePending
-pending-stays k u d b h = found (lookup k b) h
+pending-stays k u d b h = found (get k b) h
   where
     waits : (o : Option PendingNode) → isPending (kindIfPending k o) ≡ true → kindIfPending k (pendingWithStatus u d o) ≡ EntryKind.Pending u d
     waits none h = clash h refl

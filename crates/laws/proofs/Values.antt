@@ -1,10 +1,10 @@
 -- Laws of the tests on values: equality, and being of one /24.
-use mathlib.Core.Path.{_≡_, refl, sym, ap, _∙_}
+use mathlib.Core.Path.{_≡_, refl, sym, _∙_}
 use mathlib.Core.Bool.{true}
 use mathlib.Core.Option.{Option, none, some}
 use Rattle.model.specs.Base.{same}
 use Rattle.model.specs.Value.{Address, Value, sameNet, sameAddress, sameValue, sharesNet}
-use Rattle.laws.proofs.Tests.{same-self, same-true, same-of, clash, split, and-left, and-right}
+use Rattle.laws.proofs.Tests.{same-self, same-true, same-of, clash, and-left, and-right}
 
 -- the first three octets of two addresses of one /24
 pub record SameNet (x y : Address) : Type 0 where
@@ -52,12 +52,6 @@ sameValue-true v w e =
 pub sameValue-self : (v : Value) → sameValue v v ≡ true
 unfolding sameValue
 sameValue-self v = rw (sameAddress-self (v .address), same-self (v .slot))
-
-pub sameValue-sym : (v w : Value) → sameValue v w ≡ sameValue w v
-sameValue-sym v w =
-    split (sameValue v w)
-    (λ e. e ∙ sym (ap (λ (x : Value). sameValue w x) (sameValue-true v w e) ∙ sameValue-self w))
-    (λ e. split (sameValue w v) (λ f. clash (ap (λ (x : Value). sameValue x w) (sym (sameValue-true w v f)) ∙ sameValue-self w) e) (λ f. e ∙ sym f))
 
 pub sharesNet-sym : (x y : Option Address) → sharesNet x y ≡ true → sharesNet y x ≡ true
 sharesNet-sym none y e = clash e refl

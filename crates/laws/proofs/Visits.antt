@@ -1,7 +1,6 @@
--- The visits of a closest call: their steps; whatever is visited first is nearer to the target; and each bucket is visited once, bucket
--- 0 twice where local and target keys are equal or their last bits differ. D is the local-target distance.
+-- The visits of a closest call: their steps, and that each bucket but bucket 0 is visited once. D is the local-target distance.
 use mathlib.Core.Path.{_≡_, refl, sym, ap, ap₂, _∙_}
-use mathlib.Core.Bool.{Bool, true, false, cond, not, _||_}
+use mathlib.Core.Bool.{Bool, true, false, cond, not}
 use mathlib.Core.Logic.{_⊎_, inl, inr}
 use mathlib.Core.List.{List, [], _∷_, _++_}
 use Prim.Native.Nat.{ℕ, zero, suc, _+_, _-_, _/_, _%_, _^_, _<_, _≤_}
@@ -9,15 +8,13 @@ use native.Mathlib.Nat.{lt-of-lt-of-le, zero-div, le-of-suc-le-suc, eq-or-lt-of-
 use native.Mathlib.Numerals.{add-one}
 use native.Mathlib.Omega.{arith}
 use lib.Dec.{eqb}
-use lib.Pow.{pow-pos, pow-mono, shr-mono}
-use lib.Bits.{bitXor}
+use lib.Pow.{pow-pos, pow-mono}
 use borrow.Author.Tests.{eqb-true, eq-eqb, ne-eqb}
 use Rattle.model.specs.Key.{InBucket, testBit}
 use Rattle.model.specs.Visit.{setsDown, clearsUp, visits}
 use Rattle.model.specs.Fits.{All}
-use Rattle.laws.proofs.Xor.{top-one, keep, flip-set, flip-clear}
+use Rattle.laws.proofs.Xor.{top-one}
 use Rattle.laws.proofs.All.{all-append, all-map}
-use Rattle.laws.proofs.Lists.{lt-or-le}
 
 -- ---- one step of the lists
 
@@ -47,10 +44,6 @@ module _ (D k : ℕ) where
   out-set h t =
       let e : 255 - k ≡ 256 - (k + 1) = omega arith in
       out-step h ∙ ap (λ s. cond s (clearsUp D (suc k) (255 - k)) (k ∷ clearsUp D (suc k) (255 - k))) t ∙ ap₂ (clearsUp D) (sym (add-one k)) e
-
-  pub out-none : 256 ≤ k → clearsUp D k (256 - k) ≡ []
-  unfolding clearsUp
-  out-none h = let e : 256 - k ≡ 0 = omega arith in ap (clearsUp D k) e
 
 -- the last of the clear bits
 pub clears-last : (D i k : ℕ) → clearsUp D i (suc k) ≡ clearsUp D i k ++ cond (testBit D (i + k)) [] ((i + k) ∷ [])
@@ -96,51 +89,8 @@ pub visits-none : (D : ℕ) → D ≡ 0 → visits D ≡ 0 ∷ (setsDown D 0 ++ 
 unfolding visits setsDown
 visits-none D e = ap (λ s. cond s (0 ∷ []) (setsDown D 256) ++ 0 ∷ clearsUp D 1 255) (eq-eqb D 0 e)
 
--- by the digits from n on
-high-lt : (n x y : ℕ) → x / 2 ^ n < y / 2 ^ n → x < y
-high-lt n x y h = go (lt-or-le x y)
-  where
-    go : (x < y) ⊎ (y ≤ x) → x < y
-    go (inl l) = l
-    go (inr g) = let m : y / 2 ^ n ≤ x / 2 ^ n = shr-mono n g in absurd (omega arith)
-
--- each distance of bucket i is nearer to the target than each of bucket j
-abbrev pub Nearer : ℕ → ℕ → ℕ → Type 0
-Nearer D i j = (d e : ℕ) → InBucket i d → InBucket j e → bitXor D d < bitXor D e
-
--- bit i is set: bucket i is nearer than each bucket below it
-pub nearer-set : (D i j : ℕ) → testBit D i ≡ true → j < i → Nearer D i j
-nearer-set D i j t h d e b c =
-    let p : bitXor D d / 2 ^ i + 1 ≡ D / 2 ^ i = flip-set D d i t b in
-    let q : bitXor D e / 2 ^ i ≡ D / 2 ^ i = keep D e i (lt-of-lt-of-le (c .below) (pow-mono h)) in
-    high-lt i (bitXor D d) (bitXor D e) (omega arith)
-
--- bit j is clear: each bucket below it is nearer than bucket j
-pub nearer-clear : (D i j : ℕ) → testBit D j ≡ false → i < j → Nearer D i j
-nearer-clear D i j t h d e b c =
-    let p : bitXor D e / 2 ^ j ≡ D / 2 ^ j + 1 = flip-clear D e j t c in
-    let q : bitXor D d / 2 ^ j ≡ D / 2 ^ j = keep D d j (lt-of-lt-of-le (b .below) (pow-mono h)) in
-    high-lt j (bitXor D d) (bitXor D e) (omega arith)
-
--- ---- the visits are in that order
-
-abbrev pub Then : ℕ → ℕ → ℕ → Type 0
-Then D i j = (i ≡ j → ⊥) → Nearer D i j
-
--- each is nearer than every later, different one
-abbrev pub InOrder : ℕ → List ℕ → Type 0
-InOrder D [] = Unit {0}
-InOrder D (i ∷ l) = All (Then D i) l × InOrder D l
-
-order-append : (D : ℕ) (l m : List ℕ) → InOrder D l → InOrder D m → All (λ i. All (Then D i) m) l → InOrder D (l ++ m)
-order-append D [] m p q r = q
-order-append D (i ∷ l) m p q r = (all-append (Then D i) l m (p .0) (r .0), order-append D l m (p .1) q (r .1))
-
 abbrev SetBelow : ℕ → ℕ → ℕ → Type 0
 SetBelow D n i = (testBit D i ≡ true) × (i < n)
-
-abbrev ClearFrom : ℕ → ℕ → ℕ → Type 0
-ClearFrom D s i = (testBit D i ≡ false) × (s ≤ i)
 
 all-if : (P : ℕ → Type 0) (t : Bool) (x : ℕ) (l : List ℕ) → (t ≡ true → P x) → All P l → All P (cond t (x ∷ l) l)
 all-if P true x l p q = (p refl, q)
@@ -156,64 +106,6 @@ sets-are D zero = tt
 sets-are D (suc n) =
     all-if (SetBelow D (suc n)) (testBit D n) n (setsDown D n) (λ t. (t, omega arith))
     (all-map (SetBelow D n) (SetBelow D (suc n)) (λ i h. (h .0, (let l : i < n = h .1 in omega arith))) (setsDown D n) (sets-are D n))
-
-clears-are : (D s k : ℕ) → All (ClearFrom D s) (clearsUp D s k)
-unfolding clearsUp
-clears-are D s zero = tt
-clears-are D s (suc k) =
-    all-unless (ClearFrom D s) (testBit D s) s (clearsUp D (suc s) k) (λ t. (t, omega arith))
-    (all-map (ClearFrom D (suc s)) (ClearFrom D s) (λ i h. (h .0, (let l : suc s ≤ i = h .1 in omega arith))) (clearsUp D (suc s) k) (clears-are D (suc s) k))
-
-order-if : (D : ℕ) (t : Bool) (x : ℕ) (l : List ℕ) → (t ≡ true → All (Then D x) l) → InOrder D l → InOrder D (cond t (x ∷ l) l)
-order-if D true x l p q = (p refl, q)
-order-if D false x l p q = q
-
-order-unless : (D : ℕ) (t : Bool) (x : ℕ) (l : List ℕ) → (t ≡ false → All (Then D x) l) → InOrder D l → InOrder D (cond t l (x ∷ l))
-order-unless D true x l p q = q
-order-unless D false x l p q = (p refl, q)
-
-sets-order : (D n : ℕ) → InOrder D (setsDown D n)
-unfolding setsDown
-sets-order D zero = tt
-sets-order D (suc n) =
-    order-if D (testBit D n) n (setsDown D n)
-    (λ t. all-map (SetBelow D n) (Then D n) (λ j h ne. nearer-set D n j t (h .1)) (setsDown D n) (sets-are D n)) (sets-order D n)
-
-clears-order : (D s k : ℕ) → InOrder D (clearsUp D s k)
-unfolding clearsUp
-clears-order D s zero = tt
-clears-order D s (suc k) =
-    order-unless D (testBit D s) s (clearsUp D (suc s) k)
-    (λ t. all-map (ClearFrom D (suc s)) (Then D s) (λ j h ne. nearer-clear D s j (h .0) (h .1)) (clearsUp D (suc s) k) (clears-are D (suc s) k))
-    (clears-order D (suc s) k)
-
--- a set bit against 0 and the clear bits
-set-then : (D i : ℕ) → testBit D i ≡ true → (k : ℕ) → All (Then D i) (0 ∷ clearsUp D 1 k)
-set-then D i t k = (
-  (λ ne. nearer-set D i 0 t (omega (arith, ne))),
-  all-map (ClearFrom D 1) (Then D i) (λ j h ne. go j (h .0) ne (lt-or-le i j)) (clearsUp D 1 k) (clears-are D 1 k),
-)
-  where
-    go : (j : ℕ) → testBit D j ≡ false → (i ≡ j → ⊥) → (i < j) ⊎ (j ≤ i) → Nearer D i j
-    go j f ne (inl l) = nearer-clear D i j f l
-    go j f ne (inr g) = nearer-set D i j t (omega (arith, ne))
-
-zero-then : (D k : ℕ) → All (Then D 0) (clearsUp D 1 k)
-zero-then D k = all-map (ClearFrom D 1) (Then D 0) (λ j h ne. nearer-clear D 0 j (h .0) (h .1)) (clearsUp D 1 k) (clears-are D 1 k)
-
--- whatever is visited first is nearer
-pub visits-order : (D : ℕ) → InOrder D (visits D)
-unfolding visits
-visits-order D = go (eqb D 0)
-  where
-    out : InOrder D (0 ∷ clearsUp D 1 255)
-    out = (zero-then D 255, clears-order D 1 255)
-
-    go : (z : Bool) → InOrder D (cond z (0 ∷ []) (setsDown D 256) ++ 0 ∷ clearsUp D 1 255)
-    go true = (((λ ne. absurd (ne refl)), zero-then D 255), out)
-    go false =
-        order-append D (setsDown D 256) (0 ∷ clearsUp D 1 255) (sets-order D 256) out
-        (all-map (SetBelow D 256) (λ i. All (Then D i) (0 ∷ clearsUp D 1 255)) (λ i h. set-then D i (h .0) 255) (setsDown D 256) (sets-are D 256))
 
 clears-below : (D s k : ℕ) → s + k ≤ 256 → All (λ i. i < 256) (clearsUp D s k)
 unfolding clearsUp
@@ -241,10 +133,6 @@ addOne t n = cond t (suc n) n
 unfoldable pub times : ℕ → List ℕ → ℕ
 times i [] = zero
 times i (x ∷ l) = addOne (eqb x i) (times i l)
-
--- the distance is 0, or its last bit is set
-unfoldable pub twice : ℕ → Bool
-twice D = eqb D 0 || testBit D 0
 
 pub times-append : (i : ℕ) (l m : List ℕ) → times i (l ++ m) ≡ times i l + times i m
 unfolding times
@@ -332,20 +220,3 @@ visits-once D i p h = go (eqb D 0) refl
         ∙ ap (λ t. addOne (not t) 0) (no-bit D i (eqb-true D 0 e))
     go false e =
         times-append i (setsDown D 256) (0 ∷ clearsUp D 1 255) ∙ ap₂ (λ (x y : ℕ). x + y) (sets-in D 256 i h) head ∙ both (testBit D i)
-
--- bucket 0 once, and twice where local and target key are equal or their last bits differ
-pub visits-zero : (D : ℕ) → times 0 (visits D) ≡ addOne (twice D) 1
-unfolding visits times twice
-visits-zero D = go (eqb D 0)
-  where
-    head : suc (times 0 (clearsUp D 1 255)) ≡ 1
-    head = ap suc (clears-out D 1 255 0 (omega arith))
-
-    sum : (t : Bool) → addOne t 0 + 1 ≡ addOne t 1
-    sum true = refl
-    sum false = refl
-
-    go : (z : Bool) → times 0 (cond z (0 ∷ []) (setsDown D 256) ++ 0 ∷ clearsUp D 1 255) ≡ addOne (z || testBit D 0) 1
-    go true = ap suc head
-    go false =
-        times-append 0 (setsDown D 256) (0 ∷ clearsUp D 1 255) ∙ ap₂ (λ (x y : ℕ). x + y) (sets-in D 256 0 (omega arith)) head ∙ sum (testBit D 0)

@@ -6,7 +6,7 @@ use Rattle.model.specs.Value.{sameNet, sameValue}
 use Rattle.model.specs.Bucket as model
 use Rattle.model.specs.Result.{BucketInsertResult, UpdateResult}
 use Rattle.key.specs.declared.Key.{Key}
-use Rattle.key.specs.Key.{num}
+use Rattle.key.specs.Key.{num, keyOf}
 use Rattle.node.specs.declared.Node.{Node}
 use Rattle.bucket.specs.declared.KBucket.{KBucket}
 use Rattle.bucket.specs.Bucket.{keyAt, sound}
@@ -21,11 +21,11 @@ pub steps : {b c : KBucket} {k l : Key} {x : Reply UpdateResult × KBucket} → 
 steps {c = c} {k = k} e f g = sym g ∙ ap (λ (b : KBucket). updateStatusCall b k 1 2) e ∙ ap (λ (y : Key). updateStatusCall c y 1 2) f
 
 pub insert-refused : insertCall (malformed emptied) (nodeFrom 32) 0 ≡ (Reply.Refused 2, malformed emptied)
-unfolding same num sound newCall insertCall
+unfolding same num keyOf sound newCall insertCall
 insert-refused = refl
 
 pub step-refused : updateStatusCall (malformed emptied) (keyFrom 32) 1 2 ≡ (Reply.Refused 2, malformed emptied)
-unfolding same num sound newCall updateStatusCall
+unfolding same num keyOf sound newCall updateStatusCall
 step-refused = refl
 
 pub none-held : malformed emptied .count ≡ 0
@@ -33,16 +33,16 @@ unfolding newCall
 none-held = refl
 
 pub inserted : insertCall (insertCall emptied (nodeFrom 32) 0 .1) (nodeFrom 33) 0 .0 ≡ Reply.Answered BucketInsertResult.Inserted
-unfolding same counts ipFilterFails sameNet sameValue model.isFull model.failsBucketFilter model.isMaxIncoming model.insert num sound newCall insertCall
+unfolding same counts ipFilterFails sameNet sameValue model.isFull model.failsBucketFilter model.isMaxIncoming model.insert num keyOf sound newCall insertCall
 inserted = refl
 
 pub two-held : two .count ≡ 2
-unfolding same counts ipFilterFails sameNet sameValue model.isFull model.failsBucketFilter model.isMaxIncoming model.insert num sound newCall insertCall
+unfolding same counts ipFilterFails sameNet sameValue model.isFull model.failsBucketFilter model.isMaxIncoming model.insert num keyOf sound newCall insertCall
 two-held = refl
 
 abbrev restated : Reply UpdateResult × KBucket
 restated = updateStatusCall two (keyFrom 32) 1 2
 
 pub moved : (restated .0 ≡ Reply.Answered UpdateResult.NotModified) × (keyAt (restated .1) 0 ≡ 33) × (keyAt (restated .1) 1 ≡ 32)
-unfolding same counts ipFilterFails sameNet sameValue model.isFull model.failsBucketFilter model.isMaxIncoming model.insert model.reinsert model.updateStatus num sound newCall insertCall updateStatusCall
+unfolding same counts ipFilterFails sameNet sameValue model.isFull model.failsBucketFilter model.isMaxIncoming model.insert model.reinsert model.updateStatus num keyOf sound newCall insertCall updateStatusCall
 moved = (refl, refl, refl)

@@ -25,7 +25,7 @@ emptied = newCall 60000 16 0 .1
 abbrev pub two : KBucket
 two = insertCall (insertCall emptied (nodeFrom 32) 0 .1) (nodeFrom 33) 0 .1
 
--- the same bucket with a first connected place that is not its count: it fails question 2
+-- the bucket with 1 as its first connected place: an empty one then fails question 2
 abbrev pub malformed : KBucket → KBucket
 malformed b = record {
   nodes = b .nodes;

@@ -15,7 +15,7 @@ use node::NodeStatus;
 use node::Value;
 
 // The key of a number.
-pub fn key_from(k: u64) -> Key
+pub(crate) fn key_from(k: u64) -> Key
     ensures { λ r. ⌜ r ≡ keyFrom k ⌝ }
 {
     Key {
@@ -27,7 +27,7 @@ pub fn key_from(k: u64) -> Key
 }
 
 // A connected outgoing node with no address.
-pub fn node_from(k: u64) -> Node
+pub(crate) fn node_from(k: u64) -> Node
     ensures { λ r. ⌜ r ≡ nodeFrom k ⌝ }
 {
     let key = key_from(k);
@@ -47,7 +47,7 @@ pub fn node_from(k: u64) -> Node
 }
 
 // An empty bucket with timeout 60,000 and no filter.
-pub fn empty() -> KBucket
+pub(crate) fn empty() -> KBucket
     ensures { λ r. ⌜ r ≡ emptied ⌝ }
 {
     let made = KBucket::new(60000, 16, 0);
@@ -55,7 +55,7 @@ pub fn empty() -> KBucket
 }
 
 // An empty bucket whose first connected place is 1.
-pub fn broken() -> KBucket
+pub(crate) fn broken() -> KBucket
     ensures { λ r. ⌜ r ≡ malformed emptied ⌝ }
 {
     let b = empty();
@@ -73,7 +73,7 @@ pub fn broken() -> KBucket
 }
 
 // An insert into a malformed bucket is refused, and the bucket keeps its bytes.
-pub fn refused_insert() -> InsertReply
+pub(crate) fn refused_insert() -> InsertReply
     ensures { λ r. ⌜ insertAnswerOf (r .answer) ≡ Reply.Refused 2 ⌝ }
     ensures { λ r. ⌜ r .bucket ≡ malformed emptied ⌝ }
 {
@@ -82,7 +82,7 @@ pub fn refused_insert() -> InsertReply
 }
 
 // So is a status step.
-pub fn refused_status() -> UpdateReply
+pub(crate) fn refused_status() -> UpdateReply
     ensures { λ r. ⌜ updateAnswerOf (r .answer) ≡ Reply.Refused 2 ⌝ }
     ensures { λ r. ⌜ r .bucket ≡ malformed emptied ⌝ }
 {
@@ -91,7 +91,7 @@ pub fn refused_status() -> UpdateReply
 }
 
 // Connected 32 and 33 are inserted.
-pub fn inserted() -> InsertReply
+pub(crate) fn inserted() -> InsertReply
     ensures { λ r. ⌜ insertAnswerOf (r .answer) ≡ Reply.Answered BucketInsertResult.Inserted ⌝ }
     ensures { λ r. ⌜ r .bucket ≡ two ⌝ }
 {
@@ -102,7 +102,7 @@ pub fn inserted() -> InsertReply
 }
 
 // 32 is set connected: it moves behind 33.
-pub fn moved() -> UpdateReply
+pub(crate) fn moved() -> UpdateReply
     ensures { λ r. ⌜ updateAnswerOf (r .answer) ≡ Reply.Answered UpdateResult.NotModified ⌝ }
     ensures { λ r. ⌜ keyAt (r .bucket) 0 ≡ 33 ⌝ }
     ensures { λ r. ⌜ keyAt (r .bucket) 1 ≡ 32 ⌝ }
@@ -113,7 +113,7 @@ pub fn moved() -> UpdateReply
 }
 
 // The question that failed, or 0.
-pub fn insert_question(a: InsertAnswer) -> u8
+pub(crate) fn insert_question(a: InsertAnswer) -> u8
     ensures { λ r. ⌜ r ≡ question (insertAnswerOf a) ⌝ }
 {
     match a {
@@ -123,7 +123,7 @@ pub fn insert_question(a: InsertAnswer) -> u8
 }
 
 // The same of an update.
-pub fn update_question(a: UpdateAnswer) -> u8
+pub(crate) fn update_question(a: UpdateAnswer) -> u8
     ensures { λ r. ⌜ r ≡ question (updateAnswerOf a) ⌝ }
 {
     match a {

@@ -1,7 +1,7 @@
 -- The listing of each shape: what it is asked, its order and what it shows.
-use mathlib.Core.Path.{_≡_, refl, sym, ap, _∙_}
-use mathlib.Core.Bool.{Bool, true, false, _&&_}
-use mathlib.Core.List.{List, []}
+use mathlib.Core.Path.{_≡_, refl, sym, _∙_}
+use mathlib.Core.Bool.{true, and-true}
+use mathlib.Core.List.{List}
 use Prim.Native.Nat.{ℕ, _≤_}
 use native.Mathlib.Omega.{arith}
 use lib.Dec.{eqb, leb}
@@ -11,7 +11,7 @@ use Rattle.model.specs.Base.{every}
 use Rattle.model.specs.Bytes.{number}
 use Rattle.model.specs.Key.{distance}
 use Rattle.model.specs.Node.{Node}
-use Rattle.model.specs.Bucket.{Bucket, nodes, count}
+use Rattle.model.specs.Bucket.{Bucket, nodes, numEntries}
 use Rattle.model.specs.Table.{Table}
 use Rattle.model.specs.Sizes.{keySize}
 use Rattle.model.specs.Visit.{visits}
@@ -22,15 +22,11 @@ use Rattle.laws.proofs.Tests.{cases}
 use Rattle.laws.proofs.Sort.{length-sort}
 use Rattle.laws.proofs.BucketBytes.{length-nodes}
 use Rattle.key.specs.Key.{num}
-use Rattle.visit.specs.Passes.{held, Course}
-use Rattle.visit.proofs.Courses.{course-visits, course-in-turn}
+use Rattle.visit.specs.Passes.{held, Visitable}
+use Rattle.visit.proofs.Visitable.{visitable-visits, visitable-in-turn}
 use Rattle.found.specs.declared.Shape.{Shape}
 use Rattle.found.specs.Shape.{itemBy, sizeBy, shownBy}
-use Rattle.listing.specs.Listed.{listingBy, orderBy, Aimed}
-
-and-true : (b : Bool) → (b && true) ≡ b
-and-true true = refl
-and-true false = refl
+use Rattle.listing.specs.Listed.{listingBy, orderBy, TargetOf}
 
 -- what it is asked
 pub record Asks (x : Shape) (target : List ℕ) (n : ℕ) (l : Listing) : Type 0 where
@@ -47,7 +43,7 @@ pub record Gives (x : Shape) (t : Table) (n now : ℕ) (l : Listing) : Type 0 wh
   pub item : (m : Node) → item l m ≡ itemBy x m
   pub most : most l n ≡ n
 
-module _ (x : Shape) (target : List ℕ) (a : Aimed x target) where
+module _ (x : Shape) (target : List ℕ) (a : TargetOf x target) where
   small : (k : ℕ) → eqb (x .form) k ≡ true → k ≤ 2 → true ≡ leb (x .predicate) 3
   small k e h = sym (le-leb (x .predicate) 3 (a .always (let p : x .form ≡ k = eqb-true (x .form) k e in omega arith)))
 
@@ -78,15 +74,15 @@ module _ (x : Shape) (target : List ℕ) (a : Aimed x target) where
       (λ g. record { order = rw (e, p); applies = rw (e, p); shown = λ i. rw (e, p); item = λ m. rw (e, f, g); most = refl })
       (λ g. record { order = rw (e, p); applies = rw (e, p); shown = λ i. rw (e, p); item = λ m. rw (e, f, g); most = refl })))
 
-pub course-by : (x : Shape) (t : Table) → Course (orderBy x t)
+pub visitable-by : (x : Shape) (t : Table) → Visitable (orderBy x t)
 unfolding orderBy
-course-by x t =
-    cases Course (eqb (x .form) 0) (λ _. course-in-turn) (λ _. course-visits (distance (t .settings .localKey) (num (x .target))))
+visitable-by x t =
+    cases Visitable (eqb (x .form) 0) (λ _. visitable-in-turn) (λ _. visitable-visits (distance (t .settings .localKey) (num (x .target))))
 
-pub length-shown : (x : Shape) (b : Bucket) → length (shownBy x b) ≡ count b
+pub length-shown : (x : Shape) (b : Bucket) → length (shownBy x b) ≡ numEntries b
 unfolding shownBy
 length-shown x b =
-    cases (λ (ns : List Node). length ns ≡ count b) (eqb (x .form) 0) (λ _. length-nodes b)
+    cases (λ (ns : List Node). length ns ≡ numEntries b) (eqb (x .form) 0) (λ _. length-nodes b)
     (λ _. length-sort (λ (n : Node). distance (num (x .target)) (n .key)) (nodes b) ∙ length-nodes b)
 
 pub size-most : (x : Shape) → sizeBy x ≤ 64

@@ -11,7 +11,7 @@ use borrow.Author.Tests.{eqb-true, leb-true, le-leb, lt-leb}
 use Rattle.model.specs.Base.{same, every, joined}
 use Rattle.model.specs.Bytes.{Bytes}
 use Rattle.model.specs.Node.{Node, AppliedPending}
-use Rattle.model.specs.Bucket.{Bucket, count}
+use Rattle.model.specs.Bucket.{numEntries}
 use Rattle.model.specs.Table.{Table, Answer, numBuckets, maxRecords}
 use Rattle.model.specs.Sizes.{keySize, storageSize}
 use Rattle.model.specs.Call.{Listing, Call}
@@ -33,12 +33,12 @@ use Rattle.laws.proofs.Restore.{restore-is}
 use Rattle.asked.specs.Answers.{firstFive, failedOfFive}
 use Rattle.asked.proofs.Questions.{front-fails, front-passes, passed-five, PassedFive}
 use Rattle.visit.specs.Passes.{held, visitOne, visitAll}
-use Rattle.visit.proofs.Courses.{all-visited}
+use Rattle.laws.proofs.Touched.{all-visited}
 use Rattle.found.specs.declared.Shape.{Shape}
 use Rattle.found.specs.Shape.{itemBy, sizeBy, shownBy}
 use Rattle.found.specs.Lists.{Lists}
-use Rattle.listing.specs.Listed.{listingBy, orderBy, Aimed, roomBy, failedOfSix, firstNodes, Put, listed}
-use Rattle.listing.proofs.Shapes.{Asks, Gives, asks, gives, course-by, length-shown}
+use Rattle.listing.specs.Listed.{listingBy, orderBy, TargetOf, roomBy, failedOfSix, firstNodes, Put, listed}
+use Rattle.listing.proofs.Shapes.{Asks, Gives, asks, gives, visitable-by, length-shown}
 
 -- the buckets visited are those that were applied, so that the items may be read from the table that is left
 
@@ -140,7 +140,7 @@ module _ (x : Shape) (target : List ℕ) (now n len : ℕ) (s : List ℕ) where
     unfolding failedOfFive failedOfSix
     six-none r = front-passes first ((6, roomBy x n len) ∷ []) e ∙ ap (λ (b : Bool). cond b none (some 6)) r
 
-module _ (x : Shape) (target : List ℕ) (a : Aimed x target) (now n : ℕ) (out s : List ℕ) where
+module _ (x : Shape) (target : List ℕ) (a : TargetOf x target) (now n : ℕ) (out s : List ℕ) where
   abbrev t : Table
   t = tableOf s
 
@@ -241,7 +241,7 @@ module _ (x : Shape) (target : List ℕ) (a : Aimed x target) (now n : ℕ) (out
         let g : Fits u = with-queue u (applyAll-fits now js t (endless t f)) (leb-true (length (u .queue)) maxRecords q) in
         ap (λ (ks : List ℕ). restore s ks (applyAll now ks t .0)) (given .applies)
         ∙ ap (λ (r : List ℕ). restore r js u) (sym (table-back s h (five .size) (five .formed)))
-        ∙ restore-is t u f g js (all-visited (λ (i : ℕ). i < numBuckets) (held now t) n is (course-by x t .below)) (λ i _ o. sym (applyAll-other now i js t o))
+        ∙ restore-is t u f g js (all-visited (λ (i : ℕ). i < numBuckets) (held now t) n is (visitable-by x t .below)) (λ i _ o. sym (applyAll-other now i js t o))
 
     answered : Bytes s → {r : Answer} {s′ out′ : List ℕ} → Lists r s′ out′ (listed x now n is out s) → Lists r s′ out′ (stepBytes c s)
     unfolding stepBytes act listed

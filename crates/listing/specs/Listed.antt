@@ -34,7 +34,7 @@ unfoldable pub orderBy : Shape → Table → List ℕ
 orderBy x t = cond (eqb (x .form) 0) (tabulate numBuckets (λ i. i)) (visits (distance (t .settings .localKey) (num (x .target))))
 
 -- a shape and the bytes of its target; `iter` has neither target nor predicate and is handed ones that fail no question
-pub record Aimed (x : Shape) (target : List ℕ) : Type 0 where
+pub record TargetOf (x : Shape) (target : List ℕ) : Type 0 where
   pub form : x .form ≤ 3
   pub aim : length target ≡ keySize → num (x .target) ≡ number target
   pub whole : x .form ≡ 0 → length target ≡ keySize

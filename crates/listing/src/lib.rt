@@ -14,10 +14,10 @@ ghost use Rattle.model.specs.StepBytes.{stepBytes};
 ghost use Rattle.key.specs.Key.{num};
 ghost use Rattle.key.specs.Visits.{remaining};
 ghost use Rattle.asked.specs.Answers.{Timely, refusal};
-ghost use Rattle.visit.specs.Passes.{Course};
+ghost use Rattle.visit.specs.Passes.{Visitable};
 ghost use Rattle.found.specs.Shape.{sizeBy};
 ghost use Rattle.found.specs.Lists.{Lists, listAnswer};
-ghost use Rattle.listing.specs.Listed.{listingBy, orderBy, Aimed, failedOfSix, firstNodes, Put, listed};
+ghost use Rattle.listing.specs.Listed.{listingBy, orderBy, TargetOf, failedOfSix, firstNodes, Put, listed};
 use found::ListAnswer;
 use found::Shape;
 use key::BucketIndex;
@@ -82,7 +82,7 @@ fn visit_of(s: &[u8], shape: Shape) -> ClosestBucketsIter
 // Writes the items of the buckets, up to n, and answers how many. No further bucket is visited after the n-th.
 fn put_all(s: &[u8], visit: ClosestBucketsIter, shape: Shape, out: &mut [u8], n: usize) -> usize
     requires { ⌜ (length (now s) ≡ storageSize) × (formed (now s) ≡ true) ⌝ }
-    requires { ⌜ Course (remaining visit) ⌝ }
+    requires { ⌜ Visitable (remaining visit) ⌝ }
     requires { ⌜ shape .form ≤ 3 ⌝ }
     requires { ⌜ (n ≤ maxCount) × (n * sizeBy shape ≤ length (now out)) ⌝ }
     ensures { λ r. ⌜ Put shape (firstNodes n shape (tableOf (now (s .entry))) (remaining visit)) r (now (out .entry)) (now (out .exit)) ⌝ }
@@ -116,7 +116,7 @@ fn list_visited(
 ) -> ListAnswer
     requires { ⌜ (length (now s) ≡ storageSize) × (formed (now s) ≡ true) ⌝ }
     requires { ⌜ Timely (now s) time ⌝ }
-    requires { ⌜ Course (remaining visit) ⌝ }
+    requires { ⌜ Visitable (remaining visit) ⌝ }
     requires { ⌜ shape .form ≤ 3 ⌝ }
     requires { ⌜ (n ≤ maxCount) × (n * sizeBy shape ≤ length (now out)) ⌝ }
     ensures { λ r. ⌜ Lists (listAnswer r) (now (s .exit)) (now (out .exit)) (listed shape time n (remaining visit) (now (out .entry)) (now (s .entry))) ⌝ }
@@ -140,7 +140,7 @@ fn list(
     n: usize,
     out: &mut [u8],
 ) -> ListAnswer
-    requires { ⌜ Aimed shape (now target) ⌝ }
+    requires { ⌜ TargetOf shape (now target) ⌝ }
     ensures { λ r. ⌜ Lists (listAnswer r) (now (s .exit)) (now (out .exit)) (stepBytes (Call.list (listingBy shape (now (target .entry))) n time (now (out .entry))) (now (s .entry))) ⌝ }
 {
     let q = asked_list(s, target, shape, time, n, out.len());

@@ -7,13 +7,12 @@ use mathlib.Core.Logic.{_⊎_}
 use lib.ListN.{length}
 use Rattle.model.specs.Value.{Value, sharesNet}
 use Rattle.model.specs.Node.{Node}
-use Rattle.model.specs.Bucket.{nodes, count, incomingNodes}
+use Rattle.model.specs.Bucket.{nodes, numEntries, incomingNodes}
 use Rattle.model.specs.Table.{Table}
 use Rattle.model.specs.Call.{Call}
 use Rattle.model.specs.Step.{step}
 use Rattle.model.specs.Layout.{tableOf}
 use Rattle.model.specs.Formed.{formed}
-use Rattle.model.specs.StepBytes.{stepBytes}
 use Rattle.log.specs.Log.{Entry, logOf, logBucket}
 
 -- Each call gets the table as the one before left it.
@@ -24,16 +23,6 @@ tableAfter (c ∷ cs) t = tableAfter cs (step c t .table)
 abbrev pub entries : List Call → Table → List Entry
 entries [] t = []
 entries (c ∷ cs) t = record { call = c; answer = step c t .answer; records = step c t .records } ∷ entries cs (step c t .table)
-
--- The same on bytes that only these calls write.
-abbrev pub storageAfter : List Call → List ℕ → List ℕ
-storageAfter [] s = s
-storageAfter (c ∷ cs) s = storageAfter cs (stepBytes c s .storage)
-
-abbrev pub entriesOn : List Call → List ℕ → List Entry
-entriesOn [] s = []
-entriesOn (c ∷ cs) s =
-    record { call = c; answer = stepBytes c s .answer; records = stepBytes c s .records } ∷ entriesOn cs (stepBytes c s .storage)
 
 -- a node with this value is in the list
 abbrev pub HasValue : Value → List Node → Type 0
@@ -52,7 +41,7 @@ pub record Claim (h : List Entry) (t : Table) : Type 0 where
   -- bucket i, place by place, is what the log says
   pub places : (i : ℕ) → nodes (t .buckets i) ≡ logBucket (logOf h) i
   pub settings : t .settings ≡ logOf h .settings
-  pub at-most-16 : (i : ℕ) → count (t .buckets i) ≤ 16
+  pub at-most-16 : (i : ℕ) → numEntries (t .buckets i) ≤ 16
   pub incoming-within : (i : ℕ) → length (incomingNodes (nodes (t .buckets i))) ≤ logOf h .settings .bucket .maxIncoming
   pub two-of-a-net : (i : ℕ) → logOf h .settings .bucket .filter ≡ true → TwoOfANet (nodes (t .buckets i))
   pub queue-within : length (t .queue) ≤ 64

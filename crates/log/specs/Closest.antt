@@ -39,6 +39,10 @@ nearest local target ns =
     let s = sortBy (far target) ns in
     cond (doubles local target) (doubled (λ n. isAt (bucketIndex local (n .key)) 0) s) s
 
+-- the nodes of the list: the first n
+abbrev pub closestNodes : (x : List ℕ) (n now : ℕ) (t : Table) → List Node
+closestNodes x n now t = take n (nearest (t .settings .localKey) (number x) (allHeld now t))
+
 -- the target of a closest call
 abbrev pub target : Listing → Option (List ℕ)
 target Listing.iter = none
@@ -56,7 +60,7 @@ Ascending f (n ∷ m ∷ ns) = (f n ≤ f m) × Ascending f (m ∷ ns)
 -- An accepted closest call on a storage: its list is the first n of all held nodes, nearest first, with what the call gives of each
 -- node, and the count found is its length. `sorted` and `all-there` say that `sortBy` arranges the same nodes in order.
 pub record ClosestClaim (l : Listing) (x : List ℕ) (n now : ℕ) (out s : List ℕ) : Type 0 where
-  pub answer : stepBytes (Call.list l n now out) s .answer ≡ Answer.Found (length (take n (nearest (tableOf s .settings .localKey) (number x) (allHeld now (tableOf s)))))
-  pub output : stepBytes (Call.list l n now out) s .output ≡ written (map (item l) (take n (nearest (tableOf s .settings .localKey) (number x) (allHeld now (tableOf s))))) out
+  pub answer : stepBytes (Call.list l n now out) s .answer ≡ Answer.Found (length (closestNodes x n now (tableOf s)))
+  pub output : stepBytes (Call.list l n now out) s .output ≡ written (map (item l) (closestNodes x n now (tableOf s))) out
   pub sorted : Ascending (far (number x)) (sortBy (far (number x)) (allHeld now (tableOf s)))
   pub all-there : (p : Node → Bool) → length (select p (sortBy (far (number x)) (allHeld now (tableOf s)))) ≡ length (select p (allHeld now (tableOf s)))

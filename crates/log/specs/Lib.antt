@@ -1,7 +1,5 @@
 -- The log, and what is claimed of whole lists of calls.
-pub mod Keys
 pub mod Log
-pub mod Fold
 pub mod Closest
 pub mod Claim
 pub mod Sample

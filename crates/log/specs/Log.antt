@@ -15,7 +15,6 @@ use Rattle.model.specs.Table.{Settings, Answer}
 use Rattle.model.specs.Call.{Call, isOne, optional, valueOf}
 use Rattle.model.specs.Step.{settingsOf}
 use Rattle.model.specs.Formed.{isAt}
-use Rattle.log.specs.Keys.{without}
 
 -- what the log is fed of one call
 pub record Entry : Type 0 where
@@ -101,7 +100,7 @@ pub data Role : Type 0 where
 
 -- A status step belongs to every insert_or_update, update_node_status and Present update, and to update_node given a state.
 abbrev pub role : Call → Role
-role (Call.new k timeout m tf bf) = Role.empties (settingsOf k timeout m tf bf)
+role (Call.new k timeout m tf bf) = Role.empties (settingsOf (number k) timeout m tf bf)
 role (Call.updateNodeStatus k st dr now) = Role.names (number k) true (some (isOne st)) (optional dr) none
 role (Call.updateNode k v st now) = Role.names (number k) (isSome (optional st)) (optional st) none (some (valueOf v))
 role (Call.insertOrUpdate k v st dr now) = Role.names (number k) true (some (isOne st)) (some (isOne dr)) (some (valueOf v))
@@ -133,7 +132,8 @@ abbrev pub recordEvents : List AppliedPending → List Event → List Event
 recordEvents [] es = es
 recordEvents (r ∷ rs) es = recordEvents rs (Event.placement (r .inserted) ∷ evictionEvents (r .evicted) es)
 
--- Then come the call's own. Placement: Inserted; on a held key, a status step in a call that does not answer Failed.
+-- Then come the call's own. Placement: Inserted; on a held key (held after the records: docs/DECISIONS.md, 10), a status step in a call
+-- that does not answer Failed.
 abbrev pub ownEvents : Role → Answer → List Event → List Event
 ownEvents (Role.names k step u d v) a es =
     cond (departs a) (Event.departure k ∷ es) (cond (answersInserted a || (step && heldNow k es)) (Event.placement k ∷ es) es)
@@ -166,6 +166,10 @@ nowSettings Role.silent before = before
 abbrev pub lastSettings : Settings → List Entry → Settings
 lastSettings s [] = s
 lastSettings s (e ∷ h) = cond (isRefused (e .answer)) (lastSettings s h) (nowSettings (role (e .call)) (lastSettings s h))
+
+abbrev pub without : ℕ → List ℕ → List ℕ
+without k [] = []
+without k (x ∷ xs) = cond (same x k) (without k xs) (x ∷ without k xs)
 
 -- The held keys in the order of their last placements (crates/theorem, Literal: this list and no other).
 abbrev pub order : List Event → List ℕ

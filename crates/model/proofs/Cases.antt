@@ -11,7 +11,7 @@ use Rattle.model.specs.Bucket.{firstConnectedPos, isFull, failsBucketFil
 use Rattle.model.specs.Table.{heldNodes, failsTableFilter}
 use Rattle.model.specs.Sort.{insertBy, sortBy}
 use Rattle.model.specs.Visit.{setsDown, clearsUp, visits}
-use Rattle.model.specs.Listing.{visited, found}
+use Rattle.model.specs.Listing.{visited, indexAt, found}
 use Rattle.model.specs.Question.{keysFit, codesInRange, clockFits, outputFits, kindFits}
 use Rattle.model.specs.Step.{act, queueFits, step}
 use Rattle.model.specs.Layout.{valueBytes, nodeBytes, recordBytes, bucketBytes, headerBytes, itemBytes, valueIn, nodeIn, recordIn, nodesIn, bucketIn, settingsIn, tableOf}
@@ -21,5 +21,5 @@ use Rattle.model.specs.Rows.{holds}
 use Rattle.model.specs.Cases.{cases}
 
 pub cases-hold : every holds cases ≡ true
-unfolding leadingZeros same joined tabulate allBelow number bytes part splice log2Distance bucketIndex testBit sameNet sameValue counts ipFilterFails firstConnectedPos isFull failsBucketFilter isMaxIncoming insert applyDue applyPending reinsert updateStatus updateValue updatePending remove heldNodes failsTableFilter insertBy sortBy setsDown clearsUp visits visited found keysFit codesInRange clockFits outputFits kindFits act queueFits step valueBytes nodeBytes recordBytes bucketBytes headerBytes itemBytes valueIn nodeIn recordIn nodesIn bucketIn settingsIn tableOf areZero nodeCodes notHeld pendingFormed bucketFormed recordFormed headerFormed formed restore stepBytes cases
+unfolding leadingZeros same joined tabulate allBelow number bytes part splice log2Distance bucketIndex testBit sameNet sameValue counts ipFilterFails firstConnectedPos isFull failsBucketFilter isMaxIncoming insert applyDue applyPending reinsert updateStatus updateValue updatePending remove heldNodes failsTableFilter insertBy sortBy setsDown clearsUp visits visited indexAt found keysFit codesInRange clockFits outputFits kindFits act queueFits step valueBytes nodeBytes recordBytes bucketBytes headerBytes itemBytes valueIn nodeIn recordIn nodesIn bucketIn settingsIn tableOf areZero nodeCodes notHeld pendingFormed bucketFormed recordFormed headerFormed formed restore stepBytes cases
 cases-hold = refl

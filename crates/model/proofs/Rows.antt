@@ -11,11 +11,11 @@ use Rattle.model.specs.Bucket.{firstConnectedPos, isFull, failsBucketFil
 use Rattle.model.specs.Table.{heldNodes, failsTableFilter}
 use Rattle.model.specs.Sort.{insertBy, sortBy}
 use Rattle.model.specs.Visit.{setsDown, clearsUp, visits}
-use Rattle.model.specs.Listing.{visited, found}
+use Rattle.model.specs.Listing.{visited, indexAt, found}
 use Rattle.model.specs.Question.{keysFit, codesInRange, clockFits, outputFits, kindFits}
 use Rattle.model.specs.Step.{act, queueFits, step}
 use Rattle.model.specs.Rows.{holds, rows}
 
 pub rows-hold : every holds rows ≡ true
-unfolding leadingZeros same joined tabulate number bytes log2Distance bucketIndex testBit sameNet sameValue counts ipFilterFails firstConnectedPos isFull failsBucketFilter isMaxIncoming insert applyDue applyPending reinsert updateStatus updateValue updatePending remove heldNodes failsTableFilter insertBy sortBy setsDown clearsUp visits visited found keysFit codesInRange clockFits outputFits kindFits act queueFits step rows
+unfolding leadingZeros same joined tabulate number bytes log2Distance bucketIndex testBit sameNet sameValue counts ipFilterFails firstConnectedPos isFull failsBucketFilter isMaxIncoming insert applyDue applyPending reinsert updateStatus updateValue updatePending remove heldNodes failsTableFilter insertBy sortBy setsDown clearsUp visits visited indexAt found keysFit codesInRange clockFits outputFits kindFits act queueFits step rows
 rows-hold = refl

@@ -23,6 +23,11 @@ abbrev pub every : {A : Type 0} → (A → Bool) → List A → Bool
 every p [] = true
 every p (x ∷ xs) = p x && every p xs
 
+-- the first of a list, if it has one
+abbrev pub first : {A : Type 0} → List A → Option A
+first [] = none
+first (x ∷ l) = some x
+
 abbrev pub isSome : {A : Type 0} → Option A → Bool
 isSome none = false
 isSome (some a) = true

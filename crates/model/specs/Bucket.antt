@@ -8,7 +8,7 @@ use lib.Dec.{leb}
 use Rattle.model.specs.Base.{same, select, isSome}
 use Rattle.model.specs.Value.{Value, sameValue}
 use Rattle.model.specs.Node.{Node, PendingNode, AppliedPending, connectedIncoming, withStatus, withValue, sameStatus, promotes}
-use Rattle.model.specs.Filter.{ipFilterFails, bucketLimit}
+use Rattle.model.specs.Filter.{ipFilterFails, maxNodesPerSubnetBucket}
 use Rattle.model.specs.Result.{FailureReason, BucketInsertResult, UpdateResult, isInserted}
 
 -- each list has its oldest placement first; the places are the disconnected nodes, then the connected ones
@@ -23,8 +23,8 @@ pub record BucketSettings : Type 0 where
   pub filter : Bool
 
 -- 01, Bucket: sixteen places
-abbrev pub maxNodes : ℕ
-maxNodes = 16
+abbrev pub maxNodesPerBucket : ℕ
+maxNodesPerBucket = 16
 
 abbrev pub emptyBucket : Bucket
 emptyBucket = record { disconnected = []; connected = []; pending = none }
@@ -41,11 +41,11 @@ firstConnected pos (n ∷ ns) = some pos
 unfoldable pub firstConnectedPos : Bucket → Option ℕ
 firstConnectedPos b = firstConnected (length (b .disconnected)) (b .connected)
 
-abbrev pub count : Bucket → ℕ
-count b = length (b .disconnected) + length (b .connected)
+abbrev pub numEntries : Bucket → ℕ
+numEntries b = length (b .disconnected) + length (b .connected)
 
 unfoldable pub isFull : Bucket → Bool
-isFull b = leb maxNodes (count b)
+isFull b = leb maxNodesPerBucket (numEntries b)
 
 abbrev pub find : ℕ → List Node → Option Node
 find k [] = none
@@ -56,15 +56,15 @@ orElse none o = o
 orElse (some n) o = some n
 
 -- the held node of a key
-abbrev pub lookup : ℕ → Bucket → Option Node
-lookup k b = orElse (find k (b .disconnected)) (find k (b .connected))
+abbrev pub get : ℕ → Bucket → Option Node
+get k b = orElse (find k (b .disconnected)) (find k (b .connected))
 
 abbrev pub holds : ℕ → Bucket → Bool
-holds k b = isSome (lookup k b)
+holds k b = isSome (get k b)
 
 -- the bucket filter counts the held values, never the pending's
 unfoldable pub failsBucketFilter : BucketSettings → Value → Bucket → Bool
-failsBucketFilter s v b = s .filter && ipFilterFails bucketLimit v (nodes b)
+failsBucketFilter s v b = s .filter && ipFilterFails maxNodesPerSubnetBucket v (nodes b)
 
 abbrev pub incomingNodes : List Node → List Node
 incomingNodes ns = select connectedIncoming ns
@@ -151,7 +151,7 @@ reinsert s n b =
     cond (failsBucketFilter s (n .value) b) (some FailureReason.BucketFilter, b)
     (cond (isMaxIncoming s n b) (some FailureReason.TooManyIncoming, b) (none, placed n b))
 
--- m: the node as it was; n: as it is
+-- 01, update_status: an unchanged status answers NotModified. m: the node as it was; n: as it is
 abbrev pub statusResult : Node → Node → Option FailureReason → UpdateResult
 statusResult m n (some r) = UpdateResult.Failed r
 statusResult m n none =
@@ -162,7 +162,11 @@ abbrev pub isFirst : ℕ → List Node → Bool
 isFirst k [] = false
 isFirst k (n ∷ ns) = same (n .key) k
 
--- on a key that is not held: a pending of the key is changed
+-- 01, update_status: takes the node out; place 0 given Connected clears the pending, even when the insert fails
+abbrev pub takenOut : ℕ → Bool → Bucket → Bucket
+takenOut k u b = withPending (cond (u && isFirst k (nodes b)) none (b .pending)) (takeOut k b)
+
+-- bucket.rs, update_status and update_value on a key that is not held: a pending of the key is changed
 abbrev pub updateIfPending : ℕ → (Node → Node) → Bucket → Option PendingNode → UpdateResult × Bucket
 updateIfPending k f b none = (UpdateResult.Failed FailureReason.KeyNonExistent, b)
 updateIfPending k f b (some p) =
@@ -170,15 +174,15 @@ updateIfPending k f b (some p) =
     (UpdateResult.UpdatedPending, withPending (some (record { node = f (p .node); deadline = p .deadline })) b)
     (UpdateResult.Failed FailureReason.KeyNonExistent, b)
 
--- 01, update_status: takes the node out, changes it and inserts it; a failed insert leaves it out; place 0 given Connected clears the pending
+-- 01, update_status: changes the node and inserts it; a failed insert leaves it out
 abbrev pub updateStatusOf : BucketSettings → ℕ → Bool → Option Bool → Bucket → Option Node → UpdateResult × Bucket
 updateStatusOf s k u d b none = updateIfPending k (withStatus u d) b (b .pending)
 updateStatusOf s k u d b (some n) =
-    let r = reinsert s (withStatus u d n) (withPending (cond (u && isFirst k (nodes b)) none (b .pending)) (takeOut k b)) in
+    let r = reinsert s (withStatus u d n) (takenOut k u b) in
     (statusResult n (withStatus u d n) (r .0), r .1)
 
 unfoldable pub updateStatus : BucketSettings → ℕ → Bool → Option Bool → Bucket → UpdateResult × Bucket
-updateStatus s k u d b = updateStatusOf s k u d b (lookup k b)
+updateStatus s k u d b = updateStatusOf s k u d b (get k b)
 
 -- the node of the key with another value, in its place
 abbrev pub revalue : ℕ → Value → List Node → List Node
@@ -194,7 +198,11 @@ updateValueOf s k v b (some n) =
     (UpdateResult.Updated, record { disconnected = revalue k v (b .disconnected); connected = revalue k v (b .connected); pending = b .pending }))
 
 unfoldable pub updateValue : BucketSettings → ℕ → Value → Bucket → UpdateResult × Bucket
-updateValue s k v b = updateValueOf s k v b (lookup k b)
+updateValue s k v b = updateValueOf s k v b (get k b)
+
+-- 01, Remove: closes the gap, then applies a due pending and throws the record away
+unfoldable pub remove : BucketSettings → ℕ → ℕ → Bucket → Bool × Bucket
+remove s now k b = cond (holds k b) (true, applyPending s now (takeOut k b) .0) (false, b)
 
 abbrev pub pendingWithStatus : Bool → Bool → Option PendingNode → Option PendingNode
 pendingWithStatus u d none = none
@@ -203,7 +211,3 @@ pendingWithStatus u d (some p) = some (record { node = withStatus u (some d) (p 
 -- 01, entry.rs, Pending: sets the status. With no pending nothing changes.
 unfoldable pub updatePending : Bool → Bool → Bucket → Bucket
 updatePending u d b = withPending (pendingWithStatus u d (b .pending)) b
-
--- 01, Remove: closes the gap, then applies a due pending and throws the record away
-unfoldable pub remove : BucketSettings → ℕ → ℕ → Bucket → Bool × Bucket
-remove s now k b = cond (holds k b) (true, applyPending s now (takeOut k b) .0) (false, b)

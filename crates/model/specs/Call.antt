@@ -1,7 +1,7 @@
 -- The table's calls, with the arguments as a host gives them: keys as bytes of any length, codes as any number, and a listing's
 -- output as the bytes that are lent. A refused call is a call too.
 use Prim.Native.Nat.{ℕ}
-use mathlib.Core.Bool.{Bool, cond, true}
+use mathlib.Core.Bool.{Bool, true, false, cond}
 use mathlib.Core.List.{List}
 use mathlib.Core.Option.{Option, none, some}
 use lib.Dec.{eqb}
@@ -58,7 +58,7 @@ abbrev pub valueOf : ValueArgument → Value
 valueOf v = record { address = cond (isOne (v .flag)) (some (record { a = v .a; b = v .b; c = v .c; d = v .d })) none; slot = v .slot }
 
 abbrev pub inNet : PredicateArgument → Option Address → Bool
-inNet p none = Bool.false
+inNet p none = false
 inNet p (some x) = sameNet x (record { a = p .a; b = p .b; c = p .c; d = 0 })
 
 -- 01, Closures

@@ -8,7 +8,7 @@ use Rattle.model.specs.Bytes.{bytes, splice, zeros}
 use Rattle.model.specs.Node.{Node}
 use Rattle.model.specs.Result.{FailureReason, BucketInsertResult, UpdateResult, InsertResult}
 use Rattle.model.specs.Table.{EntryKind, Answer}
-use Rattle.model.specs.Sizes.{keySize, slotSize, valueSize, nodeSize, pendingAt, bucketSize, maxIncomingAt, storageSize}
+use Rattle.model.specs.Sizes.{keySize, slotSize, valueSize, nodeSize, placeAt, pendingAt, bucketSize, maxIncomingAt, storageSize}
 use Rattle.model.specs.Call.{PredicateArgument, Listing, Call}
 use Rattle.model.specs.Step.{nodeOf}
 use Rattle.model.specs.Layout.{bucketBytes}
@@ -121,10 +121,7 @@ four = fourNodes (node 32 0 0 ∷ node 33 0 1 ∷ []) (node 48 1 0)
 abbrev with : ℕ → ℕ → List ℕ
 with at b = splice four at (b ∷ [])
 
--- where a place stands in the bucket's bytes, and where its address flag stands
-abbrev placeAt : ℕ → ℕ
-placeAt j = 2 + j * nodeSize
-
+-- where the address flag of place j stands
 abbrev flagAt : ℕ → ℕ
 flagAt j = placeAt j + keySize + 2
 

@@ -21,8 +21,8 @@ unfoldable pub ipFilterFails : ℕ → Value → List Node → Bool
 ipFilterFails limit v ns = hasAddress v && leb limit (length (counted v ns))
 
 -- 01: limit 10 for the table, 2 for a bucket
-abbrev pub tableLimit : ℕ
-tableLimit = 10
+abbrev pub maxNodesPerSubnetTable : ℕ
+maxNodesPerSubnetTable = 10
 
-abbrev pub bucketLimit : ℕ
-bucketLimit = 2
+abbrev pub maxNodesPerSubnetBucket : ℕ
+maxNodesPerSubnetBucket = 2

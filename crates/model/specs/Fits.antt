@@ -11,7 +11,7 @@ use Rattle.model.specs.Bytes.{Bytes}
 use Rattle.model.specs.Key.{bucketIndex}
 use Rattle.model.specs.Value.{Address, Value}
 use Rattle.model.specs.Node.{Node, PendingNode, AppliedPending}
-use Rattle.model.specs.Bucket.{Bucket, maxNodes, emptyBucket, nodes, count, holds, incomingNodes}
+use Rattle.model.specs.Bucket.{Bucket, maxNodesPerBucket, emptyBucket, nodes, numEntries, holds, incomingNodes}
 use Rattle.model.specs.Table.{Settings, Table, numBuckets, maxRecords}
 use Rattle.model.specs.Sizes.{keySize, timeSize, slotSize}
 use Rattle.model.specs.Call.{ValueArgument, Listing, Call}
@@ -31,15 +31,31 @@ abbrev pub Different : List Node → Type 0
 Different [] = Unit {0}
 Different (n ∷ ns) = All (λ (m : Node). same (m .key) (n .key) ≡ false) ns × Different ns
 
--- what question 2 asks of bucket i
-pub record WellFormed (s : Settings) (i : ℕ) (b : Bucket) : Type 0 where
-  pub at-most : count b ≤ maxNodes
+-- every node of a bucket, held or pending, has the property P, and a pending's deadline the property D
+pub record Each (P : Node → Type 0) (D : ℕ → Type 0) (b : Bucket) : Type 0 where
+  pub held : All P (nodes b)
+  pub pending : Opt (λ (p : PendingNode). P (p .node) × D (p .deadline)) (b .pending)
+
+abbrev pub Any : ℕ → Type 0
+Any d = Unit {0}
+
+-- what question 2 asks of a bucket, all but the index
+pub record Formed (maxIncoming : ℕ) (b : Bucket) : Type 0 where
+  pub at-most : numEntries b ≤ maxNodesPerBucket
   pub different : Different (nodes b)
-  pub of-index : All (λ (n : Node). bucketIndex (s .localKey) (n .key) ≡ some i) (nodes b)
   pub disconnected-first : All (λ (n : Node). n .connected ≡ false) (b .disconnected)
   pub then-connected : All (λ (n : Node). n .connected ≡ true) (b .connected)
-  pub incoming-within : length (incomingNodes (nodes b)) ≤ s .bucket .maxIncoming
-  pub pending-fits : Opt (λ (p : PendingNode). (bucketIndex (s .localKey) (p .node .key) ≡ some i) × (holds (p .node .key) b ≡ false)) (b .pending)
+  pub incoming-within : length (incomingNodes (nodes b)) ≤ maxIncoming
+  pub pending-apart : Opt (λ (p : PendingNode). holds (p .node .key) b ≡ false) (b .pending)
+
+-- with what it asks of the keys' index
+pub record FormedBucket (OfIndex : ℕ → Type 0) (maxIncoming : ℕ) (b : Bucket) : Type 0 where
+  pub formed : Formed maxIncoming b
+  pub of-index : Each (λ (n : Node). OfIndex (n .key)) Any b
+
+-- what question 2 asks of bucket i
+abbrev pub WellFormed : Settings → ℕ → Bucket → Type 0
+WellFormed s i = FormedBucket (λ (k : ℕ). bucketIndex (s .localKey) k ≡ some i) (s .bucket .maxIncoming)
 
 pub record FitsAddress (x : Address) : Type 0 where
   pub a : x .a < 256
@@ -55,22 +71,23 @@ pub record FitsNode (n : Node) : Type 0 where
   pub key : n .key < 256 ^ keySize
   pub value : FitsValue (n .value)
 
-pub record FitsPending (p : PendingNode) : Type 0 where
-  pub node : FitsNode (p .node)
-  pub deadline : p .deadline < 256 ^ timeSize
+abbrev pub FitsDeadline : ℕ → Type 0
+FitsDeadline d = d < 256 ^ timeSize
+
+abbrev pub FitsPending : PendingNode → Type 0
+FitsPending p = FitsNode (p .node) × FitsDeadline (p .deadline)
 
 pub record FitsRecord (r : AppliedPending) : Type 0 where
   pub inserted : r .inserted < 256 ^ keySize
   pub evicted : Opt FitsNode (r .evicted)
 
-pub record FitsBucket (b : Bucket) : Type 0 where
-  pub held : All FitsNode (nodes b)
-  pub pending : Opt FitsPending (b .pending)
+abbrev pub FitsBucket : Bucket → Type 0
+FitsBucket = Each FitsNode FitsDeadline
 
 pub record FitsSettings (s : Settings) : Type 0 where
   pub localKey : s .localKey < 256 ^ keySize
   pub pendingTimeout : s .bucket .pendingTimeout < 256 ^ timeSize
-  pub maxIncoming : s .bucket .maxIncoming ≤ maxNodes
+  pub maxIncoming : s .bucket .maxIncoming ≤ maxNodesPerBucket
 
 pub record Fits (t : Table) : Type 0 where
   pub settings : FitsSettings (t .settings)

@@ -8,9 +8,9 @@ use lib.Dec.{eqb, leb, ltb}
 use Rattle.model.specs.Base.{same, allBelow}
 use Rattle.model.specs.Bytes.{number, part}
 use Rattle.model.specs.Key.{bucketIndex}
-use Rattle.model.specs.Bucket.{maxNodes, incomingNodes}
+use Rattle.model.specs.Bucket.{maxNodesPerBucket, incomingNodes}
 use Rattle.model.specs.Table.{numBuckets, maxRecords}
-use Rattle.model.specs.Sizes.{keySize, timeSize, nodeSize, recordSize, pendingAt, maxIncomingAt, tableFilterAt, bucketFilterAt, recordCountAt, recordAt}
+use Rattle.model.specs.Sizes.{keySize, timeSize, nodeSize, recordSize, placeAt, pendingAt, maxIncomingAt, tableFilterAt, bucketFilterAt, recordCountAt, recordAt}
 use Rattle.model.specs.Layout.{placeIn, nodesIn, recordPart, bucketPart}
 
 -- the k bytes from index at on are zero
@@ -46,7 +46,7 @@ pendingFormed ofIndex bs =
 -- incoming within max_incoming, the pending, codes as in 4, unused bytes zero
 unfoldable pub bucketFormed : (ℕ → Bool) → ℕ → List ℕ → Bool
 bucketFormed ofIndex maxIncoming bs =
-    leb (getD bs 0 0) maxNodes
+    leb (getD bs 0 0) maxNodesPerBucket
     && (allBelow (getD bs 0 0) (λ j. notHeld bs j (keyIn (placeIn bs j)))
     && (allBelow (getD bs 0 0) (λ j. ofIndex (keyIn (placeIn bs j)))
     && (allBelow (getD bs 0 0) (λ j. eqb (getD (placeIn bs j) keySize 0) (stateAt (getD bs 1 0) j))
@@ -54,7 +54,7 @@ bucketFormed ofIndex maxIncoming bs =
     && (leb (length (incomingNodes (nodesIn bs))) maxIncoming
     && (pendingFormed ofIndex bs
     && (allBelow (getD bs 0 0) (λ j. nodeCodes (placeIn bs j))
-    && areZero bs (2 + getD bs 0 0 * nodeSize) ((maxNodes - getD bs 0 0) * nodeSize))))))))
+    && areZero bs (placeAt (getD bs 0 0)) ((maxNodesPerBucket - getD bs 0 0) * nodeSize))))))))
 
 -- a record's bytes: codes as in 4, unused bytes zero
 unfoldable pub recordFormed : List ℕ → Bool
@@ -65,7 +65,7 @@ recordFormed bs =
 -- the settings and the queue: codes as in 4, at most 64 records, unused bytes zero
 unfoldable pub headerFormed : List ℕ → Bool
 headerFormed s =
-    leb (getD s maxIncomingAt 0) maxNodes
+    leb (getD s maxIncomingAt 0) maxNodesPerBucket
     && (leb (getD s tableFilterAt 0) 1
     && (leb (getD s bucketFilterAt 0) 1
     && (leb (getD s recordCountAt 0) maxRecords

@@ -9,9 +9,9 @@ use Rattle.model.specs.Base.{joined, tabulate}
 use Rattle.model.specs.Bytes.{number, bytes, part, zeros}
 use Rattle.model.specs.Value.{Address, Value}
 use Rattle.model.specs.Node.{Node, PendingNode, AppliedPending}
-use Rattle.model.specs.Bucket.{Bucket, maxNodes, nodes, count}
+use Rattle.model.specs.Bucket.{Bucket, maxNodesPerBucket, nodes, numEntries}
 use Rattle.model.specs.Table.{Settings, Table, numBuckets, maxRecords}
-use Rattle.model.specs.Sizes.{keySize, timeSize, slotSize, valueSize, nodeSize, recordSize, pendingAt, pendingSize, bucketSize, timeoutAt, maxIncomingAt, tableFilterAt, bucketFilterAt, recordCountAt, recordAt, bucketAt}
+use Rattle.model.specs.Sizes.{keySize, timeSize, slotSize, valueSize, nodeSize, recordSize, placeAt, pendingAt, pendingSize, bucketSize, timeoutAt, maxIncomingAt, tableFilterAt, bucketFilterAt, recordCountAt, recordAt, bucketAt}
 use Rattle.model.specs.Listing.{Item}
 
 -- What is written.
@@ -44,7 +44,7 @@ pendingBytes (some p) = 1 ∷ (nodeBytes (p .node) ++ bytes timeSize (p .deadlin
 -- the first connected place is the number of the disconnected nodes: with none connected, the count
 unfoldable pub bucketBytes : Bucket → List ℕ
 bucketBytes b =
-    count b ∷ length (b .disconnected) ∷ (joined nodeBytes (nodes b) ++ (zeros ((maxNodes - count b) * nodeSize) ++ pendingBytes (b .pending)))
+    numEntries b ∷ length (b .disconnected) ∷ (joined nodeBytes (nodes b) ++ (zeros ((maxNodesPerBucket - numEntries b) * nodeSize) ++ pendingBytes (b .pending)))
 
 unfoldable pub headerBytes : Table → List ℕ
 headerBytes t =
@@ -88,7 +88,7 @@ recordIn bs = record { inserted = number (part bs 0 keySize); evicted = evictedI
 
 -- the bytes of place j of a bucket, and the nodes of the places that are held
 abbrev pub placeIn : List ℕ → ℕ → List ℕ
-placeIn bs j = part bs (2 + j * nodeSize) nodeSize
+placeIn bs j = part bs (placeAt j) nodeSize
 
 unfoldable pub nodesIn : List ℕ → List Node
 nodesIn bs = tabulate (getD bs 0 0) (λ j. nodeIn (placeIn bs j))

@@ -2,6 +2,7 @@
 use Prim.Native.Nat.{ℕ, zero, suc, _+_, _-_}
 use mathlib.Core.Bool.{Bool, cond, not, _&&_}
 use mathlib.Core.List.{List, [], _∷_, _++_}
+use mathlib.Core.Option.{Option, none, some}
 use lib.ListN.{length, take}
 use lib.Dec.{leb, eqb}
 use Rattle.model.specs.Base.{joined, tabulate}
@@ -9,7 +10,7 @@ use Rattle.model.specs.Bytes.{number}
 use Rattle.model.specs.Key.{distance}
 use Rattle.model.specs.Value.{Value}
 use Rattle.model.specs.Node.{Node, AppliedPending}
-use Rattle.model.specs.Bucket.{Bucket, nodes, count, applyPending}
+use Rattle.model.specs.Bucket.{Bucket, nodes, numEntries, applyPending}
 use Rattle.model.specs.Table.{Table, numBuckets, write}
 use Rattle.model.specs.Sort.{sortBy}
 use Rattle.model.specs.Visit.{visits}
@@ -48,9 +49,16 @@ visited size zero (i ∷ is) = []
 visited size (suc n) (i ∷ is) = i ∷ visited size (suc n - size i) is
 
 -- 01, nodes_by_distances: distances outside 1 to 256 are dropped
+unfoldable pub indexAt : ℕ → Option ℕ
+indexAt d = cond (leb 1 d && leb d numBuckets) (some (d - 1)) none
+
+-- the bucket, if there is one
+abbrev pub indices : Option ℕ → List ℕ
+indices none = []
+indices (some i) = i ∷ []
+
 abbrev pub bucketsAt : List ℕ → List ℕ
-bucketsAt [] = []
-bucketsAt (d ∷ ds) = cond (leb 1 d && leb d numBuckets) ((d - 1) ∷ bucketsAt ds) (bucketsAt ds)
+bucketsAt = joined (λ d. indices (indexAt d))
 
 -- 01, nodes_by_distances: the applying pass counts only buckets that yielded a record and stops after a record at which they hold n
 -- or more. seen: what they hold so far.
@@ -59,7 +67,7 @@ appliedPass now n seen [] t = []
 appliedPass now n seen (i ∷ is) t =
     let a = applyPending (t .settings .bucket) now (t .buckets i) in
     let yielded = not (eqb (length (a .1)) 0) in
-    let seen′ = seen + cond yielded (count (a .0)) 0 in
+    let seen′ = seen + cond yielded (numEntries (a .0)) 0 in
     i ∷ cond (yielded && leb n seen′) [] (appliedPass now n seen′ is (write t i (a .0) (a .1)))
 
 -- the order of the buckets
@@ -72,15 +80,19 @@ order (Listing.closestValuesPredicate x p) t = visits (distance (t .settings .lo
 
 -- the buckets whose due pending is applied, in turn
 abbrev pub applies : Listing → ℕ → ℕ → Table → List ℕ
-applies Listing.iter n now t = visited (λ i. count (applied now t i)) n (order Listing.iter t)
+applies Listing.iter n now t = visited (λ i. numEntries (applied now t i)) n (order Listing.iter t)
 applies (Listing.nodesByDistances ds) n now t = appliedPass now n 0 (bucketsAt ds) t
-applies (Listing.closestKeys x) n now t = visited (λ i. count (applied now t i)) n (order (Listing.closestKeys x) t)
-applies (Listing.closestValues x) n now t = visited (λ i. count (applied now t i)) n (order (Listing.closestValues x) t)
-applies (Listing.closestValuesPredicate x p) n now t = visited (λ i. count (applied now t i)) n (order (Listing.closestValuesPredicate x p) t)
+applies (Listing.closestKeys x) n now t = visited (λ i. numEntries (applied now t i)) n (order (Listing.closestKeys x) t)
+applies (Listing.closestValues x) n now t = visited (λ i. numEntries (applied now t i)) n (order (Listing.closestValues x) t)
+applies (Listing.closestValuesPredicate x p) n now t = visited (λ i. numEntries (applied now t i)) n (order (Listing.closestValuesPredicate x p) t)
+
+-- how far a node is from x
+abbrev pub distanceTo : ℕ → Node → ℕ
+distanceTo x n = distance x (n .key)
 
 -- the nodes of a bucket nearest to the target first
 abbrev pub byDistance : List ℕ → Bucket → List Node
-byDistance x b = sortBy (λ (n : Node). distance (number x) (n .key)) (nodes b)
+byDistance x b = sortBy (distanceTo (number x)) (nodes b)
 
 -- the nodes that a listing reads in bucket i, in its order: each bucket in stored order, or nearest to the target first
 abbrev pub shown : Listing → ℕ → ℕ → Table → ℕ → List Node
@@ -102,6 +114,7 @@ most (Listing.closestKeys x) n = n
 most (Listing.closestValues x) n = n
 most (Listing.closestValuesPredicate x p) n = n
 
--- the nodes listed: the buckets in their order, cut at n. The buckets applied yield n, or else are all: what stands behind is cut off.
+-- the nodes listed: the buckets in their order, cut at n; buckets past those applied add nothing, since these already give n.
+-- Proved of all but nodes_by_distances: crates/laws, Listing, iter-reads and the three behind it.
 unfoldable pub found : Listing → ℕ → ℕ → Table → List Node
 found l n now t = take (most l n) (joined (shown l n now t) (order l t))

@@ -8,7 +8,7 @@ use lib.ListN.{length}
 use lib.Dec.{eqb, leb}
 use Rattle.model.specs.Base.{every}
 use Rattle.model.specs.Bytes.{number}
-use Rattle.model.specs.Bucket.{maxNodes}
+use Rattle.model.specs.Bucket.{maxNodesPerBucket}
 use Rattle.model.specs.Table.{Table, EntryKind, kindIn, indexIn}
 use Rattle.model.specs.Sizes.{keySize, valueSize, nodeSize}
 use Rattle.model.specs.Call.{ValueArgument, Listing, Call}
@@ -19,10 +19,6 @@ abbrev pub firstFailed : List (ℕ × Bool) → Option ℕ
 firstFailed [] = none
 firstFailed (q ∷ qs) = cond (q .1) (firstFailed qs) (some (q .0))
 
--- 4: address flag 0 or 1, octets zero at 0
-abbrev pub valueInRange : ValueArgument → Bool
-valueInRange v = eqb (v .flag) 1 || (eqb (v .flag) 0 && (eqb (v .a) 0 && (eqb (v .b) 0 && (eqb (v .c) 0 && eqb (v .d) 0))))
-
 -- 3: the target of a listing
 abbrev pub targets : Listing → List (List ℕ)
 targets Listing.iter = []
@@ -30,6 +26,10 @@ targets (Listing.nodesByDistances ds) = []
 targets (Listing.closestKeys x) = x ∷ []
 targets (Listing.closestValues x) = x ∷ []
 targets (Listing.closestValuesPredicate x p) = x ∷ []
+
+-- 4: address flag 0 or 1, octets zero at 0
+abbrev pub valueInRange : ValueArgument → Bool
+valueInRange v = eqb (v .flag) 1 || (eqb (v .flag) 0 && (eqb (v .a) 0 && (eqb (v .b) 0 && (eqb (v .c) 0 && eqb (v .d) 0))))
 
 -- 4: predicate 0 to 3
 abbrev pub listingCodes : Listing → Bool
@@ -47,6 +47,7 @@ entrySize (Listing.closestKeys x) = keySize
 entrySize (Listing.closestValues x) = keySize + valueSize
 entrySize (Listing.closestValuesPredicate x p) = keySize + 1 + valueSize
 
+-- 6: n is at most 4,096
 abbrev pub maxCount : ℕ
 maxCount = 4096
 
@@ -99,7 +100,7 @@ onOneKey k codes now kind =
 -- 01, question 4: state and direction 0 or 1, 2 for "not given" where the Rust has Option; filters 0 or 1; max_incoming 0 to 16
 abbrev pub arguments : Call → Arguments
 arguments (Call.new k timeout m tf bf) =
-    record { table = false; keys = k ∷ []; codes = leb m maxNodes && (leb tf 1 && leb bf 1); now = none; room = true; kind = λ t. true; output = [] }
+    record { table = false; keys = k ∷ []; codes = leb m maxNodesPerBucket && (leb tf 1 && leb bf 1); now = none; room = true; kind = λ t. true; output = [] }
 arguments (Call.updateNodeStatus k st dr now) = onOneKey k (leb st 1 && leb dr 2) (some now) anyKind
 arguments (Call.updateNode k v st now) = onOneKey k (valueInRange v && leb st 2) (some now) anyKind
 arguments (Call.insertOrUpdate k v st dr now) = onOneKey k (valueInRange v && (leb st 1 && leb dr 1)) (some now) anyKind

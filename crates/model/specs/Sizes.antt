@@ -1,6 +1,6 @@
 -- How many bytes each thing takes, each derived from the others. Offsets count from the start of the thing itself.
 use Prim.Native.Nat.{ℕ, _+_, _*_}
-use Rattle.model.specs.Bucket.{maxNodes}
+use Rattle.model.specs.Bucket.{maxNodesPerBucket}
 use Rattle.model.specs.Table.{numBuckets, maxRecords}
 
 abbrev pub keySize : ℕ
@@ -24,9 +24,12 @@ nodeSize = keySize + 2 + valueSize
 abbrev pub recordSize : ℕ
 recordSize = keySize + 1 + nodeSize
 
--- a bucket: count, first connected place, the places; then pending flag, pending node, deadline
+-- a bucket: count, first connected place, the places; then pending flag, pending node, deadline. Place j stands at placeAt j.
+abbrev pub placeAt : ℕ → ℕ
+placeAt j = 2 + j * nodeSize
+
 abbrev pub pendingAt : ℕ
-pendingAt = 2 + maxNodes * nodeSize
+pendingAt = placeAt maxNodesPerBucket
 
 abbrev pub pendingSize : ℕ
 pendingSize = 1 + nodeSize + timeSize

@@ -25,7 +25,8 @@ pub record Outcome : Type 0 where
 abbrev pub unchanged : Answer → Table → Outcome
 unchanged a t = record { answer = a; table = t; records = []; items = [] }
 
--- a call on one key: `self` is the answer for the local key (an entry action on it has failed question 7)
+-- A call on one key. 01, kbucket.rs, the local key: NotModified for updates, InvalidSelfUpdate for an insert, false for remove, SelfEntry
+-- for entry (`self`); an entry action on it has failed question 7.
 abbrev pub onKey : Table → Answer → (ℕ → Bucket → Effect) → Option ℕ → Outcome
 onKey t self f none = unchanged self t
 onKey t self f (some i) =
@@ -35,9 +36,10 @@ onKey t self f (some i) =
 abbrev pub nodeOf : List ℕ → ValueArgument → ℕ → ℕ → Node
 nodeOf k v state direction = record { key = number k; value = valueOf v; connected = isOne state; incoming = isOne direction }
 
-abbrev pub settingsOf : List ℕ → ℕ → ℕ → ℕ → ℕ → Settings
+-- the settings of a new table
+abbrev pub settingsOf : (localKey pendingTimeout maxIncoming tableFilter bucketFilter : ℕ) → Settings
 settingsOf k timeout m tf bf =
-    record { localKey = number k; bucket = record { pendingTimeout = timeout; maxIncoming = m; filter = isOne bf }; tableFilter = isOne tf }
+    record { localKey = k; bucket = record { pendingTimeout = timeout; maxIncoming = m; filter = isOne bf }; tableFilter = isOne tf }
 
 -- 01, Queue: first in, first out
 abbrev pub takeOldest : Table → List AppliedPending → Outcome
@@ -46,7 +48,7 @@ takeOldest t (a ∷ rest) = unchanged (Answer.TakeAppliedPending (some a)) (reco
 
 -- the call's work, with an endless queue
 unfoldable pub act : Call → Table → Outcome
-act (Call.new k timeout m tf bf) t = unchanged Answer.New (emptyTable (settingsOf k timeout m tf bf))
+act (Call.new k timeout m tf bf) t = unchanged Answer.New (emptyTable (settingsOf (number k) timeout m tf bf))
 act (Call.updateNodeStatus k st dr now) t =
     let s = t .settings .bucket in
     onKey t (Answer.Update UpdateResult.NotModified)

@@ -11,7 +11,7 @@ use Rattle.model.specs.Node.{AppliedPending}
 use Rattle.model.specs.Table.{Table, Answer, numBuckets, indexIn}
 use Rattle.model.specs.Sizes.{bucketAt, storageSize}
 use Rattle.model.specs.Call.{Call}
-use Rattle.model.specs.Listing.{Item, applies}
+use Rattle.model.specs.Listing.{Item, indices, applies}
 use Rattle.model.specs.Question.{firstFailed, arguments}
 use Rattle.model.specs.Step.{act, questions}
 use Rattle.model.specs.Layout.{bucketBytes, headerBytes, itemBytes, tableOf}
@@ -38,10 +38,6 @@ outputOf c = arguments c .output
 -- 01, question 6: entries past the count found keep their bytes
 abbrev pub written : List Item → List ℕ → List ℕ
 written items out = splice out 0 (joined itemBytes items)
-
-abbrev pub indices : Option ℕ → List ℕ
-indices none = []
-indices (some i) = i ∷ []
 
 abbrev pub bucketOfKey : List ℕ → Table → List ℕ
 bucketOfKey k t = indices (indexIn t (number k))

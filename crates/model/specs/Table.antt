@@ -7,9 +7,9 @@ use Rattle.model.specs.Base.{same, at}
 use Rattle.model.specs.Key.{bucketIndex}
 use Rattle.model.specs.Value.{Value, sameValue}
 use Rattle.model.specs.Node.{Node, PendingNode, AppliedPending}
-use Rattle.model.specs.Filter.{ipFilterFails, tableLimit}
+use Rattle.model.specs.Filter.{ipFilterFails, maxNodesPerSubnetTable}
 use Rattle.model.specs.Result.{FailureReason, BucketInsertResult, UpdateResult, InsertResult, isFailed}
-use Rattle.model.specs.Bucket.{Bucket, BucketSettings, emptyBucket, nodes, lookup, holds, insert, applyPending, updateStatus, updateValue, remove}
+use Rattle.model.specs.Bucket.{Bucket, BucketSettings, emptyBucket, nodes, get, holds, insert, applyPending, updateStatus, updateValue, remove}
 
 pub record Settings : Type 0 where
   pub localKey : ℕ
@@ -57,7 +57,7 @@ pub record Effect : Type 0 where
   pub bucket : Bucket
   pub records : List AppliedPending
 
--- a due pending is applied first
+-- kbucket.rs: every call on a key but the entry actions applies a due pending first
 abbrev pub afterApplying : BucketSettings → ℕ → (Bucket → Answer × Bucket) → Bucket → Effect
 afterApplying s now f b =
     let a = applyPending s now b in
@@ -68,7 +68,24 @@ afterApplying s now f b =
 abbrev pub asStored : (Bucket → Answer × Bucket) → Bucket → Effect
 asStored f b = let r = f b in record { answer = r .0; bucket = r .1; records = [] }
 
--- the held nodes of the buckets below n, bucket by bucket
+abbrev pub kindIfPending : ℕ → Option PendingNode → EntryKind
+kindIfPending k none = EntryKind.Absent
+kindIfPending k (some p) =
+    cond (same (p .node .key) k) (EntryKind.Pending (p .node .connected) (p .node .incoming)) EntryKind.Absent
+
+abbrev pub kindOfNode : ℕ → Bucket → Option Node → EntryKind
+kindOfNode k b none = kindIfPending k (b .pending)
+kindOfNode k b (some n) = EntryKind.Present (n .connected) (n .incoming)
+
+-- 01, Entries: the kind and status of a key in its bucket
+abbrev pub kindOf : ℕ → Bucket → EntryKind
+kindOf k b = kindOfNode k b (get k b)
+
+abbrev pub kindIn : Table → ℕ → Option ℕ → EntryKind
+kindIn t k none = EntryKind.SelfEntry
+kindIn t k (some i) = kindOf k (t .buckets i)
+
+-- kbucket.rs, table_iter: the held nodes of the buckets below n, bucket by bucket
 unfoldable pub heldNodes : ℕ → (ℕ → Bucket) → List Node
 heldNodes zero bs = []
 heldNodes (suc n) bs = heldNodes n bs ++ nodes (bs n)
@@ -82,9 +99,10 @@ isDuplicate v (some n) = sameValue (n .value) v
 unfoldable pub failsTableFilter : Table → ℕ → ℕ → Value → Bool
 failsTableFilter t i k v =
     t .settings .tableFilter
-    && (not (isDuplicate v (lookup k (t .buckets i))) && ipFilterFails tableLimit v (heldNodes numBuckets (t .buckets)))
+    && (not (isDuplicate v (get k (t .buckets i))) && ipFilterFails maxNodesPerSubnetTable v (heldNodes numBuckets (t .buckets)))
 
--- kbucket.rs, update_node: what the value's step and the status's step answer together, in the order of the Rust's match
+-- kbucket.rs, update_node: what the value's step and the status's step answer together, in the order of the Rust's match. Never met: a
+-- value's step that failed or promotes, and UpdatedPending of one step alone; the answers there are the Rust's.
 abbrev pub bothUpdates : (value status : UpdateResult) → UpdateResult
 bothUpdates v (UpdateResult.Failed r) = UpdateResult.Failed r
 bothUpdates (UpdateResult.Failed r) UpdateResult.UpdatedAndPromoted = UpdateResult.Failed r
@@ -128,7 +146,8 @@ insertUpdates UpdateResult.NotModified UpdateResult.Updated = InsertResult.Statu
 insertUpdates UpdateResult.NotModified UpdateResult.UpdatedAndPromoted = InsertResult.StatusUpdated true
 insertUpdates UpdateResult.NotModified UpdateResult.NotModified = InsertResult.Updated false
 insertUpdates (UpdateResult.Failed r) status = InsertResult.Failed r
--- never met: on a held key neither step answers UpdatedPending, a failed status step is answered before, a value's step does not promote
+-- never met: on a held key neither step answers UpdatedPending, a failed status step is answered before, a value's step does not promote;
+-- of a failed value's step the Rust's arm for UpdatedPending comes first
 insertUpdates UpdateResult.Updated UpdateResult.UpdatedPending = InsertResult.ValueUpdated
 insertUpdates UpdateResult.NotModified UpdateResult.UpdatedPending = InsertResult.UpdatedPending
 insertUpdates UpdateResult.UpdatedPending status = InsertResult.UpdatedPending
@@ -159,23 +178,6 @@ insertOrUpdateIn s fails now n b =
     (cond (holds (n .key) b)
     (let r = updateStatus s (n .key) (n .connected) (some (n .incoming)) b in thenValue s (n .key) (n .value) (r .0) (r .1))
     (let r = insert s now n b in (Answer.InsertOrUpdate (inserts (r .0)), r .1)))
-
-abbrev pub kindIfPending : ℕ → Option PendingNode → EntryKind
-kindIfPending k none = EntryKind.Absent
-kindIfPending k (some p) =
-    cond (same (p .node .key) k) (EntryKind.Pending (p .node .connected) (p .node .incoming)) EntryKind.Absent
-
-abbrev pub kindOfNode : ℕ → Bucket → Option Node → EntryKind
-kindOfNode k b none = kindIfPending k (b .pending)
-kindOfNode k b (some n) = EntryKind.Present (n .connected) (n .incoming)
-
--- 01, Entries: the kind and status of a key in its bucket
-abbrev pub kindOf : ℕ → Bucket → EntryKind
-kindOf k b = kindOfNode k b (lookup k b)
-
-abbrev pub kindIn : Table → ℕ → Option ℕ → EntryKind
-kindIn t k none = EntryKind.SelfEntry
-kindIn t k (some i) = kindOf k (t .buckets i)
 
 -- the table with another bucket i and further records
 abbrev pub write : Table → ℕ → Bucket → List AppliedPending → Table

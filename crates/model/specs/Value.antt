@@ -33,6 +33,7 @@ sameValue v w = sameAddress (v .address) (w .address) && same (v .slot) (w .slot
 abbrev pub hasAddress : Value → Bool
 hasAddress v = isSome (v .address)
 
+-- both have an address, and the first three octets are the same
 abbrev pub sharesNet : Option Address → Option Address → Bool
 sharesNet none y = false
 sharesNet (some x) none = false

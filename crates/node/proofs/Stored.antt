@@ -1,68 +1,30 @@
 -- A declared node and the model's node that it stands for, there and back.
-use Prim.Native.Nat.{ℕ, _+_, _*_, _/_, _%_, _^_, _≤_, _<_}
+use Prim.Native.Nat.{ℕ, _≤_}
 use native.Mathlib.Omega.{arith}
-use native.Mathlib.Nat.{div-add-mod'}
 use mathlib.Core.Path.{_≡_, refl, sym, ap, _∙_}
 use mathlib.Core.Bool.{Bool, true, false, cond, _&&_}
 use mathlib.Core.Option.{Option, none, some}
 use lib.Dec.{eqb, leb}
-use borrow.Author.Tests.{eqb-true, eqb-false, leb-true, le-leb}
+use borrow.Author.Tests.{eqb-true, eqb-false, le-leb}
 use Rattle.model.specs.Value as model-value
 use Rattle.model.specs.Base.{given}
 use Rattle.model.specs.Node as model
 use Rattle.model.specs.Call.{isOne, optional}
+use Rattle.model.specs.Layout.{flagByte}
 use Rattle.laws.proofs.Tests.{and-left, and-right, or-rest}
+use Rattle.laws.proofs.NodeBytes.{flag-there}
+use Rattle.laws.proofs.NodeFormed.{flag-code, flag-back}
+use Rattle.key.proofs.Words.{num-keyOf, keyOf-num}
 use Rattle.node.proofs.Tests.{and-both}
 use Rattle.key.specs.declared.Key.{Key}
-use Rattle.key.specs.Key.{num, Words}
+use Rattle.key.specs.Key.{Words}
 use Rattle.node.specs.declared.Value.{Value}
 use Rattle.node.specs.declared.Node.{Node}
-use Rattle.node.specs.Node.{valueOf, nodeOf, valueCodes, nodeCodes, code, keyOf, storedAddress, storedValue, storedNode, zeroNode, isZero, restated, revalued}
-
--- Keys: the four words of a number.
-
-pub num-keyOf : (n : ℕ) → num (keyOf n) ≡ n
-unfolding num
-num-keyOf n = rw (div-add-mod', div-add-mod', div-add-mod')
-
-quotient : (p x : ℕ) → x < 2 ^ 64 → (p * 2 ^ 64 + x) / 2 ^ 64 ≡ p
-quotient p x h = omega arith
-
-remainder : (p x : ℕ) → x < 2 ^ 64 → (p * 2 ^ 64 + x) % 2 ^ 64 ≡ x
-remainder p x h = omega arith
+use Rattle.node.specs.Node.{valueOf, nodeOf, valueCodes, nodeCodes, storedAddress, storedValue, storedNode, zeroNode, isZero, restated, revalued}
 
 same-words : {a a' b b' c c' d d' : ℕ} → a ≡ a' → b ≡ b' → c ≡ c' → d ≡ d'
     → _≡_ {A = Key} (record { w0 = a; w1 = b; w2 = c; w3 = d }) (record { w0 = a'; w1 = b'; w2 = c'; w3 = d' })
 same-words p q r s = cc
-
-pub keyOf-num : (k : Key) → Words k → keyOf (num k) ≡ k
-unfolding num
-keyOf-num k w =
-    let h = k .w0 * 2 ^ 64 + k .w1 in
-    let m = h * 2 ^ 64 + k .w2 in
-    let e1 : (m * 2 ^ 64 + k .w3) / 2 ^ 64 ≡ m = quotient m (k .w3) (w .word3) in
-    let e2 : m / 2 ^ 64 ≡ h = quotient h (k .w2) (w .word2) in
-    same-words
-    (ap (λ (x : ℕ). x / 2 ^ 64 / 2 ^ 64) e1 ∙ ap (λ (x : ℕ). x / 2 ^ 64) e2 ∙ quotient (k .w0) (k .w1) (w .word1))
-    (ap (λ (x : ℕ). x / 2 ^ 64 % 2 ^ 64) e1 ∙ ap (λ (x : ℕ). x % 2 ^ 64) e2 ∙ remainder (k .w0) (k .w1) (w .word1))
-    (ap (λ (x : ℕ). x % 2 ^ 64) e1 ∙ remainder h (k .w2) (w .word2))
-    (remainder m (k .w3) (w .word3))
-
--- Codes.
-
-pub code-test : (t : Bool) → eqb (code t) 1 ≡ t
-code-test true = refl
-code-test false = refl
-
-small : (x : ℕ) → x ≤ 1 → (x ≡ 1 → ⊥) → 0 ≡ x
-small x h f = omega (arith, f)
-
-one-test : (x : ℕ) (t : Bool) → eqb x 1 ≡ t → leb x 1 ≡ true → code t ≡ x
-one-test x true e h = sym (eqb-true x 1 e)
-one-test x false e h = small x (leb-true x 1 h) (eqb-false x 1 e)
-
-pub test-code : (x : ℕ) → leb x 1 ≡ true → code (eqb x 1) ≡ x
-test-code x h = one-test x (eqb x 1) refl h
 
 -- Values.
 
@@ -102,7 +64,7 @@ same-node : {k k' : ℕ} {v v' : model-value.Value} {c c' i i' : Bool} → k ≡
 same-node p q r s = cc
 
 pub nodeOf-stored : (n : model.Node) → nodeOf (storedNode n) ≡ n
-nodeOf-stored n = same-node (num-keyOf (n .key)) (valueOf-stored (n .value)) (code-test (n .connected)) (code-test (n .incoming))
+nodeOf-stored n = same-node (num-keyOf (n .key)) (valueOf-stored (n .value)) (flag-there (n .connected)) (flag-there (n .incoming))
 
 same-parts : {k k' : Key} {v v' : Value} {s s' d d' : ℕ} → k ≡ k' → v ≡ v' → s ≡ s' → d ≡ d'
     → _≡_ {A = Node} (record { key = k; value = v; status = record { state = s; direction = d } }) (record { key = k'; value = v'; status = record { state = s'; direction = d' } })
@@ -112,18 +74,14 @@ pub stored-nodeOf : (n : Node) → Words (n .key) → nodeCodes n ≡ true → s
 stored-nodeOf n w h =
     let r = and-right (leb (n .status .state) 1) _ h in
     same-parts (keyOf-num (n .key) w) (stored-valueOf (n .value) (and-right (leb (n .status .direction) 1) _ r))
-    (test-code (n .status .state) (and-left (leb (n .status .state) 1) _ h)) (test-code (n .status .direction) (and-left (leb (n .status .direction) 1) _ r))
+    (flag-back (n .status .state) (and-left (leb (n .status .state) 1) _ h)) (flag-back (n .status .direction) (and-left (leb (n .status .direction) 1) _ r))
 
 codes-of : (slot : ℕ) (x : Option model-value.Address) → valueCodes (storedAddress slot x) ≡ true
 codes-of slot none = refl
 codes-of slot (some x) = refl
 
-code-small : (t : Bool) → leb (code t) 1 ≡ true
-code-small true = refl
-code-small false = refl
-
 pub codes-stored : (n : model.Node) → nodeCodes (storedNode n) ≡ true
-codes-stored n = rw (code-small (n .connected), code-small (n .incoming)) (codes-of (n .value .slot) (n .value .address))
+codes-stored n = rw (flag-code (n .connected), flag-code (n .incoming)) (codes-of (n .value .slot) (n .value .address))
 
 -- a node that is zero all over
 pub zero-is : (n : Node) → isZero n ≡ true → n ≡ zeroNode
@@ -156,9 +114,9 @@ direction-by false old new = refl
 pub nodeOf-restated : (state direction : ℕ) (n : Node) → nodeOf (restated state direction n) ≡ model.withStatus (isOne state) (optional direction) (nodeOf n)
 nodeOf-restated state direction n = same-node refl refl refl (direction-by (eqb direction 2) (n .status .direction) direction)
 
-direction-code : (t : Bool) (old new : ℕ) → eqb new 2 ≡ t → old ≡ code (eqb old 1) → new ≤ 2 → cond t old new ≡ code (given (cond t none (some (eqb new 1))) (eqb old 1))
+direction-code : (t : Bool) (old new : ℕ) → eqb new 2 ≡ t → old ≡ flagByte (eqb old 1) → new ≤ 2 → cond t old new ≡ flagByte (given (cond t none (some (eqb new 1))) (eqb old 1))
 direction-code true old new e h k = h
-direction-code false old new e h k = sym (test-code new (le-leb new 1 (not-two new k (eqb-false new 2 e))))
+direction-code false old new e h k = sym (flag-back new (le-leb new 1 (not-two new k (eqb-false new 2 e))))
   where
     not-two : (x : ℕ) → x ≤ 2 → (x ≡ 2 → ⊥) → x ≤ 1
     not-two x l f = omega (arith, f)
@@ -166,7 +124,7 @@ direction-code false old new e h k = sym (test-code new (le-leb new 1 (not-two n
 pub stored-restated : (state direction : ℕ) (n : Node) → n ≡ storedNode (nodeOf n) → state ≤ 1 → direction ≤ 2
     → restated state direction n ≡ storedNode (model.withStatus (isOne state) (optional direction) (nodeOf n))
 stored-restated state direction n e h k =
-    same-parts (ap (λ (x : Node). x .key) e) (ap (λ (x : Node). x .value) e) (sym (test-code state (le-leb state 1 h)))
+    same-parts (ap (λ (x : Node). x .key) e) (ap (λ (x : Node). x .value) e) (sym (flag-back state (le-leb state 1 h)))
     (direction-code (eqb direction 2) (n .status .direction) direction refl (ap (λ (x : Node). x .status .direction) e) k)
 
 pub stored-revalued : (v : Value) (n : Node) → n ≡ storedNode (nodeOf n) → valueCodes v ≡ true

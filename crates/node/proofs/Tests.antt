@@ -1,6 +1,6 @@
 -- The tests on declared values are the model's tests on what they stand for.
 use mathlib.Core.Path.{_≡_, refl}
-use mathlib.Core.Bool.{Bool, true, false, cond, not, _&&_, _||_}
+use mathlib.Core.Bool.{Bool, true, false, cond, not, _&&_, _||_, or-false}
 use mathlib.Core.Option.{none, some}
 use lib.Dec.{eqb}
 use Rattle.model.specs.Base.{same}
@@ -14,14 +14,10 @@ pub and-both : (a b : Bool) → (a && b) ≡ true → (a ≡ true) × (b ≡ tru
 and-both true b e = (refl, e)
 and-both false b e = (e, clash e refl)
 
-or-none : (t : Bool) → (t || false) ≡ t
-or-none true = refl
-or-none false = refl
-
 -- both have an address, and it is the same; or neither has one
 same-address : (p q : Bool) (x y : Address)
     → (((p && q) && (sameNet x y && same (x .d) (y .d))) || (not p && not q)) ≡ sameAddress (cond p (some x) none) (cond q (some y) none)
-same-address true true x y = or-none (sameNet x y && same (x .d) (y .d))
+same-address true true x y = or-false (sameNet x y && same (x .d) (y .d))
 same-address true false x y = refl
 same-address false true x y = refl
 same-address false false x y = refl

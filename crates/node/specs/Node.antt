@@ -1,20 +1,24 @@
 -- The model's value and node that a declared one stands for, the codes of question 4, and the declared form of a model's node.
-use Prim.Native.Nat.{ℕ, _/_, _%_, _^_}
-use mathlib.Core.Bool.{Bool, true, false, cond, _&&_, _||_}
+use Prim.Native.Nat.{ℕ}
+use mathlib.Core.Bool.{Bool, cond, _&&_}
 use mathlib.Core.Option.{Option, none, some}
 use lib.Dec.{eqb, leb}
 use Rattle.model.specs.Value as model-value
 use Rattle.model.specs.Node as model
-use Rattle.key.specs.declared.Key.{Key}
-use Rattle.key.specs.Key.{num}
+use Rattle.model.specs.Call.{ValueArgument}
+use Rattle.model.specs.Call as call
+use Rattle.model.specs.Question.{valueInRange}
+use Rattle.model.specs.Layout.{flagByte}
+use Rattle.key.specs.Key.{num, keyOf}
 use Rattle.node.specs.declared.Value.{Value}
 use Rattle.node.specs.declared.Node.{Node}
 
-abbrev pub addressOf : Value → Option model-value.Address
-addressOf v = cond (eqb (v .flag) 1) (some (record { a = v .a; b = v .b; c = v .c; d = v .d })) none
+-- as the argument of a call
+abbrev pub argumentOf : Value → ValueArgument
+argumentOf v = record { flag = v .flag; a = v .a; b = v .b; c = v .c; d = v .d; slot = v .slot }
 
 abbrev pub valueOf : Value → model-value.Value
-valueOf v = record { address = addressOf v; slot = v .slot }
+valueOf v = call.valueOf (argumentOf v)
 
 abbrev pub nodeOf : Node → model.Node
 nodeOf n =
@@ -27,7 +31,7 @@ nodeOf n =
 
 -- 01, question 4: address flag 0 or 1, octets zero at 0
 abbrev pub valueCodes : Value → Bool
-valueCodes v = eqb (v .flag) 1 || (eqb (v .flag) 0 && (eqb (v .a) 0 && (eqb (v .b) 0 && (eqb (v .c) 0 && eqb (v .d) 0))))
+valueCodes v = valueInRange (argumentOf v)
 
 -- 01, question 4: state and direction 0 or 1
 abbrev pub nodeCodes : Node → Bool
@@ -58,21 +62,6 @@ restated state direction n =
 abbrev pub revalued : Value → Node → Node
 revalued v n = record { key = n .key; value = v; status = n .status }
 
--- a test as a code
-abbrev pub code : Bool → ℕ
-code true = 1
-code false = 0
-
--- the key of a number
-abbrev pub keyOf : ℕ → Key
-keyOf n =
-    record {
-      w0 = n / 2 ^ 64 / 2 ^ 64 / 2 ^ 64;
-      w1 = n / 2 ^ 64 / 2 ^ 64 % 2 ^ 64;
-      w2 = n / 2 ^ 64 % 2 ^ 64;
-      w3 = n % 2 ^ 64;
-    }
-
 abbrev pub storedAddress : ℕ → Option model-value.Address → Value
 storedAddress slot none = record { flag = 0; a = 0; b = 0; c = 0; d = 0; slot = slot }
 storedAddress slot (some x) = record { flag = 1; a = x .a; b = x .b; c = x .c; d = x .d; slot = slot }
@@ -86,5 +75,5 @@ storedNode n =
     record {
       key = keyOf (n .key);
       value = storedValue (n .value);
-      status = record { state = code (n .connected); direction = code (n .incoming) };
+      status = record { state = flagByte (n .connected); direction = flagByte (n .incoming) };
     }

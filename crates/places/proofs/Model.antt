@@ -20,7 +20,7 @@ use Rattle.laws.proofs.Tests.{split, same-self, same-sym, same-true, and-left, 
 use Rattle.laws.proofs.KeepLists.{Without}
 use Rattle.places.specs.Places.{before, insertAt, removeAt, different}
 use Rattle.places.proofs.Moves.{removeAt-length}
-use Rattle.laws.proofs.All.{all-left}
+use Rattle.laws.proofs.All.{all-left, all-getD}
 
 -- Lists.
 
@@ -224,22 +224,12 @@ put-disconnected n b e =
 
 -- The key at a place.
 
-pub getD-any : {A : Type 0} (xs : List A) (i : ℕ) (d d' : A) → i < length xs → getD xs i d ≡ getD xs i d'
-getD-any [] i d d' h = absurd (not-suc-le-zero h)
-getD-any (x ∷ xs) zero d d' h = refl
-getD-any (x ∷ xs) (suc i) d d' h = getD-any xs i d d' (le-of-suc-le-suc h)
-
-pub all-at : {A : Type 0} (P : A → Type 0) (xs : List A) (i : ℕ) (d : A) → i < length xs → All P xs → P (getD xs i d)
-all-at P [] i d h a = absurd (not-suc-le-zero h)
-all-at P (x ∷ xs) zero d h a = a .0
-all-at P (x ∷ xs) (suc i) d h a = all-at P xs i d (le-of-suc-le-suc h) (a .1)
-
 pub own-place : (ns : List Node) (i : ℕ) (d : Node) → Different ns → i < length ns → place (getD ns i d .key) ns ≡ i
 own-place [] i d w h = absurd (not-suc-le-zero h)
 own-place (n ∷ ns) zero d w h = rw (same-self (n .key))
 own-place (n ∷ ns) (suc i) d w h =
     rw (
-      same-sym (n .key) (getD ns i d .key) ∙ all-at (λ (m : Node). same (m .key) (n .key) ≡ false) ns i d (le-of-suc-le-suc h) (w .0),
+      same-sym (n .key) (getD ns i d .key) ∙ all-getD (λ (m : Node). same (m .key) (n .key) ≡ false) ns i d (w .0) (le-of-suc-le-suc h),
       own-place ns i d (w .1) (le-of-suc-le-suc h),
     )
 

@@ -6,7 +6,7 @@ use native.Mathlib.Nat.{le-of-lt, le-of-suc-le-suc, not-suc-le-zero}
 use native.Mathlib.Numerals.{add-one, sub-one}
 use native.Mathlib.Omega.{arith}
 use lib.ListN.{take-append-drop, length, take, drop, getD, set, length-append, length-take, length-drop, drop-of-length-le, List·getD-append}
-use lib.Seq.{take-suc, drop-cons, set-at, getD-at, append-snoc, length-take-le, take-at, take-all, take-take, getD-take}
+use lib.Seq.{take-suc, drop-cons, set-at, getD-at, append-snoc, length-take-le, take-at, take-all, take-take, getD-take, getD-drop, getD-append-add}
 use Rattle.places.specs.Places.{insertAt, removeAt}
 
 module _ {A : Type 0} (target source out : List A) (i : ℕ) (d v : A) (ht : i < length target) (hs : i < length source)
@@ -23,6 +23,15 @@ module _ {A : Type 0} (target source out : List A) (i : ℕ) (d v : A) (ht : i <
         set-at (take i target) _ _ _ i (length-take-le i target (le-of-lt ht)),
         append-snoc,
       )
+
+-- what stands behind i is still the source's
+pub fill-next : {A : Type 0} (target source out : List A) (i : ℕ) (d : A) → i ≤ length target → out ≡ take i target ++ drop i source
+    → getD out (i + 1) d ≡ getD source (i + 1) d
+fill-next {A} target source out i d h e =
+    let long = length-take-le i target h in
+    ap (λ (o : List A). getD o (i + 1) d) e
+    ∙ ap (λ (k : ℕ). getD (take i target ++ drop i source) (k + 1) d) (sym long)
+    ∙ getD-append-add (take i target) (drop i source) 1 d ∙ getD-drop i source 1 d
 
 -- at the start, where the target begins as the source does
 pub fill-start : {A : Type 0} (source rest : List A) (n : ℕ) → n ≤ length source → source ≡ take n (take n source ++ rest) ++ drop n source

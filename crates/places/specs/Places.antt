@@ -6,7 +6,7 @@ use lib.ListN.{take, drop, length, replicate}
 use lib.Dec.{eqb}
 use Rattle.model.specs.Base.{same, every}
 use Rattle.model.specs.Node as model
-use Rattle.model.specs.Bucket.{maxNodes}
+use Rattle.model.specs.Bucket.{maxNodesPerBucket}
 use Rattle.node.specs.declared.Node.{Node}
 use Rattle.node.specs.Node.{nodeOf, nodeCodes, zeroNode}
 
@@ -34,7 +34,7 @@ removeAt pos xs = take pos xs ++ drop (suc pos) xs
 
 -- sixteen places: the nodes, and zero nodes in the places that are free
 abbrev pub padded : List Node → List Node
-padded ns = ns ++ replicate (maxNodes - length ns) zeroNode
+padded ns = ns ++ replicate (maxNodesPerBucket - length ns) zeroNode
 
 -- the state is this code, and all codes are in range
 abbrev pub inState : ℕ → Node → Bool

@@ -7,7 +7,7 @@ ghost use lib.ListN.{take, drop, length};
 ghost use lib.Seq.{slice};
 ghost use Rattle.model.specs.Base.{every};
 ghost use Rattle.model.specs.Filter.{ipFilterFails};
-ghost use Rattle.model.specs.Bucket.{maxNodes, incomingNodes};
+ghost use Rattle.model.specs.Bucket.{maxNodesPerBucket, incomingNodes};
 ghost use Rattle.model.specs.Fits.{All};
 ghost use Rattle.key.specs.Key.{num, Words};
 ghost use Rattle.node.specs.declared.Node.{Node};
@@ -20,7 +20,7 @@ use node::Value;
 // Internal: the place, from `from` on and below n, of the node with this key, or n.
 pub fn position(nodes: [Node; 16], from: usize, n: usize, key: Key) -> usize
     requires { ⌜ from ≤ n ⌝ }
-    requires { ⌜ n ≤ maxNodes ⌝ }
+    requires { ⌜ n ≤ maxNodesPerBucket ⌝ }
     ensures { λ r. ⌜ r ≡ from + position (num key) (slice from n nodes) ⌝ }
 {
     let mut i: usize = from;
@@ -36,7 +36,7 @@ pub fn position(nodes: [Node; 16], from: usize, n: usize, key: Key) -> usize
 
 // Internal: how many of the first n are connected and incoming.
 pub fn incoming(nodes: [Node; 16], n: usize) -> usize
-    requires { ⌜ n ≤ maxNodes ⌝ }
+    requires { ⌜ n ≤ maxNodesPerBucket ⌝ }
     ensures { λ r. ⌜ r ≡ length (incomingNodes (map nodeOf (take n nodes))) ⌝ }
 {
     let mut found: usize = 0;
@@ -70,8 +70,8 @@ pub fn ip_filter(nodes: [Node; 16], count: usize, value: Value, limit: usize) ->
 
 // How many of the sixteen places a count reaches.
 fn within(count: usize) -> usize
-    ensures { λ r. ⌜ r ≤ maxNodes ⌝ }
-    ensures { λ r. ⌜ ((l : List Node) → length l ≡ maxNodes → take r l ≡ take count l) ⌝ }
+    ensures { λ r. ⌜ r ≤ maxNodesPerBucket ⌝ }
+    ensures { λ r. ⌜ ((l : List Node) → length l ≡ maxNodesPerBucket → take r l ≡ take count l) ⌝ }
 {
     if 16 < count {
         return 16;
@@ -81,8 +81,8 @@ fn within(count: usize) -> usize
 
 // Internal: the node goes to place pos. Those from there on move up by one, and the last drops out.
 pub fn insert_at(nodes: [Node; 16], pos: usize, node: Node) -> [Node; 16]
-    requires { ⌜ pos < maxNodes ⌝ }
-    ensures { λ r. ⌜ r ≡ take maxNodes (insertAt pos node nodes) ⌝ }
+    requires { ⌜ pos < maxNodesPerBucket ⌝ }
+    ensures { λ r. ⌜ r ≡ take maxNodesPerBucket (insertAt pos node nodes) ⌝ }
 {
     let mut out = nodes;
     let mut i: usize = 15;
@@ -96,13 +96,13 @@ pub fn insert_at(nodes: [Node; 16], pos: usize, node: Node) -> [Node; 16]
 
 // Internal: the node at place pos goes. Those after it move down by one, and the last place is zero.
 pub fn remove_at(nodes: [Node; 16], pos: usize) -> [Node; 16]
-    requires { ⌜ pos < maxNodes ⌝ }
+    requires { ⌜ pos < maxNodesPerBucket ⌝ }
     ensures { λ r. ⌜ r ≡ removeAt pos nodes ++ (zeroNode ∷ []) ⌝ }
 {
     let mut out = nodes;
     let mut i: usize = pos;
     while i < 15 {
-        out[i] = nodes[i + 1];
+        out[i] = out[i + 1];
         i += 1;
     }
     out[15] = Node::zero();
@@ -113,10 +113,10 @@ pub fn remove_at(nodes: [Node; 16], pos: usize) -> [Node; 16]
 // and the places from n on are zero? A yes also tells what Rattle knows of their keys.
 pub fn in_places(nodes: [Node; 16], first: usize, n: usize) -> bool
     requires { ⌜ first ≤ n ⌝ }
-    requires { ⌜ n ≤ maxNodes ⌝ }
-    ensures { λ r. ⌜ r ≡ (every (inState 0) (slice 0 first nodes) && (every (inState 1) (slice first n nodes) && every isZero (slice n maxNodes nodes))) ⌝ }
+    requires { ⌜ n ≤ maxNodesPerBucket ⌝ }
+    ensures { λ r. ⌜ r ≡ (every (inState 0) (slice 0 first nodes) && (every (inState 1) (slice first n nodes) && every isZero (slice n maxNodesPerBucket nodes))) ⌝ }
     ensures { λ r. ⌜ (r ≡ true → All (λ (n : Node). Words (n .key)) (slice 0 first nodes) × All (λ (n : Node). Words (n .key)) (slice first n nodes)) ⌝ }
-    ensures { λ r. ⌜ length nodes ≡ maxNodes ⌝ }
+    ensures { λ r. ⌜ length nodes ≡ maxNodesPerBucket ⌝ }
 {
     let mut i: usize = 0;
     while i < first {
@@ -155,7 +155,7 @@ fn has_state(node: Node, state: u8) -> bool
 
 // Internal: are the keys of the first n different?
 pub fn all_different(nodes: [Node; 16], n: usize) -> bool
-    requires { ⌜ n ≤ maxNodes ⌝ }
+    requires { ⌜ n ≤ maxNodesPerBucket ⌝ }
     ensures { λ r. ⌜ r ≡ different (map nodeOf (take n nodes)) ⌝ }
 {
     let mut i: usize = 0;

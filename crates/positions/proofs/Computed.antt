@@ -5,15 +5,14 @@ use mathlib.Core.List.{List, [], _∷_}
 use mathlib.Core.Option.{none, some}
 use lib.Count.{leadingZeros}
 use lib.ListN.{drop}
-use Rattle.model.specs.Base.{same}
+use Rattle.model.specs.Base.{same, first}
 use Rattle.model.specs.Key.{log2Distance, bucketIndex, testBit}
 use Rattle.model.specs.Visit.{setsDown, clearsUp, visits}
 use Rattle.model.specs.Filter.{counts, ipFilterFails}
 use Rattle.model.specs.Value.{sameNet, sameValue}
 use Rattle.model.specs.Bucket.{firstConnectedPos, isFull, failsBucketFilter, isMaxIncoming, insert, applyDue, applyPending, reinsert, updateStatus, remove}
 use Rattle.model.specs.Result.{BucketInsertResult, UpdateResult}
-use Rattle.key.specs.Key.{num}
-use Rattle.key.specs.Visits as visit
+use Rattle.key.specs.Key.{num, keyOf}
 use Rattle.node.specs.Node.{nodeOf}
 use Rattle.bucket.specs.declared.KBucket.{KBucket}
 use Rattle.bucket.specs.Bucket.{bucketOf, keyAt, sound}
@@ -31,8 +30,8 @@ indices = (refl, refl, refl, refl, refl)
 abbrev pub visited : List ℕ
 visited = visits (num (keyFrom 0))
 
-pub first-visits : (visit.first visited ≡ some 0) × (visit.first (drop 1 visited) ≡ some 0) × (visit.first (drop 1 (drop 1 visited)) ≡ some 1)
-    × (visit.first (drop 1 (drop 1 (drop 1 visited))) ≡ some 2)
+pub first-visits : (first visited ≡ some 0) × (first (drop 1 visited) ≡ some 0) × (first (drop 1 (drop 1 visited)) ≡ some 1)
+    × (first (drop 1 (drop 1 (drop 1 visited))) ≡ some 2)
 unfolding testBit setsDown clearsUp visits num
 first-visits = (refl, refl, refl, refl)
 
@@ -42,11 +41,11 @@ abbrev pub pending : KBucket
 pending = insertCall (filled 16 32 0 (emptied 16 0)) (nodeFrom 48 plain 1 0) 100 .1
 
 pub not-due : applyPendingCall pending 60099 .0 ≡ Reply.Answered []
-unfolding same counts ipFilterFails sameNet sameValue isFull failsBucketFilter isMaxIncoming insert applyDue applyPending num sound newCall insertCall applyPendingCall filled
+unfolding same counts ipFilterFails sameNet sameValue isFull failsBucketFilter isMaxIncoming insert applyDue applyPending num keyOf sound newCall insertCall applyPendingCall filled
 not-due = refl
 
 pub due : applyPendingCall pending 60100 .0 ≡ Reply.Answered (record { inserted = 48; evicted = some (nodeOf (nodeFrom 32 plain 0 0)) } ∷ [])
-unfolding same counts ipFilterFails sameNet sameValue isFull failsBucketFilter isMaxIncoming insert applyDue applyPending num sound newCall insertCall applyPendingCall filled
+unfolding same counts ipFilterFails sameNet sameValue isFull failsBucketFilter isMaxIncoming insert applyDue applyPending num keyOf sound newCall insertCall applyPendingCall filled
 due = refl
 
 -- row 7
@@ -55,17 +54,17 @@ abbrev pub removed : KBucket
 removed = removeCall (filled 1 34 1 (filled 2 32 0 (emptied 16 0))) (keyFrom 34) 0 .1
 
 pub no-first : (firstConnectedPos (bucketOf removed) ≡ none) × (removed .count ≡ 2) × (removed .«first_connected_pos» ≡ 2)
-unfolding same counts ipFilterFails sameNet sameValue firstConnectedPos isFull failsBucketFilter isMaxIncoming insert applyDue applyPending remove num sound newCall insertCall removeCall filled
+unfolding same counts ipFilterFails sameNet sameValue firstConnectedPos isFull failsBucketFilter isMaxIncoming insert applyDue applyPending remove num keyOf sound newCall insertCall removeCall filled
 no-first = (refl, refl, refl)
 
 -- row 8
 
 pub too-many : insertCall (emptied 0 0) (nodeFrom 32 plain 1 1) 0 .0 ≡ Reply.Answered BucketInsertResult.TooManyIncoming
-unfolding same counts ipFilterFails sameNet sameValue isFull failsBucketFilter isMaxIncoming insert num sound newCall insertCall
+unfolding same counts ipFilterFails sameNet sameValue isFull failsBucketFilter isMaxIncoming insert num keyOf sound newCall insertCall
 too-many = refl
 
 pub not-too-many : insertCall (emptied 0 0) (nodeFrom 32 plain 0 1) 0 .0 ≡ Reply.Answered BucketInsertResult.Inserted
-unfolding same counts ipFilterFails sameNet sameValue isFull failsBucketFilter isMaxIncoming insert num sound newCall insertCall
+unfolding same counts ipFilterFails sameNet sameValue isFull failsBucketFilter isMaxIncoming insert num keyOf sound newCall insertCall
 not-too-many = refl
 
 -- row 9
@@ -74,11 +73,11 @@ abbrev pub full : KBucket
 full = filled 15 33 1 (filled 1 32 0 (emptied 16 0))
 
 pub names-place-0 : insertCall full (nodeFrom 48 plain 1 0) 0 .0 ≡ Reply.Answered (BucketInsertResult.Pending 32)
-unfolding same counts ipFilterFails sameNet sameValue isFull failsBucketFilter isMaxIncoming insert num sound newCall insertCall filled
+unfolding same counts ipFilterFails sameNet sameValue isFull failsBucketFilter isMaxIncoming insert num keyOf sound newCall insertCall filled
 names-place-0 = refl
 
 pub full-beside : insertCall (insertCall full (nodeFrom 48 plain 1 0) 0 .1) (nodeFrom 49 plain 1 0) 0 .0 ≡ Reply.Answered BucketInsertResult.Full
-unfolding same counts ipFilterFails sameNet sameValue isFull failsBucketFilter isMaxIncoming insert num sound newCall insertCall filled
+unfolding same counts ipFilterFails sameNet sameValue isFull failsBucketFilter isMaxIncoming insert num keyOf sound newCall insertCall filled
 full-beside = refl
 
 -- row 10
@@ -87,7 +86,7 @@ abbrev pub restated : Reply UpdateResult × KBucket
 restated = updateStatusCall (filled 2 32 1 (emptied 16 0)) (keyFrom 32) 1 2
 
 pub moved : (keyAt (restated .1) 0 ≡ 33) × (keyAt (restated .1) 1 ≡ 32) × (restated .0 ≡ Reply.Answered UpdateResult.NotModified)
-unfolding same counts ipFilterFails sameNet sameValue isFull failsBucketFilter isMaxIncoming insert reinsert updateStatus num sound newCall insertCall updateStatusCall filled
+unfolding same counts ipFilterFails sameNet sameValue isFull failsBucketFilter isMaxIncoming insert reinsert updateStatus num keyOf sound newCall insertCall updateStatusCall filled
 moved = (refl, refl, refl)
 
 -- row 12
@@ -96,9 +95,9 @@ abbrev pub twoOfANet : KBucket
 twoOfANet = insertCall (insertCall (emptied 16 1) (nodeFrom 32 (addressed 1) 0 0) 0 .1) (nodeFrom 33 (addressed 2) 0 0) 0 .1
 
 pub third-value : insertCall twoOfANet (nodeFrom 34 (addressed 3) 0 0) 0 .0 ≡ Reply.Answered BucketInsertResult.FailedFilter
-unfolding same counts ipFilterFails sameNet sameValue isFull failsBucketFilter isMaxIncoming insert num sound newCall insertCall
+unfolding same counts ipFilterFails sameNet sameValue isFull failsBucketFilter isMaxIncoming insert num keyOf sound newCall insertCall
 third-value = refl
 
 pub value-again : insertCall twoOfANet (nodeFrom 34 (addressed 2) 0 0) 0 .0 ≡ Reply.Answered BucketInsertResult.Inserted
-unfolding same counts ipFilterFails sameNet sameValue isFull failsBucketFilter isMaxIncoming insert num sound newCall insertCall
+unfolding same counts ipFilterFails sameNet sameValue isFull failsBucketFilter isMaxIncoming insert num keyOf sound newCall insertCall
 value-again = refl

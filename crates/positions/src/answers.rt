@@ -14,7 +14,7 @@ use key::BucketIndex;
 use key::Key;
 
 // The index, or 256 for none.
-pub fn index_number(i: BucketIndex) -> usize
+pub(crate) fn index_number(i: BucketIndex) -> usize
     ensures { λ r. ⌜ r ≡ indexNumber (bucketIndexOf i) ⌝ }
 {
     match i {
@@ -24,7 +24,7 @@ pub fn index_number(i: BucketIndex) -> usize
 }
 
 // The number of the question that failed, or 10 and more for a result.
-pub fn insert_number(a: InsertAnswer) -> u8
+pub(crate) fn insert_number(a: InsertAnswer) -> u8
     ensures { λ r. ⌜ r ≡ insertNumber (insertAnswerOf a) ⌝ }
 {
     match a {
@@ -47,7 +47,7 @@ fn insert_result_number(r: InsertResult) -> u8
 }
 
 // Is it a pending that names the node of this key?
-pub fn names(a: InsertAnswer, key: Key) -> bool
+pub(crate) fn names(a: InsertAnswer, key: Key) -> bool
     ensures { λ r. ⌜ r ≡ namesKey (num key) (insertAnswerOf a) ⌝ }
 {
     match a {
@@ -70,7 +70,7 @@ fn result_names(r: InsertResult, key: Key) -> bool
 }
 
 // The number of the question that failed, or 10 and more for a result.
-pub fn update_number(a: UpdateAnswer) -> u8
+pub(crate) fn update_number(a: UpdateAnswer) -> u8
     ensures { λ r. ⌜ r ≡ updateNumber (updateAnswerOf a) ⌝ }
 {
     match a {
@@ -92,7 +92,7 @@ fn update_result_number(r: UpdateResult) -> u8
 }
 
 // Was no pending applied?
-pub fn none_applied(a: ApplyAnswer) -> bool
+pub(crate) fn none_applied(a: ApplyAnswer) -> bool
     ensures { λ r. ⌜ r ≡ noneApplied (applyAnswerOf a) ⌝ }
 {
     match a {
@@ -106,7 +106,7 @@ pub fn none_applied(a: ApplyAnswer) -> bool
 }
 
 // Was the pending of this key applied?
-pub fn applied_key(a: ApplyAnswer, key: Key) -> bool
+pub(crate) fn applied_key(a: ApplyAnswer, key: Key) -> bool
     ensures { λ r. ⌜ r ≡ appliedKey (num key) (applyAnswerOf a) ⌝ }
 {
     match a {
@@ -120,11 +120,11 @@ pub fn applied_key(a: ApplyAnswer, key: Key) -> bool
 }
 
 // Writes a key below 2^64.
-pub fn say_key(k: Key) {
+pub(crate) fn say_key(k: Key) {
     io::print_decimal(1, k.w3);
 }
 
-pub fn say_index(i: BucketIndex) {
+pub(crate) fn say_index(i: BucketIndex) {
     match i {
         BucketIndex::At(n) => {
             io::print_decimal(1, n as u64);
@@ -140,7 +140,7 @@ fn say_refused(q: u8) {
     io::print_decimal(1, q as u64);
 }
 
-pub fn say_insert(a: InsertAnswer) {
+pub(crate) fn say_insert(a: InsertAnswer) {
     match a {
         InsertAnswer::Refused(q) => say_refused(q),
         InsertAnswer::Answered(r) => say_insert_result(r),
@@ -171,7 +171,7 @@ fn say_insert_result(r: InsertResult) {
     }
 }
 
-pub fn say_update(a: UpdateAnswer) {
+pub(crate) fn say_update(a: UpdateAnswer) {
     match a {
         UpdateAnswer::Refused(q) => say_refused(q),
         UpdateAnswer::Answered(r) => say_update_result(r),
@@ -198,7 +198,7 @@ fn say_update_result(r: UpdateResult) {
     }
 }
 
-pub fn say_applied(a: ApplyAnswer) {
+pub(crate) fn say_applied(a: ApplyAnswer) {
     match a {
         ApplyAnswer::Refused(q) => say_refused(q),
         ApplyAnswer::Answered(p) => say_record(p),

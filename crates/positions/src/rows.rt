@@ -42,7 +42,7 @@ pub struct Visits {
 }
 
 // The key of a number.
-pub fn key_from(k: u64) -> Key
+pub(crate) fn key_from(k: u64) -> Key
     ensures { λ r. ⌜ r ≡ keyFrom k ⌝ }
 {
     Key {
@@ -54,7 +54,7 @@ pub fn key_from(k: u64) -> Key
 }
 
 // A node with no address.
-pub fn node_from(k: u64, state: u8, direction: u8) -> Node
+pub(crate) fn node_from(k: u64, state: u8, direction: u8) -> Node
     ensures { λ r. ⌜ r ≡ nodeFrom k plain state direction ⌝ }
 {
     let key = key_from(k);
@@ -71,7 +71,7 @@ pub fn node_from(k: u64, state: u8, direction: u8) -> Node
 }
 
 // A disconnected outgoing node with the address 10.0.0.d.
-pub fn node_at(k: u64, d: u8) -> Node
+pub(crate) fn node_at(k: u64, d: u8) -> Node
     ensures { λ r. ⌜ r ≡ nodeFrom k (addressed d) 0 0 ⌝ }
 {
     let key = key_from(k);
@@ -91,7 +91,7 @@ pub fn node_at(k: u64, d: u8) -> Node
 }
 
 // An empty bucket with timeout 60,000.
-pub fn empty(max_incoming: usize, filter: u8) -> KBucket
+pub(crate) fn empty(max_incoming: usize, filter: u8) -> KBucket
     ensures { λ r. ⌜ r ≡ emptied «max_incoming» filter ⌝ }
 {
     let made = KBucket::new(60000, max_incoming, filter);
@@ -99,7 +99,7 @@ pub fn empty(max_incoming: usize, filter: u8) -> KBucket
 }
 
 // Internal: inserts n outgoing nodes of one state at time 0, with the keys from k on.
-pub fn fill(b: KBucket, k: u64, n: u64, state: u8) -> KBucket
+pub(crate) fn fill(b: KBucket, k: u64, n: u64, state: u8) -> KBucket
     requires { ⌜ k + n ≤ 64 ⌝ }
     ensures { λ r. ⌜ r ≡ filled n k state b ⌝ }
 {
@@ -117,7 +117,7 @@ pub fn fill(b: KBucket, k: u64, n: u64, state: u8) -> KBucket
 }
 
 // 1 and 2: the index of the key whose highest word is w0 and whose lowest is w3.
-pub fn index_of(w0: u64, w3: u64) -> BucketIndex
+pub(crate) fn index_of(w0: u64, w3: u64) -> BucketIndex
     ensures { λ r. ⌜ bucketIndexOf r ≡ indexOf w0 w3 ⌝ }
 {
     let local = key_from(0);
@@ -131,7 +131,7 @@ pub fn index_of(w0: u64, w3: u64) -> BucketIndex
 }
 
 // 5: target 0, first four visits.
-pub fn row5() -> Visits
+pub(crate) fn row5() -> Visits
     ensures { λ r. ⌜ bucketIndexOf (r .first) ≡ some 0 ⌝ }
     ensures { λ r. ⌜ bucketIndexOf (r .second) ≡ some 0 ⌝ }
     ensures { λ r. ⌜ bucketIndexOf (r .third) ≡ some 1 ⌝ }
@@ -158,7 +158,7 @@ pub fn row5() -> Visits
 }
 
 // 6: pending at 100, timeout 60,000; applied at 60,099; applied at 60,100.
-pub fn row6() -> Applies
+pub(crate) fn row6() -> Applies
     ensures { λ r. ⌜ applyAnswerOf (r .early) ≡ Reply.Answered [] ⌝ }
     ensures { λ r. ⌜ applyAnswerOf (r .due) ≡ Reply.Answered (record { inserted = 48; evicted = some (nodeOf (nodeFrom 32 plain 0 0)) } ∷ []) ⌝ }
 {
@@ -175,7 +175,7 @@ pub fn row6() -> Applies
 }
 
 // 7: two disconnected then one connected; connected removed.
-pub fn row7() -> KBucket
+pub(crate) fn row7() -> KBucket
     ensures { λ r. ⌜ firstConnectedPos (bucketOf r) ≡ none ⌝ }
     ensures { λ r. ⌜ r .count ≡ 2 ⌝ }
     ensures { λ r. ⌜ r .«first_connected_pos» ≡ 2 ⌝ }
@@ -188,7 +188,7 @@ pub fn row7() -> KBucket
 }
 
 // 8: max_incoming 0; connected incoming; disconnected incoming.
-pub fn row8() -> Inserts
+pub(crate) fn row8() -> Inserts
     ensures { λ r. ⌜ insertAnswerOf (r .first) ≡ Reply.Answered BucketInsertResult.TooManyIncoming ⌝ }
     ensures { λ r. ⌜ insertAnswerOf (r .second) ≡ Reply.Answered BucketInsertResult.Inserted ⌝ }
 {
@@ -203,7 +203,7 @@ pub fn row8() -> Inserts
 }
 
 // 9: one disconnected, 15 connected; two new connected outgoing.
-pub fn row9() -> Inserts
+pub(crate) fn row9() -> Inserts
     ensures { λ r. ⌜ insertAnswerOf (r .first) ≡ Reply.Answered (BucketInsertResult.Pending 32) ⌝ }
     ensures { λ r. ⌜ insertAnswerOf (r .second) ≡ Reply.Answered BucketInsertResult.Full ⌝ }
 {
@@ -221,7 +221,7 @@ pub fn row9() -> Inserts
 }
 
 // 10: connected A, B; A set connected.
-pub fn row10() -> UpdateReply
+pub(crate) fn row10() -> UpdateReply
     ensures { λ r. ⌜ keyAt (r .bucket) 0 ≡ 33 ⌝ }
     ensures { λ r. ⌜ keyAt (r .bucket) 1 ≡ 32 ⌝ }
     ensures { λ r. ⌜ updateAnswerOf (r .answer) ≡ Reply.Answered UpdateResult.NotModified ⌝ }
@@ -232,7 +232,7 @@ pub fn row10() -> UpdateReply
 }
 
 // 12: bucket filter on, 10.0.0.1 and 10.0.0.2 held once each; a new disconnected key with 10.0.0.3; with 10.0.0.2.
-pub fn row12() -> Inserts
+pub(crate) fn row12() -> Inserts
     ensures { λ r. ⌜ insertAnswerOf (r .first) ≡ Reply.Answered BucketInsertResult.FailedFilter ⌝ }
     ensures { λ r. ⌜ insertAnswerOf (r .second) ≡ Reply.Answered BucketInsertResult.Inserted ⌝ }
 {

@@ -17,7 +17,7 @@ use Rattle.laws.proofs.Lists.{joined-snoc}
 use Rattle.laws.proofs.Parts.{splice-next}
 use Rattle.laws.proofs.Bytes.{length-bytes}
 use Rattle.laws.proofs.NodeFormed.{flag-back}
-use Rattle.queue.specs.Queue.{settingsOf}
+use Rattle.model.specs.Step.{settingsOf}
 use Rattle.queue.proofs.Runs.{blank, blank-is, blank-add, length-blank, zeros-over, blank-front}
 use Rattle.queue.proofs.Header.{frontBytes, header-parts}
 

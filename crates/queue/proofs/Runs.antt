@@ -24,10 +24,6 @@ splice-front s a at v h =
 
 -- bytes moved to the front, one by one
 
-pub part-none : (s : List ℕ) (at : ℕ) → part s at 0 ≡ []
-unfolding part
-part-none s at = refl
-
 pub moved : {t : List ℕ} (s : List ℕ) (at by k : ℕ) → t ≡ splice s at (part s (at + by) k) → at + by + k < length s
     → set t (at + k) (getD t (at + by + k) 0) ≡ splice s at (part s (at + by) (k + 1))
 moved {t} s at by k e h =

@@ -12,9 +12,10 @@ ghost use Rattle.model.specs.Sizes.{recordSize, storageSize};
 ghost use Rattle.model.specs.Layout.{recordBytes, bytesOf, recordIn, tableOf};
 ghost use Rattle.model.specs.Formed.{recordFormed, headerFormed};
 ghost use Rattle.key.specs.Key.{num};
+ghost use Rattle.model.specs.Step.{settingsOf};
 ghost use Rattle.node.specs.Node.{nodeOf, nodeCodes};
-ghost use Rattle.bucket.specs.Calls.{recordsOf};
-ghost use Rattle.queue.specs.Queue.{requeued, recordCodes, settingsOf};
+ghost use Rattle.bucket.specs.Calls.{recordsOf, appliedCodes};
+ghost use Rattle.queue.specs.Queue.{requeued};
 use bucket::AppliedPending;
 use key::Key;
 use node::Node;
@@ -64,8 +65,8 @@ fn push_inserted(s: &mut [u8], key: Key)
     words::put_byte(s, Layout::RECORD_COUNT_AT, (n + 1) as u8);
 }
 
-// The bytes of a record with an evicted node, put at `at`.
-fn store_replaced(s: &mut [u8], at: usize, key: Key, node: Node)
+// Internal: the bytes of a record with an evicted node, put at `at`.
+pub fn store_replaced(s: &mut [u8], at: usize, key: Key, node: Node)
     requires { ⌜ at + recordSize ≤ length (now s) ⌝ }
     requires { ⌜ nodeCodes node ≡ true ⌝ }
     ensures { λ _. ⌜ now (s .exit) ≡ splice (now (s .entry)) at (recordBytes (record { inserted = num key; evicted = some (nodeOf node) })) ⌝ }
@@ -93,7 +94,7 @@ pub fn push_record(s: &mut [u8], applied: AppliedPending)
     requires { ⌜ length (now s) ≡ storageSize ⌝ }
     requires { ⌜ headerFormed (now s) ≡ true ⌝ }
     requires { ⌜ length (tableOf (now s) .queue) + length (recordsOf applied) ≤ maxRecords ⌝ }
-    requires { ⌜ recordCodes applied ≡ true ⌝ }
+    requires { ⌜ appliedCodes applied ≡ true ⌝ }
     ensures { λ _. ⌜ now (s .exit) ≡ requeued (tableOf (now (s .entry)) .queue ++ recordsOf applied) (now (s .entry)) ⌝ }
 {
     match applied {
@@ -108,7 +109,7 @@ fn load_record(s: &[u8], at: usize) -> AppliedPending
     requires { ⌜ at + recordSize ≤ length (now s) ⌝ }
     requires { ⌜ recordFormed (part (now s) at recordSize) ≡ true ⌝ }
     ensures { λ r. ⌜ recordsOf r ≡ recordIn (part (now (s .entry)) at recordSize) ∷ [] ⌝ }
-    ensures { λ r. ⌜ recordCodes r ≡ true ⌝ }
+    ensures { λ r. ⌜ appliedCodes r ≡ true ⌝ }
 {
     let key = Key::load(s, at);
     if s[at + Layout::KEY] == 1 {
@@ -149,7 +150,7 @@ pub fn take_record(s: &mut [u8]) -> AppliedPending
     requires { ⌜ length (now s) ≡ storageSize ⌝ }
     requires { ⌜ headerFormed (now s) ≡ true ⌝ }
     ensures { λ r. ⌜ recordsOf r ≡ take 1 (tableOf (now (s .entry)) .queue) ⌝ }
-    ensures { λ r. ⌜ recordCodes r ≡ true ⌝ }
+    ensures { λ r. ⌜ appliedCodes r ≡ true ⌝ }
     ensures { λ _. ⌜ now (s .exit) ≡ requeued (drop 1 (tableOf (now (s .entry)) .queue)) (now (s .entry)) ⌝ }
 {
     let n = record_count(s);

@@ -15,7 +15,7 @@ fn set(s: &mut [u8], at: usize, x: u8) {
 }
 
 // Fills the first n bytes.
-pub fn fill(s: &mut [u8], n: usize) {
+pub(crate) fn fill(s: &mut [u8], n: usize) {
     let mut i = 0;
     while i < n {
         set(s, i, FILL);
@@ -191,7 +191,7 @@ fn on_part(r: &[u8], s: &mut [u8], out: &mut [u8]) -> u32 {
 }
 
 // The call on a table or a bucket, of which as much is handed over as the record says.
-pub fn made(r: &[u8], s: &mut [u8], out: &mut [u8]) -> u32 {
+pub(crate) fn made(r: &[u8], s: &mut [u8], out: &mut [u8]) -> u32 {
     if record::byte(r, 0) % 16 == 0 {
         return write(s, r);
     }

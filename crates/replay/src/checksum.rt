@@ -15,7 +15,7 @@ fn times_prime(x: u64) -> u64 {
 }
 
 // Goes on from `sum` with the first n bytes, or all where there are fewer.
-pub fn checksum(sum: u64, s: &[u8], n: usize) -> u64 {
+pub(crate) fn checksum(sum: u64, s: &[u8], n: usize) -> u64 {
     let mut out = sum;
     let mut i = 0;
     while i < s.len() {

@@ -1,6 +1,6 @@
 // The names of the calls, by their numbers in a record: 24 bytes each. A write of bytes that no call leaves has a number too.
 
-pub fn name(call: u8) {
+pub(crate) fn name(call: u8) {
     let names: &[u8] =
         b"storage written         new                     update_node_status      update_node             \
         insert_or_update        remove                  entry                   present_update          \

@@ -32,14 +32,14 @@ pub struct Arguments {
 }
 
 // A record, empty.
-pub fn empty() -> [u8; 128]
+pub(crate) fn empty() -> [u8; 128]
     ensures { λ r. ⌜ 128 ≡ length r ⌝ }
 {
     [0; 128]
 }
 
 // 0 past the end.
-pub fn byte(r: &[u8], at: usize) -> u8 {
+pub(crate) fn byte(r: &[u8], at: usize) -> u8 {
     if at < r.len() {
         return r[at];
     }
@@ -58,7 +58,7 @@ fn number_of_two(r: &[u8], at: usize) -> u16 {
 }
 
 // The number of the four bytes at a place.
-pub fn number_of_four(r: &[u8], at: usize) -> u64 {
+pub(crate) fn number_of_four(r: &[u8], at: usize) -> u64 {
     if 124 < at {
         return 0;
     }
@@ -66,7 +66,7 @@ pub fn number_of_four(r: &[u8], at: usize) -> u64 {
 }
 
 // The number of the eight bytes at a place.
-pub fn number_of_eight(r: &[u8], at: usize) -> u64 {
+pub(crate) fn number_of_eight(r: &[u8], at: usize) -> u64 {
     if 120 < at {
         return 0;
     }
@@ -76,7 +76,7 @@ pub fn number_of_eight(r: &[u8], at: usize) -> u64 {
     words::get_u64(r, at)
 }
 
-pub fn read_arguments(r: &[u8]) -> Arguments {
+pub(crate) fn read_arguments(r: &[u8]) -> Arguments {
     Arguments {
         state: byte(r, 35),
         direction: byte(r, 36),
@@ -91,7 +91,7 @@ pub fn read_arguments(r: &[u8]) -> Arguments {
     }
 }
 
-pub fn distances(r: &[u8]) -> [u64; 6]
+pub(crate) fn distances(r: &[u8]) -> [u64; 6]
     ensures { λ d. ⌜ 6 ≡ length d ⌝ }
 {
     [

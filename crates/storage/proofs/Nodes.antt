@@ -1,6 +1,6 @@
 -- The bytes of declared values and nodes, read field by field and written field by field.
 use mathlib.Core.Path.{_≡_, refl, ap, _∙_}
-use mathlib.Core.Bool.{Bool, true, false, _&&_, _||_}
+use mathlib.Core.Bool.{Bool, true, _&&_, _||_, and-assoc}
 use mathlib.Core.List.{List, [], _∷_, _++_, append-assoc}
 use mathlib.Core.Option.{Option, none, some}
 use Prim.Native.Nat.{ℕ, _+_, _≤_, _<_}
@@ -20,11 +20,12 @@ use Rattle.laws.proofs.Parts.{part-part, part-zero, getD-part, splice-next}
 use Rattle.laws.proofs.Bytes.{length-bytes}
 use Rattle.laws.proofs.NodeBytes.{length-value}
 use Rattle.laws.proofs.NodeFormed.{flag-back}
-use Rattle.key.specs.Key.{num}
+use Rattle.key.specs.Key.{num, keyOf}
 use Rattle.node.specs.declared.Value.{Value}
 use Rattle.node.specs.declared.Node.{Node}
-use Rattle.node.specs.Node.{keyOf, addressOf, valueOf, nodeOf, valueCodes, nodeCodes, storedAddress}
-use Rattle.node.proofs.Stored.{num-keyOf, stored-valueOf}
+use Rattle.node.specs.Node.{valueOf, nodeOf, valueCodes, nodeCodes, storedAddress}
+use Rattle.key.proofs.Words.{num-keyOf}
+use Rattle.node.proofs.Stored.{stored-valueOf}
 use Rattle.storage.specs.Read.{readValue, readNode}
 
 -- what is read at a place
@@ -86,17 +87,10 @@ codes-by x z =
     more : (x ≡ 1 → ⊥) → (x ≡ 0 → ⊥) → 1 < x
     more p q = omega (arith, p, q)
 
-four : (a b c d : Bool) → (a && (b && (c && d))) ≡ (((a && b) && c) && d)
-four true b c d = three b c d
-  where
-    three : (b c d : Bool) → (b && (c && d)) ≡ ((b && c) && d)
-    three true c d = refl
-    three false c d = refl
-four false b c d = refl
-
 pub codes-read : (bs : List ℕ) → nodeCodes (readNode bs) ≡ formed.nodeCodes bs
 unfolding readNode readValue formed.nodeCodes formed.areZero allBelow
 codes-read bs =
+    let z : ℕ → Bool = λ j. eqb (getD bs (keySize + j) 0) 0 in
     rw (
       getD-part bs (keySize + 2) valueSize 0 (omega arith),
       getD-part bs (keySize + 2) valueSize 1 (omega arith),
@@ -104,7 +98,8 @@ codes-read bs =
       getD-part bs (keySize + 2) valueSize 3 (omega arith),
       getD-part bs (keySize + 2) valueSize 4 (omega arith),
       codes-by,
-      four (eqb (getD bs (keySize + 3) 0) 0) (eqb (getD bs (keySize + 4) 0) 0) (eqb (getD bs (keySize + 5) 0) 0) (eqb (getD bs (keySize + 6) 0) 0),
+      ← and-assoc (z 3) (z 4) (z 5 && z 6),
+      ← and-assoc (z 3 && z 4) (z 5) (z 6),
     )
 
 -- what is written
@@ -119,7 +114,7 @@ stored-bytes (some x) slot = refl
 
 pub value-bytes : (v : Value) → valueCodes v ≡ true → valueBytes (valueOf v) ≡ (v .flag ∷ v .a ∷ v .b ∷ v .c ∷ v .d ∷ []) ++ bytes slotSize (v .slot)
 unfolding valueBytes octets
-value-bytes v h = ap (λ (l : List ℕ). l ++ bytes slotSize (v .slot)) (stored-bytes (addressOf v) (v .slot) ∙ ap octets (stored-valueOf v h))
+value-bytes v h = ap (λ (l : List ℕ). l ++ bytes slotSize (v .slot)) (stored-bytes (valueOf v .address) (v .slot) ∙ ap octets (stored-valueOf v h))
 
 module _ (n : Node) (h : nodeCodes n ≡ true) where
   pub codes-value : valueCodes (n .value) ≡ true

@@ -6,7 +6,7 @@ use Rattle.model.specs.Bytes.{number, part}
 use Rattle.model.specs.Sizes.{keySize, slotSize, valueSize}
 use Rattle.node.specs.declared.Value.{Value}
 use Rattle.node.specs.declared.Node.{Node}
-use Rattle.node.specs.Node.{keyOf}
+use Rattle.key.specs.Key.{keyOf}
 
 unfoldable pub readValue : List ℕ → Value
 readValue bs =

@@ -1,18 +1,19 @@
 -- The calls that are not on one key.
-use Prim.Native.Nat.{ℕ, _+_, _≤_}
+use Prim.Native.Nat.{ℕ, _≤_}
 use native.Mathlib.Omega.{arith}
-use mathlib.Core.Path.{_≡_, refl, sym, ap, _∙_, subst}
-use mathlib.Core.Bool.{Bool, true, false, cond, _&&_}
+use mathlib.Core.Path.{_≡_, refl, sym, ap, _∙_}
+use mathlib.Core.Bool.{Bool, true, false, cond, _&&_, and-true}
 use mathlib.Core.List.{List, [], _∷_}
-use mathlib.Core.Option.{Option, none, some}
+use mathlib.Core.Option.{none, some}
 use lib.ListN.{length, take, drop}
 use lib.Dec.{eqb, leb}
-use borrow.Author.Tests.{le-leb, eq-eqb}
-use Rattle.model.specs.Bytes.{Bytes, splice}
+use borrow.Author.Tests.{le-leb}
+use Rattle.model.specs.Base.{first}
+use Rattle.model.specs.Bytes.{Bytes, splice, number}
 use Rattle.model.specs.Node.{AppliedPending}
-use Rattle.model.specs.Bucket.{maxNodes}
+use Rattle.model.specs.Bucket.{maxNodesPerBucket}
 use Rattle.model.specs.Table.{Table, Answer, emptyTable, maxRecords}
-use Rattle.model.specs.Sizes.{keySize, timeSize, storageSize}
+use Rattle.model.specs.Sizes.{keySize, storageSize}
 use Rattle.model.specs.Call.{Call}
 use Rattle.model.specs.Question.{firstFailed, keysFit, codesInRange, clockFits, outputFits, kindFits}
 use Rattle.model.specs.Step.{settingsOf, takeOldest, act, queueFits}
@@ -26,7 +27,6 @@ use Rattle.queue.specs.Queue.{withQueue}
 use Rattle.asked.specs.Answers.{Answers, firstTwo, failedOfTwo}
 use Rattle.asked.proofs.Questions.{front-fails, front-passes, passed-two}
 use Rattle.asked.proofs.OneKey.{refused-bytes, accepted-bytes}
-use Rattle.table.specs.Calls.{first}
 
 -- take_applied_pending
 
@@ -67,11 +67,7 @@ module _ (s k : List ℕ) (timeout m tf bf : ℕ) where
   made = Call.new k timeout m tf bf
 
   abbrev codes : Bool
-  codes = leb m maxNodes && (leb tf 1 && leb bf 1)
-
-  and-true : (b : Bool) → (b && true) ≡ b
-  and-true true = refl
-  and-true false = refl
+  codes = leb m maxNodesPerBucket && (leb tf 1 && leb bf 1)
 
   asked-new : firstFailed (allQuestions made s) ≡ cond (eqb (length s) storageSize) (cond (eqb (length k) keySize) (cond codes none (some 4)) (some 3)) (some 1)
   unfolding keysFit codesInRange clockFits outputFits kindFits queueFits act
@@ -88,9 +84,9 @@ module _ (s k : List ℕ) (timeout m tf bf : ℕ) where
       pub new-codes : codes ≡ false → Answers (Answer.Refused 4) s (stepBytes made s)
       new-codes g = refused-bytes made s 4 (asked-new ∙ (rw (e, f, g)))
 
-      pub new-made : codes ≡ true → length s ≡ storageSize → FitsCall made → (s′ : List ℕ) → s′ ≡ bytesOf (emptyTable (settingsOf k timeout m tf bf)) → Answers Answer.New s′ (stepBytes made s)
+      pub new-made : codes ≡ true → length s ≡ storageSize → FitsCall made → (s′ : List ℕ) → s′ ≡ bytesOf (emptyTable (settingsOf (number k) timeout m tf bf)) → Answers Answer.New s′ (stepBytes made s)
       unfolding act keysFit codesInRange
       new-made g l h s′ w =
           let fit = new-settings-fit k timeout m tf bf h (rw f) g in
-          let all = with-queue (emptyTable (settingsOf k timeout m tf bf)) (new-endless (settingsOf k timeout m tf bf) fit) (omega arith) in
-          accepted-bytes made s Answer.New s′ (asked-new ∙ (rw (e, f, g))) refl (w ∙ sym (restore-all s l (emptyTable (settingsOf k timeout m tf bf)) all))
+          let all = with-queue (emptyTable (settingsOf (number k) timeout m tf bf)) (new-endless (settingsOf (number k) timeout m tf bf) fit) (omega arith) in
+          accepted-bytes made s Answer.New s′ (asked-new ∙ (rw (e, f, g))) refl (w ∙ sym (restore-all s l (emptyTable (settingsOf (number k) timeout m tf bf)) all))

@@ -1,6 +1,5 @@
 -- What the table's answers mean.
-use mathlib.Core.List.{List, [], _∷_}
-use mathlib.Core.Option.{Option, none, some}
+use Rattle.model.specs.Base.{first}
 use Rattle.model.specs.Table.{Answer}
 use Rattle.bucket.specs.declared.RemoveAnswer.{RemoveAnswer}
 use Rattle.bucket.specs.declared.RemoveAnswer.the-variants as remove-answer
@@ -13,11 +12,6 @@ use Rattle.table.specs.declared.TakeAnswer.{TakeAnswer}
 abbrev pub removeAnswer : RemoveAnswer → Answer
 removeAnswer (remove-answer.Refused q) = Answer.Refused q
 removeAnswer (remove-answer.Answered found) = Answer.Remove found
-
--- the first of a list, if it has one
-abbrev pub first : {A : Type 0} → List A → Option A
-first [] = none
-first (x ∷ l) = some x
 
 abbrev pub takeAnswer : TakeAnswer → Answer
 takeAnswer (TakeAnswer.Refused q) = Answer.Refused q

@@ -10,29 +10,30 @@ use native.Mathlib.Numerals.{add-one}
 use native.Mathlib.Omega.{arith}
 use mir.Val.{boolByte}
 use lib.Dec.{eqb}
-use lib.ListN.{length, getD, take-append-drop}
+use lib.ListN.{length, getD}
 use borrow.Author.Tests.{ne-eqb, le-leb, lt-leb}
 use Rattle.model.specs.Base.{same, select, tabulate}
 use Rattle.model.specs.Bytes.{number, part}
 use Rattle.model.specs.Value.{Value, hasAddress}
 use Rattle.model.specs.Node.{Node}
 use Rattle.model.specs.Filter.{counts, counted, ipFilterFails}
-use Rattle.model.specs.Bucket.{Bucket, maxNodes, nodes, find, lookup}
+use Rattle.model.specs.Bucket.{Bucket, maxNodesPerBucket, nodes, find, get}
 use Rattle.model.specs.Table.{numBuckets, heldNodes}
-use Rattle.model.specs.Sizes.{keySize, valueSize, nodeSize, bucketSize, bucketAt, maxIncomingAt, tableFilterAt}
+use Rattle.model.specs.Sizes.{keySize, valueSize, nodeSize, bucketSize, bucketAt, tableFilterAt}
 use Rattle.model.specs.Layout.{valueIn, nodeIn, nodesIn, bucketIn, settingsIn, bucketPart, tableOf}
-use Rattle.model.specs.Formed.{headerFormed, formed}
-use Rattle.laws.proofs.Tests.{split, and-right}
-use Rattle.laws.proofs.Lists.{tabulate-one-more, all-gives}
-use Rattle.laws.proofs.KeepLists.{find-append, lookup-nodes}
+use Rattle.model.specs.Formed.{formed}
+use Rattle.laws.proofs.Tests.{split}
+use Rattle.laws.proofs.Lists.{tabulate-one-more}
+use Rattle.laws.proofs.KeepLists.{find-append, get-nodes}
 use Rattle.laws.proofs.Parts.{part-part, part-zero, getD-part}
 use Rattle.laws.proofs.BucketFormed.{checked}
+use Rattle.laws.proofs.BucketBack.{nodes-in}
+use Rattle.laws.proofs.TableBytes.{bucket-passes}
 use Rattle.node.specs.declared.Value as declared
 use Rattle.node.specs.Node.{valueOf}
 use Rattle.storage.specs.Read.{readValue}
 use Rattle.storage.proofs.Nodes.{valueOf-read}
-use Rattle.formed.specs.Tests.{nodeAt, bucketAtFormed}
-use Rattle.formed.proofs.Buckets.{formed-is}
+use Rattle.formed.specs.Tests.{nodeAt}
 use Rattle.table_filter.specs.Counted.{countedBelow}
 
 -- how many count against a value
@@ -118,12 +119,11 @@ unfolding tableOf
 table-bucket s i = refl
 
 nodes-at : (s : List ℕ) (at : ℕ) → nodes (bucketIn (part s at bucketSize)) ≡ tabulate (getD s at 0) (nodeAt (part s at bucketSize))
-unfolding bucketIn nodesIn nodeAt
-nodes-at s at =
-    take-append-drop (getD (part s at bucketSize) 1 0) (nodesIn (part s at bucketSize)) ∙ rw (getD-part s at bucketSize 0 (omega arith), add-zero)
+unfolding nodesIn nodeAt
+nodes-at s at = nodes-in (part s at bucketSize) ∙ rw (getD-part s at bucketSize 0 (omega arith), add-zero)
 
-pub lookup-at : (k : ℕ) (s : List ℕ) (at : ℕ) → lookup k (bucketIn (part s at bucketSize)) ≡ find k (tabulate (getD s at 0) (nodeAt (part s at bucketSize)))
-lookup-at k s at = lookup-nodes k (bucketIn (part s at bucketSize)) ∙ ap (find k) (nodes-at s at)
+pub get-at : (k : ℕ) (s : List ℕ) (at : ℕ) → get k (bucketIn (part s at bucketSize)) ≡ find k (tabulate (getD s at 0) (nodeAt (part s at bucketSize)))
+get-at k s at = get-nodes k (bucketIn (part s at bucketSize)) ∙ ap (find k) (nodes-at s at)
 
 pub counted-at : (v : Value) (s : List ℕ) (at : ℕ)
     → length (counted v (nodes (bucketIn (part s at bucketSize)))) ≡ countedBelow v (part s at bucketSize) (getD s at 0)
@@ -131,11 +131,9 @@ unfolding countedBelow
 counted-at v s at = rw (nodes-at s at)
 
 -- a well-formed table has no more than 16 nodes in a bucket
-pub bucket-count : (s : List ℕ) (i : ℕ) → formed s ≡ true → i < numBuckets → getD s (bucketAt i) 0 ≤ maxNodes
-unfolding bucketAtFormed
+pub bucket-count : (s : List ℕ) (i : ℕ) → formed s ≡ true → i < numBuckets → getD s (bucketAt i) 0 ≤ maxNodesPerBucket
 bucket-count s i f l =
-    let a = all-gives numBuckets (bucketAtFormed s) i l (and-right (headerFormed s) _ (sym (formed-is s) ∙ f)) in
-    let c = checked _ (getD s maxIncomingAt 0) (bucketPart s i) a in
+    let c = checked _ _ (bucketPart s i) (bucket-passes s f i l) in
     rw (getD-part s (bucketAt i) bucketSize 0 (omega arith), add-zero) at (c .at-most)
 
 pub value-at : (s : List ℕ) (at : ℕ) → nodeIn (part s at nodeSize) .value ≡ valueOf (readValue (part s (at + (keySize + 2)) valueSize))

@@ -4,8 +4,8 @@ ghost use mathlib.Core.Bool.{true};
 ghost use Prim.Native.Nat.{_+_, _≤_, _<_};
 ghost use lib.ListN.{length, getD};
 ghost use Rattle.model.specs.Bytes.{part};
-ghost use Rattle.model.specs.Filter.{counts, counted, ipFilterFails, tableLimit};
-ghost use Rattle.model.specs.Bucket.{maxNodes, nodes, lookup};
+ghost use Rattle.model.specs.Filter.{counts, counted, ipFilterFails, maxNodesPerSubnetTable};
+ghost use Rattle.model.specs.Bucket.{maxNodesPerBucket, nodes, get};
 ghost use Rattle.model.specs.Table.{numBuckets, heldNodes, isDuplicate, failsTableFilter};
 ghost use Rattle.model.specs.Sizes.{nodeSize, bucketSize, storageSize};
 ghost use Rattle.model.specs.Layout.{nodeIn, bucketIn, tableOf};
@@ -28,8 +28,8 @@ fn counts_at(s: &[u8], at: usize, value: Value) -> bool
 
 // How many of the places below count of the bucket at `at` count against the value.
 fn counted_below(s: &[u8], at: usize, count: usize, value: Value) -> usize
-    requires { ⌜ (at + bucketSize ≤ length (now s)) × (count ≤ maxNodes) ⌝ }
-    ensures { λ r. ⌜ (r ≡ countedBelow (valueOf value) (part (now (s .entry)) at bucketSize) count) × (r ≤ maxNodes) ⌝ }
+    requires { ⌜ (at + bucketSize ≤ length (now s)) × (count ≤ maxNodesPerBucket) ⌝ }
+    ensures { λ r. ⌜ (r ≡ countedBelow (valueOf value) (part (now (s .entry)) at bucketSize) count) × (r ≤ maxNodesPerBucket) ⌝ }
 {
     let mut n: usize = 0;
     let mut j: usize = 0;
@@ -42,8 +42,8 @@ fn counted_below(s: &[u8], at: usize, count: usize, value: Value) -> usize
 
 // How many of the held nodes of the bucket at `at` count against the value. The pending is not among them.
 fn counted(s: &[u8], at: usize, value: Value) -> usize
-    requires { ⌜ (at + bucketSize ≤ length (now s)) × (getD (now s) at 0 ≤ maxNodes) ⌝ }
-    ensures { λ r. ⌜ (r ≡ length (counted (valueOf value) (nodes (bucketIn (part (now (s .entry)) at bucketSize))))) × (r ≤ maxNodes) ⌝ }
+    requires { ⌜ (at + bucketSize ≤ length (now s)) × (getD (now s) at 0 ≤ maxNodesPerBucket) ⌝ }
+    ensures { λ r. ⌜ (r ≡ length (counted (valueOf value) (nodes (bucketIn (part (now (s .entry)) at bucketSize))))) × (r ≤ maxNodesPerBucket) ⌝ }
 {
     counted_below(s, at, s[at] as usize, value)
 }
@@ -51,7 +51,7 @@ fn counted(s: &[u8], at: usize, value: Value) -> usize
 // Internal: the value fails the IP filter of the table. The scan ends at the limit.
 pub fn fails_table_filter(s: &[u8], value: Value) -> bool
     requires { ⌜ (length (now s) ≡ storageSize) × (formed (now s) ≡ true) ⌝ }
-    ensures { λ r. ⌜ r ≡ ipFilterFails tableLimit (valueOf value) (heldNodes numBuckets (tableOf (now (s .entry)) .buckets)) ⌝ }
+    ensures { λ r. ⌜ r ≡ ipFilterFails maxNodesPerSubnetTable (valueOf value) (heldNodes numBuckets (tableOf (now (s .entry)) .buckets)) ⌝ }
 {
     if value.flag != 1 {
         return false;
@@ -70,8 +70,8 @@ pub fn fails_table_filter(s: &[u8], value: Value) -> bool
 
 // The bucket at `at` holds the key with an equal value.
 fn holds_value(s: &[u8], at: usize, key: Key, value: Value) -> bool
-    requires { ⌜ (at + bucketSize ≤ length (now s)) × (getD (now s) at 0 ≤ maxNodes) ⌝ }
-    ensures { λ r. ⌜ r ≡ isDuplicate (valueOf value) (lookup (num key) (bucketIn (part (now (s .entry)) at bucketSize))) ⌝ }
+    requires { ⌜ (at + bucketSize ≤ length (now s)) × (getD (now s) at 0 ≤ maxNodesPerBucket) ⌝ }
+    ensures { λ r. ⌜ r ≡ isDuplicate (valueOf value) (get (num key) (bucketIn (part (now (s .entry)) at bucketSize))) ⌝ }
 {
     let count = s[at] as usize;
     let mut j: usize = 0;
@@ -90,7 +90,7 @@ fn holds_value(s: &[u8], at: usize, key: Key, value: Value) -> bool
 // Internal: bucket i holds the key with an equal value.
 pub fn is_duplicate(s: &[u8], i: usize, key: Key, value: Value) -> bool
     requires { ⌜ (length (now s) ≡ storageSize) × (formed (now s) ≡ true) × (i < numBuckets) ⌝ }
-    ensures { λ r. ⌜ r ≡ isDuplicate (valueOf value) (lookup (num key) (tableOf (now (s .entry)) .buckets i)) ⌝ }
+    ensures { λ r. ⌜ r ≡ isDuplicate (valueOf value) (get (num key) (tableOf (now (s .entry)) .buckets i)) ⌝ }
 {
     holds_value(s, Layout::HEADER + i * Layout::BUCKET, key, value)
 }

@@ -7,12 +7,11 @@ use mathlib.Core.Option.{Option, none, some}
 use native.Mathlib.Omega.{arith}
 use Rattle.model.specs.Base.{same}
 use Rattle.model.specs.Node.{Node, PendingNode}
-use Rattle.model.specs.Bucket.{Bucket, maxNodes, find, orElse, lookup, omit, takeOut, put, withPending, cleared, count}
+use Rattle.model.specs.Bucket.{Bucket, maxNodesPerBucket, find, orElse, get, omit, takeOut, put, withPending, cleared, numEntries}
 use Rattle.model.specs.Formed.{isAt}
 use Rattle.laws.proofs.Tests.{same-self, same-true, same-sym, clash, cases, split}
-use Rattle.log.specs.Keys.{mem, without}
-use Rattle.log.specs.Log.{Log, nodeOf, collect, group}
-use Rattle.log.specs.Fold.{depart, place}
+use Rattle.log.specs.Log.{Log, nodeOf, collect, group, without}
+use Rattle.theorem.proofs.Fold.{mem, depart, place}
 use Rattle.theorem.proofs.Keys.{mem-append, mem-without-other, without-absent}
 use Rattle.theorem.proofs.Groups.{collect-append, collect-other, collect-without, find-collect}
 use Rattle.laws.proofs.KeepLists.{length-omit}
@@ -37,7 +36,7 @@ pub record Agree (ix : ℕ → Option ℕ) (l : Log) (i : ℕ) (b : Bucket) : Ty
   pub disc : b .disconnected ≡ group ix l i false
   pub conn : b .connected ≡ group ix l i true
   pub pend : PendingAgrees ix l i (b .pending)
-  pub room : count b ≤ maxNodes
+  pub room : numEntries b ≤ maxNodesPerBucket
 
 -- two logs that differ at one key only
 pub record Only (k : ℕ) (l l′ : Log) : Type 0 where
@@ -66,14 +65,14 @@ pending-other ix i k l l′ l″ o hs hn (some p) w nw = (
   w .2 ∙ sym (o .same-nodes (p .node .key) nw) ∙ sym (hn (p .node .key)),
 )
 
-pub count-takeOut : (k : ℕ) (b : Bucket) → count (takeOut k b) ≤ count b
+pub count-takeOut : (k : ℕ) (b : Bucket) → numEntries (takeOut k b) ≤ numEntries b
 count-takeOut k b = let g = length-omit k (b .disconnected) in let h = length-omit k (b .connected) in omega arith
 
 -- what the bucket holds of a key of its index, the log says
-pub lookup-agree : (ix : ℕ → Option ℕ) (l : Log) (i k : ℕ) (b : Bucket) → Agree ix l i b → ix k ≡ some i
-    → lookup k b ≡ cond (mem k (l .held)) (some (nodeOf l k)) none
+pub get-agree : (ix : ℕ → Option ℕ) (l : Log) (i k : ℕ) (b : Bucket) → Agree ix l i b → ix k ≡ some i
+    → get k b ≡ cond (mem k (l .held)) (some (nodeOf l k)) none
 unfolding group
-lookup-agree ix l i k b a h =
+get-agree ix l i k b a h =
     ap₂ (λ (s t : List Node). orElse (find k s) (find k t)) (a .disc) (a .conn)
     ∙ rw (find-collect (chosen ix i false (nodeOf l)) (nodeOf l) (λ x. refl) k (l .held), find-collect (chosen ix i true (nodeOf l)) (nodeOf l) (λ x. refl) k (l .held), h, same-self i)
     (split (mem k (l .held)) (λ m. rw m (split (l .connected k) (λ u. rw u) (λ u. rw u))) (λ m. rw m))
@@ -97,7 +96,7 @@ agree-takeOut ix l l′ i k b a o nw = record {
 
 -- a placement
 pub agree-put : (ix : ℕ → Option ℕ) (l l′ : Log) (i k : ℕ) (b : Bucket) → Agree ix l i b → Only k l l′ → NotPending k (b .pending) → ix k ≡ some i
-    → count (takeOut k b) < maxNodes → Agree ix (place k l′) i (put (nodeOf l′ k) (takeOut k b))
+    → numEntries (takeOut k b) < maxNodesPerBucket → Agree ix (place k l′) i (put (nodeOf l′ k) (takeOut k b))
 unfolding group
 agree-put ix l l′ i k b a o nw h r = record {
   disc = ap₂ (λ (s t : List Node). s ++ t) (ap (omit k) (a .disc) ∙ sym (group-only ix i false k l l′ o)) (rw (h, same-self i) (split (l′ .connected k) (λ u. rw u) (λ u. rw u)))
@@ -112,10 +111,10 @@ agree-put ix l l′ i k b a o nw h r = record {
 
 -- a placement of a key that is not held
 pub agree-add : (ix : ℕ → Option ℕ) (l l′ : Log) (i k : ℕ) (n : Node) (b : Bucket) → Agree ix l i b → Only k l l′ → NotPending k (b .pending) → ix k ≡ some i
-    → mem k (l .held) ≡ false → nodeOf l′ k ≡ n → count b < maxNodes → Agree ix (place k l′) i (put n b)
+    → mem k (l .held) ≡ false → nodeOf l′ k ≡ n → numEntries b < maxNodesPerBucket → Agree ix (place k l′) i (put n b)
 agree-add ix l l′ i k n b a o nw h m e r =
     let q : takeOut k b ≡ b = takeOut-absent ix l i k b a m in
-    let r′ : count (takeOut k b) < maxNodes = subst⁻¹ (λ (c : Bucket). count c < maxNodes) q r in
+    let r′ : numEntries (takeOut k b) < maxNodesPerBucket = subst⁻¹ (λ (c : Bucket). numEntries c < maxNodesPerBucket) q r in
     subst₂ (λ (x : Node) (c : Bucket). Agree ix (place k l′) i (put x c)) e q (agree-put ix l l′ i k b a o nw h r′)
 
 -- another pending

@@ -19,7 +19,7 @@ use Rattle.model.specs.Step
 use Rattle.model.specs.Step.{Outcome, onKey, takeOldest, act, questions, unlessRefused, step}
 use Rattle.laws.proofs.Tests.{same-true, clash, cases, split}
 use Rattle.log.specs.Log.{Log, nodeOf, group, isRefused, role}
-use Rattle.log.specs.Fold.{fresh, place, evict, enterRecords, give, enterRole, enter}
+use Rattle.theorem.proofs.Fold.{fresh, place, evict, enterRecords, give, enterRole, enter}
 use Rattle.theorem.proofs.Keys.{Distinct, distinct-without, distinct-placed}
 use Rattle.theorem.proofs.Agree.{Agree}
 use Rattle.theorem.proofs.Frame.{Frame-trans, agree-frame, agree-skip}

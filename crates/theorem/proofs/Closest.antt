@@ -25,15 +25,16 @@ use Rattle.model.specs.Step.{act, questions}
 use Rattle.model.specs.Layout.{tableOf}
 use Rattle.model.specs.Formed.{formed}
 use Rattle.model.specs.StepBytes.{allQuestions, unlessRefused, written, stepBytes}
-use Rattle.model.specs.Fits.{WellFormed, FitsNode, FitsBucket, Fits}
+use Rattle.model.specs.Fits.{WellFormed, FitsNode, FitsDeadline, FitsBucket, Fits}
 use Rattle.laws.proofs.KeepStep.{passed}
-use Rattle.laws.proofs.Keep.{applyPending-well-formed, applyPending-fits}
+use Rattle.laws.proofs.KeepEach.{applyPending-each}
+use Rattle.laws.proofs.Keep.{applyPending-well-formed}
 use Rattle.laws.proofs.TableBytes.{fits-back}
 use Rattle.laws.proofs.Tests.{clash}
 use Rattle.laws.proofs.Sort
 use Rattle.laws.proofs.Sort.{sort-ascending, sort-tally}
 use Rattle.log.specs.Log.{isRefused}
-use Rattle.log.specs.Closest.{allHeld, far, nearest, target, Ascending, ClosestClaim}
+use Rattle.log.specs.Closest.{allHeld, far, closestNodes, target, Ascending, ClosestClaim}
 use Rattle.theorem.proofs.Nearest.{visits-nearest}
 use Rattle.laws.proofs.All.{all-map}
 
@@ -42,12 +43,12 @@ use Rattle.laws.proofs.All.{all-map}
 pub closest-list : (t : Table) (x : List ℕ) (now : ℕ) → t .settings .localKey < 256 ^ keySize
     → ((i : ℕ) → WellFormed (t .settings) i (applied now t i)) → ((i : ℕ) → FitsBucket (applied now t i))
     → (n : ℕ) → take n (joined (λ i. byDistance x (applied now t i)) (visits (distance (t .settings .localKey) (number x))))
-    ≡ take n (nearest (t .settings .localKey) (number x) (allHeld now t))
+    ≡ closestNodes x n now t
 closest-list t x now l w f n =
     ap (take n)
     (visits-nearest (t .settings .localKey) (number x) (applied now t) l
     (λ i. all-map FitsNode (λ (m : Node). m .key < 2 ^ 256) (λ m h. h .key) (nodes (applied now t i)) (f i .held))
-    (λ i. w i .of-index) (w 0 .different))
+    (λ i. w i .of-index .held) (w 0 .formed .different))
 
 -- the three closest calls list alike
 pub found-closest : (l : Listing) (x : List ℕ) → target l ≡ some x → (n now : ℕ) (t : Table)
@@ -108,9 +109,9 @@ closest l x n now out s e b h =
     let t : Table = tableOf s in
     let q = accepted-storage l n now out s h in
     let f : Fits t = fits-back s b (q .0) (q .1) in
-    let list : found l n now t ≡ take n (nearest (t .settings .localKey) (number x) (allHeld now t)) =
+    let list : found l n now t ≡ closestNodes x n now t =
     found-closest l x e n now t ∙ closest-list t x now (f .settings .localKey) (λ i. applyPending-well-formed (t .settings) i now (t .buckets i) (f .well-formed i))
-    (λ i. applyPending-fits (t .settings .bucket) now (t .buckets i) (f .buckets i)) n
+    (λ i. applyPending-each FitsNode FitsDeadline (t .settings .bucket) now (t .buckets i) (f .buckets i)) n
     in
     record {
       answer = accepted-answer l n now out s h ∙ ap (λ (ns : List Node). Answer.Found (length ns)) list;

@@ -9,9 +9,8 @@ use Rattle.model.specs.Node.{Node, PendingNode}
 use Rattle.model.specs.Bucket.{Bucket}
 use Rattle.model.specs.Formed.{isAt}
 use Rattle.laws.proofs.Tests.{same-self, same-true, same-false, same-not, clash, cases, split}
-use Rattle.log.specs.Keys.{mem, without}
-use Rattle.log.specs.Log.{Log, nodeOf, collect, group}
-use Rattle.log.specs.Fold.{depart, place}
+use Rattle.log.specs.Log.{Log, nodeOf, collect, group, without}
+use Rattle.theorem.proofs.Fold.{mem, depart, place}
 use Rattle.theorem.proofs.Keys.{mem-without-other}
 use Rattle.theorem.proofs.Groups.{collect-other, collect-skip}
 use Rattle.theorem.proofs.Agree.{chosen, PendingAgrees, Agree, Only}

@@ -10,8 +10,8 @@ use Rattle.model.specs.Value.{Value}
 use Rattle.model.specs.Node.{Node, withValue}
 use Rattle.model.specs.Bucket.{find, omit, revalue}
 use Rattle.laws.proofs.Tests.{same-true, same-of, cases, split}
-use Rattle.log.specs.Keys.{mem, without}
-use Rattle.log.specs.Log.{collect}
+use Rattle.log.specs.Log.{collect, without}
+use Rattle.theorem.proofs.Fold.{mem}
 use Rattle.theorem.proofs.Keys.{Distinct, without-absent}
 
 -- f k is a node of key k

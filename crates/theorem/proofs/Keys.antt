@@ -5,7 +5,8 @@ use mathlib.Core.Bool.{Bool, false, _||_}
 use mathlib.Core.List.{List, [], _∷_, _++_, append-nil}
 use Rattle.model.specs.Base.{same}
 use Rattle.laws.proofs.Tests.{same-self, same-true, same-false, same-not, same-sym, cases, split, or-left, or-right}
-use Rattle.log.specs.Keys.{mem, without}
+use Rattle.log.specs.Log.{without}
+use Rattle.theorem.proofs.Fold.{mem}
 
 -- no key stands twice
 abbrev pub Distinct : List ℕ → Type 0

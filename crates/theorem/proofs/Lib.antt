@@ -1,4 +1,5 @@
 -- The proof that every bucket is what the log says, and of the closest list. Theorem has the statements.
+pub mod Fold
 pub mod Keys
 pub mod Groups
 pub mod Agree
@@ -12,7 +13,6 @@ pub mod Run
 pub mod Kept
 pub mod Net
 pub mod Limits
-pub mod Storage
 pub mod Nearest
 pub mod Closest
 pub mod Theorem

@@ -6,12 +6,13 @@ use mathlib.Core.List.{List, [], _∷_, reverse}
 use mathlib.Core.Option.{Option, none, some}
 use lib.ListN.{length}
 use borrow.Author.Tests.{leb-true}
-use Rattle.model.specs.Bucket.{Bucket, BucketSettings, nodes, count, incomingNodes}
+use Rattle.model.specs.Bucket.{Bucket, BucketSettings, nodes, numEntries, incomingNodes}
 use Rattle.model.specs.Table.{Settings, Table, Answer, maxRecords}
 use Rattle.model.specs.Call.{Call}
 use Rattle.model.specs.Question.{firstFailed}
 use Rattle.model.specs.Step.{act, queueFits, questions, unlessRefused, step}
-use Rattle.laws.proofs.KeepFormed.{Formed, empty-formed, insert-formed, applyPending-formed, updateStatus-formed, updateValue-formed, updatePending-formed, remove-formed}
+use Rattle.model.specs.Fits.{Formed}
+use Rattle.laws.proofs.KeepFormed.{empty-formed, insert-formed, applyPending-formed, updateStatus-formed, updateValue-formed, updatePending-formed, remove-formed}
 use Rattle.laws.proofs.KeepStep.{accepted}
 use Rattle.log.specs.Log.{logOf}
 use Rattle.log.specs.Claim.{tableAfter, entries}
@@ -46,7 +47,7 @@ queue-run [] t h = h
 queue-run (c ∷ cs) t h = queue-run cs (step c t .table) (queue-kept c t h)
 
 module _ (k : List ℕ) (timeout m tf bf : ℕ) (t : Table) (cs : List Call) (e : step (Call.new k timeout m tf bf) t .answer ≡ Answer.New) where
-  pub at-most-16 : (i : ℕ) → count (tableAfter (Call.new k timeout m tf bf ∷ cs) t .buckets i) ≤ 16
+  pub at-most-16 : (i : ℕ) → numEntries (tableAfter (Call.new k timeout m tf bf ∷ cs) t .buckets i) ≤ 16
   at-most-16 i = reached-keeps Within within-kept k timeout m tf bf t cs e i .at-most
 
   pub incoming-within : (i : ℕ) → length (incomingNodes (nodes (tableAfter (Call.new k timeout m tf bf ∷ cs) t .buckets i)))

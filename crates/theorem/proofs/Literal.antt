@@ -11,9 +11,8 @@ use Rattle.model.specs.Value.{Value}
 use Rattle.model.specs.Node.{Node, AppliedPending}
 use Rattle.model.specs.Table.{Settings, Answer}
 use Rattle.laws.proofs.Tests.{same-self, same-true, same-sym, clash, cases, split, or-first, or-second, or-rest}
-use Rattle.log.specs.Keys.{mem, without}
-use Rattle.log.specs.Log.{Entry, Log, Role, role, isRefused, answersFailed, answersRemoved, answersInserted, Event, heldNow, evictionEvents, recordEvents, ownEvents, events, nowGiven, nowSettings, order, lastPlacement, noValue, logOf}
-use Rattle.log.specs.Fold.{withHeld, depart, place, evict, enterRecords, atGiven, give, enterRole, enter, readFrom, foldOf}
+use Rattle.log.specs.Log.{Entry, Log, Role, role, isRefused, answersFailed, answersRemoved, answersInserted, Event, heldNow, evictionEvents, recordEvents, ownEvents, events, nowGiven, nowSettings, order, lastPlacement, noValue, logOf, without}
+use Rattle.theorem.proofs.Fold.{mem, withHeld, depart, place, evict, enterRecords, atGiven, give, enterRole, enter, readFrom, foldOf}
 use Rattle.theorem.proofs.Keys.{Distinct, mem-append, mem-without, mem-without-other, distinct-without, distinct-placed}
 use Rattle.theorem.proofs.Steps.{own-settings}
 

@@ -12,9 +12,9 @@ use borrow.Author.Tests.{leb-false}
 use Rattle.model.specs.Base.{same, isSome}
 use Rattle.model.specs.Value.{Address, Value, sameValue, sharesNet, hasAddress}
 use Rattle.model.specs.Node.{Node, PendingNode, AppliedPending, withStatus, withValue}
-use Rattle.model.specs.Filter.{counts, counted, ipFilterFails, bucketLimit}
+use Rattle.model.specs.Filter.{counts, counted, ipFilterFails, maxNodesPerSubnetBucket}
 use Rattle.model.specs.Result.{FailureReason, BucketInsertResult, UpdateResult, isInserted}
-use Rattle.model.specs.Bucket.{Bucket, BucketSettings, nodes, isFull, lookup, holds, failsBucketFilter, isMaxIncoming, withPending, only, put, omit, takeOut, insertFull, insert, applyFull, applyDue, applyIfDue, applyPending, reinsert, isFirst, updateIfPending, updateStatusOf, updateStatus, revalue, updateValueOf, updateValue, updatePending, remove}
+use Rattle.model.specs.Bucket.{Bucket, BucketSettings, nodes, isFull, get, holds, failsBucketFilter, isMaxIncoming, withPending, only, put, omit, takeOut, insertFull, insert, applyFull, applyDue, applyIfDue, applyPending, reinsert, isFirst, updateIfPending, updateStatusOf, updateStatus, revalue, updateValueOf, updateValue, updatePending, remove}
 use Rattle.laws.proofs.Tests.{clash, cases, split, or-left}
 use Rattle.laws.proofs.Values.{sameValue-true, sameValue-self, sharesNet-sym, sharesNet-trans}
 use Rattle.model.specs.Table.{Settings, Table, Answer}
@@ -49,12 +49,12 @@ shares-some : (x y : Option Address) → sharesNet x y ≡ true → isSome x ≡
 shares-some none y e = clash e refl
 shares-some (some x) y e = refl
 
-few : (v : Value) (ns : List Node) → ipFilterFails bucketLimit v ns ≡ false → hasAddress v ≡ true → length (counted v ns) < 2
+few : (v : Value) (ns : List Node) → ipFilterFails maxNodesPerSubnetBucket v ns ≡ false → hasAddress v ≡ true → length (counted v ns) < 2
 unfolding ipFilterFails
 few v ns e h = leb-false 2 (length (counted v ns)) (rw h at e)
 
 -- where v passes the filter, of v and two values of its /24 two are equal
-passed-two : (v w x : Value) (ns : List Node) → ipFilterFails bucketLimit v ns ≡ false → sharesNet (v .address) (w .address) ≡ true → sharesNet (v .address) (x .address) ≡ true
+passed-two : (v w x : Value) (ns : List Node) → ipFilterFails maxNodesPerSubnetBucket v ns ≡ false → sharesNet (v .address) (w .address) ≡ true → sharesNet (v .address) (x .address) ≡ true
     → HasValue w ns → HasValue x ns → (v ≡ w) ⊎ ((v ≡ x) ⊎ (w ≡ x))
 passed-two v w x ns f nw nx hw hx =
     split (sameValue w v) (λ e. inl (sym (sameValue-true w v e)))
@@ -65,7 +65,7 @@ passed-two v w x ns f nw nx hw hx =
     let y = few v ns f (shares-some (v .address) (w .address) nw) in omega arith))))
 
 -- a list whose values are v, which passes the filter, and those of a list with two of a /24
-two-more : (v : Value) (ns ns′ : List Node) → TwoOfANet ns → ipFilterFails bucketLimit v ns ≡ false → ((w : Value) → HasValue w ns′ → (v ≡ w) ⊎ HasValue w ns) → TwoOfANet ns′
+two-more : (v : Value) (ns ns′ : List Node) → TwoOfANet ns → ipFilterFails maxNodesPerSubnetBucket v ns ≡ false → ((w : Value) → HasValue w ns′ → (v ≡ w) ⊎ HasValue w ns) → TwoOfANet ns′
 two-more v ns ns′ s f c a b d ha hb hd nab nbd = go (c a ha) (c b hb) (c d hd)
   where
     shares : (w : Value) → v ≡ w → (x : Value) → sharesNet (w .address) (x .address) ≡ true → sharesNet (v .address) (x .address) ≡ true
@@ -156,7 +156,7 @@ abbrev pub Spread : BucketSettings → Bucket → Type 0
 Spread s b = s .filter ≡ true → TwoOfANet (nodes b)
 
 module _ (s : BucketSettings) where
-  passes : (v : Value) (b : Bucket) → failsBucketFilter s v b ≡ false → s .filter ≡ true → ipFilterFails bucketLimit v (nodes b) ≡ false
+  passes : (v : Value) (b : Bucket) → failsBucketFilter s v b ≡ false → s .filter ≡ true → ipFilterFails maxNodesPerSubnetBucket v (nodes b) ≡ false
   unfolding failsBucketFilter
   passes v b e on = rw on at e
 
@@ -183,7 +183,7 @@ module _ (s : BucketSettings) where
 
   pub status-spread : (k : ℕ) (u : Bool) (d : Option Bool) (b : Bucket) → Spread s b → Spread s (updateStatus s k u d b .1)
   unfolding updateStatus
-  status-spread k u d b f = updateStatusOf-spread k u d b f (lookup k b)
+  status-spread k u d b f = updateStatusOf-spread k u d b f (get k b)
 
   updateValueOf-spread : (k : ℕ) (v : Value) (b : Bucket) → Spread s b → (o : Option Node) → Spread s (updateValueOf s k v b o .1)
   updateValueOf-spread k v b f none = updateIfPending-spread k (withValue v) b f (b .pending)
@@ -197,7 +197,7 @@ module _ (s : BucketSettings) where
 
   pub value-spread : (k : ℕ) (v : Value) (b : Bucket) → Spread s b → Spread s (updateValue s k v b .1)
   unfolding updateValue
-  value-spread k v b f = updateValueOf-spread k v b f (lookup k b)
+  value-spread k v b f = updateValueOf-spread k v b f (get k b)
 
   pub updatePending-spread : (u d : Bool) (b : Bucket) → Spread s b → Spread s (updatePending u d b)
   unfolding updatePending

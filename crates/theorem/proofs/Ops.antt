@@ -11,15 +11,14 @@ use Rattle.model.specs.Base.{same, given, isSome}
 use Rattle.model.specs.Value.{Value}
 use Rattle.model.specs.Node.{Node, PendingNode, AppliedPending}
 use Rattle.model.specs.Result.{BucketInsertResult, isInserted}
-use Rattle.model.specs.Bucket.{Bucket, BucketSettings, maxNodes, count, isFull, holds, failsBucketFilter, isMaxIncoming, withPending, cleared, placed, takeOut, insertFull, insert, applyFull, applyDue, applyIfDue, applyPending, remove}
+use Rattle.model.specs.Bucket.{Bucket, BucketSettings, maxNodesPerBucket, numEntries, isFull, holds, failsBucketFilter, isMaxIncoming, withPending, cleared, placed, takeOut, insertFull, insert, applyFull, applyDue, applyIfDue, applyPending, remove}
 use Rattle.model.specs.Formed.{isAt}
 use Rattle.laws.proofs.Tests.{same-self, clash, cases, and-left, and-right}
-use Rattle.log.specs.Keys.{mem}
 use Rattle.log.specs.Log.{Log, nodeOf, group}
-use Rattle.log.specs.Fold.{depart, place, enterRecords, atGiven, give}
+use Rattle.theorem.proofs.Fold.{mem, depart, place, enterRecords, atGiven, give}
 use Rattle.theorem.proofs.Keys.{Distinct, mem-false-without}
 use Rattle.theorem.proofs.Groups.{collect-head, collect-tail, collect-skip}
-use Rattle.theorem.proofs.Agree.{chosen, PendingAgrees, Agree, Only, Only-refl, lookup-agree, agree-add, agree-withPending, Gives, agree-given, pending-cleared, cleared-not-pending}
+use Rattle.theorem.proofs.Agree.{chosen, PendingAgrees, Agree, Only, Only-refl, get-agree, agree-add, agree-withPending, Gives, agree-given, pending-cleared, cleared-not-pending}
 use Rattle.theorem.proofs.Frame.{Frame, Frame-refl, Frame-trans, Frame-depart, Frame-place}
 use Rattle.laws.proofs.KeepFormed.{free-count}
 use Rattle.laws.proofs.TableBytes.{index-at}
@@ -45,7 +44,7 @@ gives k u d v l = record { other-nodes = λ x e. node-other k x u d v l e; all-h
 
 -- Inserted, of a key that is not held
 pub agree-placed : (ix : ℕ → Option ℕ) (l l′ : Log) (i : ℕ) (n : Node) (b : Bucket) → Agree ix l i b → ix (n .key) ≡ some i → mem (n .key) (l .held) ≡ false
-    → count b < maxNodes → Only (n .key) l l′ → nodeOf l′ (n .key) ≡ n → Agree ix (place (n .key) l′) i (placed n b)
+    → numEntries b < maxNodesPerBucket → Only (n .key) l l′ → nodeOf l′ (n .key) ≡ n → Agree ix (place (n .key) l′) i (placed n b)
 agree-placed ix l l′ i n b a h m c o e =
     agree-add ix l l′ i (n .key) n (withPending (cleared (n .key) (b .pending)) b)
     (agree-withPending ix l i b (cleared (n .key) (b .pending)) a (pending-cleared ix l i (n .key) (b .pending) (a .pend)))
@@ -83,7 +82,7 @@ module _ (ix : ℕ → Option ℕ) (s : BucketSettings) (now : ℕ) where
   unfolding insert
   insert-ok l i n b a h m =
       let P : BucketInsertResult × Bucket → Type 0 = λ (r : BucketInsertResult × Bucket). InsertOk ix l i n b (r .0) (r .1) in
-      cases P (holds (n .key) b) (λ e. clash e (ap isSome (lookup-agree ix l i (n .key) b a h) ∙ rw m))
+      cases P (holds (n .key) b) (λ e. clash e (ap isSome (get-agree ix l i (n .key) b a h) ∙ rw m))
       (λ _. cases P (failsBucketFilter s (n .value) b) (λ _. refl)
       (λ _. cases P (isMaxIncoming s n b) (λ _. refl)
       (λ _. cases P (isFull b) (λ _. insertFull-ok l i n b a h m (n .connected) (b .disconnected) (b .pending))
@@ -107,14 +106,14 @@ module _ (ix : ℕ → Option ℕ) (s : BucketSettings) (now : ℕ) where
   -- the bucket after an eviction
   evicted-ok : (l : Log) (i : ℕ) (b : Bucket) (d : Node) (ds : List Node) → Agree ix l i b → Distinct (l .held) → b .disconnected ≡ d ∷ ds
       → (ix (d .key) ≡ some i) × Agree ix (depart (d .key) l) i (record { disconnected = ds; connected = b .connected; pending = none })
-      × (length ds + length (b .connected) < maxNodes)
+      × (length ds + length (b .connected) < maxNodesPerBucket)
   unfolding group
   evicted-ok l i b d ds a u e =
       let g : group ix l i false ≡ d ∷ ds = sym (a .disc) ∙ e in
       let hd = collect-head (chosen ix i false (nodeOf l)) (nodeOf l) (λ x. refl) d ds (l .held) g in
       let here : isAt (ix (d .key)) i ≡ true = and-left (isAt (ix (d .key)) i) _ (hd .0) in
       let dn : Bool·beq (l .connected (d .key)) false ≡ true = and-right (isAt (ix (d .key)) i) _ (hd .0) in
-      let r : length ds + length (b .connected) < maxNodes = (let q : length (b .disconnected) ≡ suc (length ds) = ap length e in let r0 = a .room in omega arith) in (
+      let r : length ds + length (b .connected) < maxNodesPerBucket = (let q : length (b .disconnected) ≡ suc (length ds) = ap length e in let r0 = a .room in omega arith) in (
         index-at (ix (d .key)) i here,
         record {
           disc = sym (collect-tail (chosen ix i false (nodeOf l)) (nodeOf l) (λ x. refl) d ds (l .held) u g);

@@ -10,8 +10,8 @@ use Rattle.model.specs.Table.{Settings, Table, Answer}
 use Rattle.model.specs.Call.{Call}
 use Rattle.model.specs.Step.{step}
 use Rattle.log.specs.Log.{Log, logOf, group, logBucket}
-use Rattle.log.specs.Fold.{enter, readFrom}
 use Rattle.log.specs.Claim.{tableAfter, entries}
+use Rattle.theorem.proofs.Fold.{enter, readFrom}
 use Rattle.theorem.proofs.Call.{AllAgree, step-ok, new-ok}
 use Rattle.theorem.proofs.Literal.{fold-literal}
 

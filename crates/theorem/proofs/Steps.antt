@@ -12,14 +12,13 @@ use Rattle.model.specs.Bucket.{Bucket, BucketSettings, holds, withPending, inse
 use Rattle.model.specs.Table.{EntryKind, Answer, bothUpdates, thenStatus, updateNodeIn, insertUpdates, inserts, thenValue, insertOrUpdateIn, kindIfPending, kindOfNode, kindOf}
 use Rattle.model.specs.Question.{isPresent, isPending, isAbsent}
 use Rattle.laws.proofs.Tests.{same-self, clash, cases, split}
-use Rattle.log.specs.Keys.{mem, without}
-use Rattle.log.specs.Log.{Log, failedInsert, insertedNow, answersFailed, answersRemoved, answersInserted}
-use Rattle.log.specs.Fold.{depart, place, give}
+use Rattle.log.specs.Log.{Log, failedInsert, insertedNow, answersFailed, answersRemoved, answersInserted, without}
+use Rattle.theorem.proofs.Fold.{mem, depart, place, give}
 use Rattle.theorem.proofs.Keys.{Distinct, mem-append, mem-without, without-twice, without-placed, distinct-without, distinct-placed}
-use Rattle.theorem.proofs.Agree.{PendingAgrees, NotPending, Agree, Only, Only-refl, lookup-agree, agree-takeOut, agree-given, Gives, Gives-only, Gives-back, pending-gives, held-not-pending, depart-absent}
+use Rattle.theorem.proofs.Agree.{PendingAgrees, NotPending, Agree, Only, Only-refl, get-agree, agree-takeOut, agree-given, Gives, Gives-only, Gives-back, pending-gives, held-not-pending, depart-absent}
 use Rattle.theorem.proofs.Frame.{Frame, Frame-trans, Frame-only, Frame-depart, Frame-place}
 use Rattle.theorem.proofs.Ops.{node-give, node-other, gives, InsertOk, insert-ok, Settled, remove-settled}
-use Rattle.theorem.proofs.Updates.{IsPending, StepOk, FreeOk, held-lookup, free-lookup, pending-changed, status-held, status-free, status-pending, value-held, value-free}
+use Rattle.theorem.proofs.Updates.{IsPending, StepOk, FreeOk, held-get, free-get, pending-changed, status-held, status-free, status-pending, value-held, value-free}
 
 -- What `enterRole` makes of a call that names k. g: the log with what the call gives.
 abbrev pub own : ℕ → Bool → Answer → Log → Log → Log
@@ -142,7 +141,7 @@ module _ (ix : ℕ → Option ℕ) where
   leave-absent l i k b a m = subst⁻¹ (λ (x : Log). Agree ix x i b) (depart-absent k l m) a
 
   holds-agree : (l : Log) (i k : ℕ) (b : Bucket) → Agree ix l i b → ix k ≡ some i → holds k b ≡ mem k (l .held)
-  holds-agree l i k b a h = ap isSome (lookup-agree ix l i k b a h) ∙ split (mem k (l .held)) (λ m. rw m) (λ m. rw m)
+  holds-agree l i k b a h = ap isSome (get-agree ix l i k b a h) ∙ split (mem k (l .held)) (λ m. rw m) (λ m. rw m)
 
   module _ (s : BucketSettings) where
     -- update_node_status, and a Present update
@@ -222,16 +221,16 @@ module _ (ix : ℕ → Option ℕ) where
       remove-call l i k b a h q =
           subst⁻¹ (λ (r : Bool × Bucket). Agree ix (own k false (Answer.Remove (r .0)) l l) i (r .1)) (remove-settled s now k b q)
           (split (mem k (l .held))
-          (λ m. rw (held-lookup ix l i k b a h m) (agree-takeOut ix l l i k b a (Only-refl k l) (held-not-pending ix l i k (b .pending) (a .pend) m)))
-          (λ m. rw (free-lookup ix l i k b a h m) a))
+          (λ m. rw (held-get ix l i k b a h m) (agree-takeOut ix l l i k b a (Only-refl k l) (held-not-pending ix l i k (b .pending) (a .pend) m)))
+          (λ m. rw (free-get ix l i k b a h m) a))
 
       -- the key taken out where the table filter fails
       remove-gone : (l : Log) (i k : ℕ) (b : Bucket) → Agree ix l i b → ix k ≡ some i → Settled now (b .pending) → Agree ix (depart k l) i (remove s now k b .1)
       remove-gone l i k b a h q =
           subst⁻¹ (λ (r : Bool × Bucket). Agree ix (depart k l) i (r .1)) (remove-settled s now k b q)
           (split (mem k (l .held))
-          (λ m. rw (held-lookup ix l i k b a h m) (agree-takeOut ix l l i k b a (Only-refl k l) (held-not-pending ix l i k (b .pending) (a .pend) m)))
-          (λ m. rw (free-lookup ix l i k b a h m) (leave-absent l i k b a m)))
+          (λ m. rw (held-get ix l i k b a h m) (agree-takeOut ix l l i k b a (Only-refl k l) (held-not-pending ix l i k (b .pending) (a .pend) m)))
+          (λ m. rw (free-get ix l i k b a h m) (leave-absent l i k b a m)))
 
       -- update_node
       pub updateNode-call : (l : Log) (i k : ℕ) (v : Value) (u : Option Bool) (b : Bucket) (fails : Bool) → Agree ix l i b → ix k ≡ some i → Settled now (b .pending)
@@ -275,7 +274,7 @@ module _ (ix : ℕ → Option ℕ) where
   absent-kind k (some p) e = split (same (p .node .key) k) (λ f. clash e (rw f)) (λ f. f)
 
   kind-free : (l : Log) (i k : ℕ) (b : Bucket) → Agree ix l i b → ix k ≡ some i → isPresent (kindOf k b) ≡ false → mem k (l .held) ≡ false
-  kind-free l i k b a h e = split (mem k (l .held)) (λ m. clash (ap (λ (o : Option Node). isPresent (kindOfNode k b o)) (held-lookup ix l i k b a h m)) e) (λ m. m)
+  kind-free l i k b a h e = split (mem k (l .held)) (λ m. clash (ap (λ (o : Option Node). isPresent (kindOfNode k b o)) (held-get ix l i k b a h m)) e) (λ m. m)
 
   pending-not-present : (x : EntryKind) → isPending x ≡ true → isPresent x ≡ false
   pending-not-present (EntryKind.Present u d) e = clash e refl
@@ -300,7 +299,7 @@ module _ (ix : ℕ → Option ℕ) where
   unfolding updatePending
   pending-call l i k u d b a h e =
       let m = kind-free l i k b a h (pending-not-present (kindOf k b) e) in
-      let w = pending-kind k (b .pending) (ap (λ (o : Option Node). isPending (kindOfNode k b o)) (sym (free-lookup ix l i k b a h m)) ∙ e) in
+      let w = pending-kind k (b .pending) (ap (λ (o : Option Node). isPending (kindOfNode k b o)) (sym (free-get ix l i k b a h m)) ∙ e) in
       updatePending-ok l i k u d b a h m (b .pending) w (a .pend)
 
   abbrev AbsentOk : Log → ℕ → Node → BucketInsertResult → Bucket → Type 0
@@ -323,6 +322,6 @@ module _ (ix : ℕ → Option ℕ) where
       let k : ℕ = n .key in
       let g = gives k (some (n .connected)) (some (n .incoming)) (some (n .value)) l in
       let m = kind-free l i k b a h (absent-not-present (kindOf k b) e) in
-      let w = absent-kind k (b .pending) (ap (λ (o : Option Node). isAbsent (kindOfNode k b o)) (sym (free-lookup ix l i k b a h m)) ∙ e) in
+      let w = absent-kind k (b .pending) (ap (λ (o : Option Node). isAbsent (kindOfNode k b o)) (sym (free-get ix l i k b a h m)) ∙ e) in
       absent-ok l i n b (agree-given ix l (giveNode n l) i k b a g m (b .pending) (pending-gives ix l (giveNode n l) i k (b .pending) g w (a .pend)))
       (insert s now n b .0) (insert s now n b .1) (insert-ok ix s now l i n b a h m)

@@ -8,15 +8,14 @@ use Rattle.model.specs.Base.{same, at, isSome}
 use Rattle.model.specs.Value.{Value, sameValue}
 use Rattle.model.specs.Node.{Node, PendingNode, withStatus, withValue, sameStatus, promotes}
 use Rattle.model.specs.Result.{FailureReason, UpdateResult, isFailed}
-use Rattle.model.specs.Bucket.{Bucket, BucketSettings, maxNodes, nodes, count, lookup, failsBucketFilter, isMaxIncoming, withPending, placed, takeOut, reinsert, statusResult, isFirst, updateIfPending, updateStatusOf, updateStatus, revalue, updateValueOf, updateValue}
+use Rattle.model.specs.Bucket.{Bucket, BucketSettings, maxNodesPerBucket, nodes, numEntries, get, failsBucketFilter, isMaxIncoming, withPending, placed, takeOut, reinsert, statusResult, isFirst, updateIfPending, updateStatusOf, updateStatus, revalue, updateValueOf, updateValue}
 use Rattle.laws.proofs.Tests.{same-self, same-true, cases, split}
 use Rattle.laws.proofs.Values.{sameValue-true}
-use Rattle.log.specs.Keys.{mem}
 use Rattle.log.specs.Log.{Log, nodeOf, group}
-use Rattle.log.specs.Fold.{depart, place, give}
+use Rattle.theorem.proofs.Fold.{mem, depart, place, give}
 use Rattle.theorem.proofs.Keys.{mem-without, without-twice}
 use Rattle.theorem.proofs.Groups.{collect-revalue}
-use Rattle.theorem.proofs.Agree.{chosen, PendingAgrees, Agree, Only, Only-refl, lookup-agree, agree-takeOut, agree-withPending, Gives, agree-given, held-not-pending, pending-gives}
+use Rattle.theorem.proofs.Agree.{chosen, PendingAgrees, Agree, Only, Only-refl, get-agree, agree-takeOut, agree-withPending, Gives, agree-given, held-not-pending, pending-gives}
 use Rattle.theorem.proofs.Ops.{node-give, node-other, gives, agree-placed}
 use Rattle.laws.proofs.KeepLists.{length-revalue}
 use Rattle.laws.proofs.KeepFormed.{count-takeOut-held}
@@ -51,11 +50,11 @@ give-same k v l e = λ j. record { settings = l .settings; held = l .held; conne
     go x = split (same x k) (λ q. rw (q, same-true x k q) e) (λ q. rw q)
 
 module _ (ix : ℕ → Option ℕ) where
-  pub held-lookup : (l : Log) (i k : ℕ) (b : Bucket) → Agree ix l i b → ix k ≡ some i → mem k (l .held) ≡ true → lookup k b ≡ some (nodeOf l k)
-  held-lookup l i k b a h m = lookup-agree ix l i k b a h ∙ rw m
+  pub held-get : (l : Log) (i k : ℕ) (b : Bucket) → Agree ix l i b → ix k ≡ some i → mem k (l .held) ≡ true → get k b ≡ some (nodeOf l k)
+  held-get l i k b a h m = get-agree ix l i k b a h ∙ rw m
 
-  pub free-lookup : (l : Log) (i k : ℕ) (b : Bucket) → Agree ix l i b → ix k ≡ some i → mem k (l .held) ≡ false → lookup k b ≡ none
-  free-lookup l i k b a h m = lookup-agree ix l i k b a h ∙ rw m
+  pub free-get : (l : Log) (i k : ℕ) (b : Bucket) → Agree ix l i b → ix k ≡ some i → mem k (l .held) ≡ false → get k b ≡ none
+  free-get l i k b a h m = get-agree ix l i k b a h ∙ rw m
 
   -- the node taken out; t: the pending is cleared
   agree-leave : (l gone : Log) (i k : ℕ) (b : Bucket) (t : Bool) → Agree ix l i b → mem k (l .held) ≡ true → Only k l gone
@@ -85,7 +84,7 @@ module _ (ix : ℕ → Option ℕ) where
 
   module _ (s : BucketSettings) where
     reinsert-ok : (l gone stays : Log) (i : ℕ) (m n : Node) (b : Bucket) → Agree ix l i b → Agree ix (depart (n .key) gone) i b → ix (n .key) ≡ some i
-        → mem (n .key) (l .held) ≡ false → count b < maxNodes → Only (n .key) l stays → nodeOf stays (n .key) ≡ n
+        → mem (n .key) (l .held) ≡ false → numEntries b < maxNodesPerBucket → Only (n .key) l stays → nodeOf stays (n .key) ≡ n
         → StepOk ix i (n .key) gone (place (n .key) stays) (statusResult m n (reinsert s n b .0), reinsert s n b .1)
     unfolding reinsert
     reinsert-ok l gone stays i m n b a g h e c o q =
@@ -101,9 +100,9 @@ module _ (ix : ℕ → Option ℕ) where
     unfolding updateStatus
     status-held l gone i k u d b a h m o =
         let t : Bool = u && isFirst k (nodes b) in
-        let e : lookup k b ≡ some (nodeOf l k) = held-lookup l i k b a h m in
-        let c : count (takeOut k b) < count b = count-takeOut-held k b (ap isSome e) in
-        let r : count b ≤ maxNodes = a .room in
+        let e : get k b ≡ some (nodeOf l k) = held-get l i k b a h m in
+        let c : numEntries (takeOut k b) < numEntries b = count-takeOut-held k b (ap isSome e) in
+        let r : numEntries b ≤ maxNodesPerBucket = a .room in
         subst⁻¹ (λ (x : Option Node). StepOk ix i k gone (place k (give k (some u) d none l)) (updateStatusOf s k u d b x)) e
         (reinsert-ok (depart k l) gone (give k (some u) d none l) i (nodeOf l k) (withStatus u d (nodeOf l k)) (withPending (cond t none (b .pending)) (takeOut k b))
         (agree-leave l l i k b t a m (Only-refl k l)) (agree-leave l gone i k b t a m o) h (mem-without k (l .held)) (omega arith)
@@ -113,7 +112,7 @@ module _ (ix : ℕ → Option ℕ) where
         → FreeOk ix i k (give k (some u) d none l) b (updateStatus s k u d b)
     unfolding updateStatus
     status-free l i k u d b a h m =
-        subst⁻¹ (λ (x : Option Node). FreeOk ix i k (give k (some u) d none l) b (updateStatusOf s k u d b x)) (free-lookup l i k b a h m)
+        subst⁻¹ (λ (x : Option Node). FreeOk ix i k (give k (some u) d none l) b (updateStatusOf s k u d b x)) (free-get l i k b a h m)
         (updateIfPending-ok (withStatus u d) l (give k (some u) d none l) i k b a h m (gives k (some u) d none l) (sym (node-give k (some u) d none l)) (b .pending) (a .pend))
 
     -- on the pending's key it does not fail
@@ -121,14 +120,14 @@ module _ (ix : ℕ → Option ℕ) where
         → isFailed (updateStatus s k u d b .0) ≡ false
     unfolding updateStatus
     status-pending l i k u d b a h m w =
-        subst⁻¹ (λ (x : Option Node). isFailed (updateStatusOf s k u d b x .0) ≡ false) (free-lookup l i k b a h m) (updateIfPending-works (withStatus u d) k b (b .pending) w)
+        subst⁻¹ (λ (x : Option Node). isFailed (updateStatusOf s k u d b x .0) ≡ false) (free-get l i k b a h m) (updateIfPending-works (withStatus u d) k b (b .pending) w)
 
     -- the value step
     pub value-free : (l : Log) (i k : ℕ) (v : Value) (b : Bucket) → Agree ix l i b → ix k ≡ some i → mem k (l .held) ≡ false
         → FreeOk ix i k (give k none none (some v) l) b (updateValue s k v b)
     unfolding updateValue
     value-free l i k v b a h m =
-        subst⁻¹ (λ (x : Option Node). FreeOk ix i k (give k none none (some v) l) b (updateValueOf s k v b x)) (free-lookup l i k b a h m)
+        subst⁻¹ (λ (x : Option Node). FreeOk ix i k (give k none none (some v) l) b (updateValueOf s k v b x)) (free-get l i k b a h m)
         (updateIfPending-ok (withValue v) l (give k none none (some v) l) i k b a h m (gives k none none (some v) l) (sym (node-give k none none (some v) l)) (b .pending) (a .pend))
 
     pub value-held : (l gone : Log) (i k : ℕ) (v : Value) (b : Bucket) → Agree ix l i b → ix k ≡ some i → mem k (l .held) ≡ true → Only k l gone
@@ -137,7 +136,7 @@ module _ (ix : ℕ → Option ℕ) where
     value-held l gone i k v b a h m o =
         let P : UpdateResult × Bucket → Type 0 = StepOk ix i k gone (give k none none (some v) l) in
         let nw = held-not-pending ix l i k (b .pending) (a .pend) m in
-        subst⁻¹ (λ (x : Option Node). P (updateValueOf s k v b x)) (held-lookup l i k b a h m)
+        subst⁻¹ (λ (x : Option Node). P (updateValueOf s k v b x)) (held-get l i k b a h m)
         (cases P (sameValue (l .value k) v)
         (λ e. subst (λ (x : Log). Agree ix x i b) (give-same k v l (sameValue-true (l .value k) v e)) a)
         (λ _. cases P (failsBucketFilter s v (takeOut k b)) (λ _. agree-takeOut ix l gone i k b a o nw)

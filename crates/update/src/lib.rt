@@ -3,7 +3,8 @@
 ghost use mathlib.Core.Path.{_≡_};
 ghost use Rattle.model.specs.Call.{Call};
 ghost use Rattle.model.specs.StepBytes.{stepBytes};
-ghost use Rattle.asked.specs.Answers.{Answers, updateAnswer, argumentOf};
+ghost use Rattle.node.specs.Node.{argumentOf};
+ghost use Rattle.asked.specs.Answers.{Answers, updateAnswer};
 ghost use Rattle.update.specs.Calls.{insertOrUpdateAnswer};
 use bucket::FailureReason;
 use bucket::UpdateAnswer;

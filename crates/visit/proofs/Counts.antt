@@ -18,8 +18,8 @@ use Rattle.laws.proofs.All.{all-any, all-zip}
 use Rattle.laws.proofs.Applied.{apply-again}
 use Rattle.visit.specs.declared.Counted.{Counted}
 use Rattle.visit.specs.declared.Given.{Given}
-use Rattle.visit.specs.Passes.{held, records, GivenAt, given, CountedAt, visitOne, visitAll, Once, Course}
-use Rattle.visit.proofs.Courses.{once-visited, visited-none, visited-next}
+use Rattle.visit.specs.Passes.{held, records, GivenAt, given, CountedAt, visitOne, visitAll, Once, Visitable}
+use Rattle.visit.proofs.Visitable.{once-visited, visited-none, visited-next}
 
 agree : (z a b : Bool) (x : ℕ) → (b ≡ true → a ≡ false) → cond (z && b) 0 x ≡ cond ((z || a) && b) 0 x
 agree true a b x h = refl
@@ -88,7 +88,7 @@ pub record Counting (now n : ℕ) (is : List ℕ) (t : Table) (c : Counted) (res
   pub total : c .records + given (records now t) (c .zero) (visited (held now t) (c .left) rest) ≡ length (visitAll now n is t .1)
 
 module _ (now n : ℕ) (is : List ℕ) (t : Table) where
-  pub counting-starts : Course is → (c : Counted) → c .left ≡ n → c .zero ≡ false → c .records ≡ 0 → Counting now n is t c is
+  pub counting-starts : Visitable is → (c : Counted) → c .left ≡ n → c .zero ≡ false → c .records ≡ 0 → Counting now n is t c is
   counting-starts o c p q r =
       record {
         below = o .below;

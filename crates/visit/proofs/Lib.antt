@@ -1,4 +1,4 @@
 -- Laws of the visit.
-pub mod Courses
+pub mod Visitable
 pub mod Counts
 pub mod Passes

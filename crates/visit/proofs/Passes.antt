@@ -9,7 +9,7 @@ use borrow.Author.Tests.{le-leb}
 use Rattle.model.specs.Base.{same, at}
 use Rattle.model.specs.Bytes.{Bytes}
 use Rattle.model.specs.Node.{AppliedPending}
-use Rattle.model.specs.Bucket.{Bucket, count, applyPending}
+use Rattle.model.specs.Bucket.{Bucket, numEntries, applyPending}
 use Rattle.model.specs.Table.{Table, numBuckets, maxRecords, write}
 use Rattle.model.specs.Sizes.{storageSize}
 use Rattle.model.specs.Listing.{applied, applyAll, visited}
@@ -35,7 +35,7 @@ not-zero h = omega arith
 unfoldable pub pass : ℕ → ℕ → List ℕ → Table → Table
 pass now n [] t = t
 pass now zero (i ∷ is) t = t
-pass now (suc n) (i ∷ is) t = pass now (suc n - count (visitOne now i t .buckets i)) is (visitOne now i t)
+pass now (suc n) (i ∷ is) t = pass now (suc n - numEntries (visitOne now i t .buckets i)) is (visitOne now i t)
 
 pub pass-is : (now n : ℕ) (is : List ℕ) (t : Table) → pass now n is t ≡ visitAll now n is t .0
 unfolding pass visitAll visited
@@ -43,9 +43,9 @@ pass-is now n [] t = refl
 pass-is now zero (i ∷ is) t = refl
 pass-is now (suc n) (i ∷ is) t =
     let u : Table = visitOne now i t in
-    let h : count (u .buckets i) ≡ held now t i = rw (same-self i) in
-    let e : held now u ≡ held now t = fun-ext (λ j. ap count (apply-all-keeps now (i ∷ []) t j)) in
-    pass-is now (suc n - count (u .buckets i)) is u
+    let h : numEntries (u .buckets i) ≡ held now t i = rw (same-self i) in
+    let e : held now u ≡ held now t = fun-ext (λ j. ap numEntries (apply-all-keeps now (i ∷ []) t j)) in
+    pass-is now (suc n - numEntries (u .buckets i)) is u
     ∙ ap₂ (λ (m : ℕ) (size : ℕ → ℕ). applyAll now (visited size (suc n - m) is) u .0) h e
 
 module _ (now : ℕ) where
@@ -58,7 +58,7 @@ module _ (now : ℕ) where
   unfolding pass
   pass-end n t = refl
 
-  pub pass-next : (n i : ℕ) (is : List ℕ) (t : Table) → 0 < n → pass now n (i ∷ is) t ≡ pass now (n - count (visitOne now i t .buckets i)) is (visitOne now i t)
+  pub pass-next : (n i : ℕ) (is : List ℕ) (t : Table) → 0 < n → pass now n (i ∷ is) t ≡ pass now (n - numEntries (visitOne now i t .buckets i)) is (visitOne now i t)
   unfolding pass
   pass-next zero i is t h = absurd (omega arith)
   pass-next (suc n) i is t h = refl
@@ -70,7 +70,7 @@ module _ (now : ℕ) where
   queue-grows zero (i ∷ is) t = omega arith
   queue-grows (suc n) (i ∷ is) t =
       let u : Table = visitOne now i t in
-      let h = queue-grows (suc n - count (u .buckets i)) is u in
+      let h = queue-grows (suc n - numEntries (u .buckets i)) is u in
       omega (arith, length-append (t .queue) (applyPending (t .settings .bucket) now (t .buckets i) .1))
 
   -- a bucket whose pending is not due
@@ -133,16 +133,16 @@ module _ (now n : ℕ) (is : List ℕ) (t : Table) where
 
   module _ (q : length (visitAll now n is t .0 .queue) ≤ maxRecords) (s : List ℕ) (left i : ℕ) (rest : List ℕ) (k : 0 < left)
       (w : Visiting now n is t s left (i ∷ rest)) where
-    leads-on : pass now (left - count (visitOne now i (tableOf s) .buckets i)) rest (visitOne now i (tableOf s)) ≡ visitAll now n is t .0
+    leads-on : pass now (left - numEntries (visitOne now i (tableOf s) .buckets i)) rest (visitOne now i (tableOf s)) ≡ visitAll now n is t .0
     leads-on = sym (pass-next now left i rest (tableOf s) k) ∙ w .leads
 
     pub visiting-room : length (visitOne now i (tableOf s) .queue) ≤ maxRecords
     visiting-room =
-        let g = queue-grows now (left - count (visitOne now i (tableOf s) .buckets i)) rest (visitOne now i (tableOf s)) in
+        let g = queue-grows now (left - numEntries (visitOne now i (tableOf s) .buckets i)) rest (visitOne now i (tableOf s)) in
         let e = ap (λ (x : Table). length (x .queue)) leads-on in
         omega arith
 
-    pub visiting-next : (s′ : List ℕ) (left′ : ℕ) → s′ ≡ bytesOf (visitOne now i (tableOf s)) → left′ ≡ left - count (tableOf s′ .buckets i)
+    pub visiting-next : (s′ : List ℕ) (left′ : ℕ) → s′ ≡ bytesOf (visitOne now i (tableOf s)) → left′ ≡ left - numEntries (tableOf s′ .buckets i)
         → Visiting now n is t s′ left′ rest
     visiting-next s′ left′ e g =
         let f : Fits (visitOne now i (tableOf s)) = visit-fits s (w .bytes) (w .size) (w .formed) now i visiting-room in

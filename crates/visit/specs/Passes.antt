@@ -7,7 +7,7 @@ use mathlib.Core.Option.{Option, none, some}
 use lib.ListN.{length}
 use lib.Dec.{eqb, leb}
 use Rattle.model.specs.Node.{PendingNode, AppliedPending}
-use Rattle.model.specs.Bucket.{Bucket, count, applyPending}
+use Rattle.model.specs.Bucket.{Bucket, numEntries, applyPending}
 use Rattle.model.specs.Table.{Table, numBuckets, write}
 use Rattle.model.specs.Listing.{applied, applyAll, visited}
 use Rattle.model.specs.Fits.{All}
@@ -16,7 +16,7 @@ use Rattle.visit.specs.declared.Given.{Given}
 
 -- the nodes that bucket i holds once its due pending is applied, and the records that it gives then
 abbrev pub held : ℕ → Table → ℕ → ℕ
-held now t i = count (applied now t i)
+held now t i = numEntries (applied now t i)
 
 abbrev pub records : ℕ → Table → ℕ → ℕ
 records now t i = length (applyPending (t .settings .bucket) now (t .buckets i) .1)
@@ -52,7 +52,7 @@ Once [] = Unit {0}
 Once (i ∷ is) = All (λ (j : ℕ). j ≡ i → i ≡ 0) is × Once is
 
 -- buckets of the table, in an order in which they may be visited
-pub record Course (is : List ℕ) : Type 0 where
+pub record Visitable (is : List ℕ) : Type 0 where
   pub below : All (λ (i : ℕ). i < numBuckets) is
   pub once : Once is
   pub short : length is ≤ numBuckets + numBuckets

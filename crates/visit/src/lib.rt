@@ -5,14 +5,14 @@ ghost use mathlib.Core.Bool.{true};
 ghost use Prim.Native.Nat.{_+_, _-_, _≤_, _<_};
 ghost use lib.ListN.{length};
 ghost use Rattle.model.specs.Base.{tabulate};
-ghost use Rattle.model.specs.Bucket.{count};
+ghost use Rattle.model.specs.Bucket.{numEntries};
 ghost use Rattle.model.specs.Table.{numBuckets, maxRecords};
 ghost use Rattle.model.specs.Sizes.{storageSize};
 ghost use Rattle.model.specs.Layout.{tableOf, bytesOf};
 ghost use Rattle.model.specs.Formed.{formed};
 ghost use Rattle.key.specs.Visits.{remaining};
 ghost use Rattle.asked.specs.Answers.{Ready, Timely};
-ghost use Rattle.visit.specs.Passes.{GivenAt, CountedAt, visitOne, visitAll, Course};
+ghost use Rattle.visit.specs.Passes.{GivenAt, CountedAt, visitOne, visitAll, Visitable};
 use key::BucketIndex;
 use key::ClosestBucketsIter;
 use key::ClosestBucketsIterState;
@@ -48,18 +48,12 @@ pub fn in_turn() -> ClosestBucketsIter
     }
 }
 
-fn size(x: u8) -> usize
-    ensures { λ r. ⌜ r ≡ x ⌝ }
-{
-    x as usize
-}
-
 // How many nodes bucket i holds.
 fn held_at(s: &[u8], i: usize) -> usize
     requires { ⌜ (length (now s) ≡ storageSize) × (i < numBuckets) ⌝ }
-    ensures { λ r. ⌜ r ≡ count (tableOf (now (s .entry)) .buckets i) ⌝ }
+    ensures { λ r. ⌜ r ≡ numEntries (tableOf (now (s .entry)) .buckets i) ⌝ }
 {
-    size(s[Layout::HEADER + i * Layout::BUCKET])
+    formed::size(s[Layout::HEADER + i * Layout::BUCKET])
 }
 
 // Internal: what bucket i gives, without writing it.
@@ -127,7 +121,7 @@ fn count_at(s: &[u8], i: usize, time: u64, c: Counted) -> Counted
 pub fn count_records(s: &[u8], visit: ClosestBucketsIter, time: u64, n: usize) -> usize
     requires { ⌜ (length (now s) ≡ storageSize) × (formed (now s) ≡ true) ⌝ }
     requires { ⌜ Timely (now s) time ⌝ }
-    requires { ⌜ Course (remaining visit) ⌝ }
+    requires { ⌜ Visitable (remaining visit) ⌝ }
     ensures { λ r. ⌜ r ≡ length (visitAll time n (remaining visit) (tableOf (now (s .entry))) .1) ⌝ }
 {
     let mut it = visit;
@@ -171,7 +165,7 @@ pub fn apply_in(s: &mut [u8], i: usize, time: u64)
 pub fn apply_all(s: &mut [u8], visit: ClosestBucketsIter, time: u64, n: usize)
     requires { ⌜ (length (now s) ≡ storageSize) × (formed (now s) ≡ true) ⌝ }
     requires { ⌜ Timely (now s) time ⌝ }
-    requires { ⌜ Course (remaining visit) ⌝ }
+    requires { ⌜ Visitable (remaining visit) ⌝ }
     requires { ⌜ length (visitAll time n (remaining visit) (tableOf (now s)) .0 .queue) ≤ maxRecords ⌝ }
     ensures { λ _. ⌜ now (s .exit) ≡ bytesOf (visitAll time n (remaining visit) (tableOf (now (s .entry))) .0) ⌝ }
 {

@@ -54,9 +54,6 @@ enum-known-result-4 c = search needs
 reason-code-requires : tie.Need-reason-code-requires
 reason-code-requires c κs = search needs
 
-add-result-3 : tie.Need-add-result-3
-add-result-3 c = search needs
-
 returns : tie.Need-returns
 returns c = carried code bytes _ (c .enum-told .given .1) refl (kept _)
 
@@ -79,7 +76,7 @@ returns-6 : tie.Need-returns-6
 returns-6 c = carried code bytes _ (c .enum-told3 .given .1) refl (kept _)
 
 returns-7 : tie.Need-returns-7
-returns-7 c = carried code bytes _ (c .before .before .result4 .given .1) (ap (λ (n : ℕ). 16 + n) (c .reason-code .ensures .0)) (kept _)
+returns-7 c = carried code bytes _ (c .before .before .result4 .given .1) (c .reason-code .ensures) (kept _)
 
 pub put-result-spec : {M : Type 1} → statement M
 put-result-spec =
@@ -98,7 +95,6 @@ put-result-spec =
     enum-told-3
     enum-known-result-4
     reason-code-requires
-    add-result-3
     returns
     same-length
     returns-2

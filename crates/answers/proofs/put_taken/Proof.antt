@@ -24,7 +24,9 @@ enum-known-taken-2 : tie.Need-enum-known-taken-2
 enum-known-taken-2 c = search needs
 
 put-applied-requires : tie.Need-put-applied-requires
-put-applied-requires c κs = search needs
+put-applied-requires c κs =
+    let st = c .before .before .before .before .before in
+    (st .pre .0, rw (c .before .before .taken2 .given .1) at (st .pre .1))
 
 returns : tie.Need-returns
 returns c = carried code bytes _ (c .before .before .taken .given .1) (c .refused .ensures) (kept _)

@@ -1,14 +1,14 @@
 use mathlib.Core.Path.{ap, _∙_}
-use native.Mathlib.Omega.{arith}
 use mathlib.Core.List.{List}
 use lib.ListN.{length}
 use Prim.Native.Nat.{ℕ}
 use Rattle.model.specs.Bytes.{splice}
 use Rattle.model.specs.Sizes.{bucketAt}
 use Rattle.model.specs.Layout.{bucketBytes}
+use Rattle.laws.proofs.TableBytes.{header-passes}
 use Rattle.bucket.specs.Bucket.{bucketOf}
 use Rattle.bucket.specs.Calls.{recordsOf}
-use Rattle.asked.proofs.Stored.{codes-of, header-is-formed, room, length-pushed, written-back}
+use Rattle.asked.proofs.Stored.{room, length-pushed, written-back}
 use borrow.Author.Needs.{needs}
 use Rattle.asked.proofs.write_back.Statement.{statement}
 use Rattle.asked.proofs.write_back.Tie as tie
@@ -17,7 +17,7 @@ use Rattle.asked.proofs.write_back.Tie as tie
 push-record-requires : tie.Need-push-record-requires
 push-record-requires c κs =
     let o = c .before .before in
-    (o .pre .0 .size, (header-is-formed (o .args .s .now) (o .pre .0 .formed), (room (o .args .s .now) (recordsOf (o .args .applied)) (o .pre .1 .0), codes-of (o .args .applied) (o .pre .1 .1 .0))))
+    (o .pre .0 .size, (header-passes (o .args .s .now) (o .pre .0 .formed), (room (o .args .s .now) (recordsOf (o .args .applied)) (o .pre .1 .0), o .pre .1 .1 .0)))
 
 -- src/lib.rt:127:5
 store-bucket-requires : tie.Need-store-bucket-requires

@@ -3,6 +3,7 @@ use mathlib.Core.Bool.{true}
 use mathlib.Core.Option.{some}
 use Prim.Native.Nat.{ℕ}
 use native.Mathlib.Omega.{arith}
+use Rattle.model.specs.Base.{first}
 use Rattle.model.specs.Bucket as rules
 use Rattle.asked.proofs.Questions.{refusal-none, refusal-some}
 use Rattle.asked.proofs.Steps.{stepped}
@@ -13,7 +14,7 @@ use Rattle.bucket_calls.proofs.Outcome.{apply-is, refused-by, done, ear
 use mathlib.Core.Path.{ap}
 use mathlib.Core.List.{List}
 use Rattle.model.specs.Node.{AppliedPending}
-use Rattle.codes.specs.Codes.{appliedCode, appliedBytes, first}
+use Rattle.codes.specs.Codes.{appliedCode, appliedBytes}
 use borrow.Author.Needs.{needs}
 use Rattle.bucket_calls.proofs.apply_pending.Statement.{statement}
 use Rattle.bucket_calls.proofs.apply_pending.Tie as tie

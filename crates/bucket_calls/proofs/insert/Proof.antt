@@ -5,7 +5,6 @@ use native.Mathlib.Omega.{arith}
 use lib.Dec.{leb}
 use borrow.Author.Tests.{eqb-true}
 use Rattle.model.specs.Bucket as rules
-use Rattle.asked.specs.Answers.{argumentOf}
 use Rattle.asked.proofs.Questions.{refusal-none, refusal-some}
 use Rattle.asked.proofs.Steps.{stepped}
 use Rattle.bucket_bytes.specs.Lent.{lentSettings, lentBucket, failedOfLent}
@@ -16,7 +15,7 @@ use mathlib.Core.Path.{sym, ap, _∙_}
 use lib.Dec.{eqb}
 use Rattle.model.specs.Question.{valueInRange}
 use Rattle.model.specs.Step.{nodeOf}
-use Rattle.node.specs.Node.{valueOf}
+use Rattle.node.specs.Node.{valueOf, argumentOf}
 use Rattle.codes.specs.Codes.{bucketInsertCode, bucketInsertBytes}
 use borrow.Author.Needs.{needs}
 use Rattle.bucket_calls.proofs.insert.Statement.{statement}

@@ -7,7 +7,6 @@ use native.Mathlib.Omega.{arith}
 use borrow.Author.Tests.{eqb-true}
 use Rattle.model.specs.Bytes.{number}
 use Rattle.model.specs.Bucket as rules
-use Rattle.asked.specs.Answers.{argumentOf}
 use Rattle.asked.proofs.Questions.{refusal-none, refusal-some}
 use Rattle.asked.proofs.Steps.{stepped}
 use Rattle.bucket_bytes.specs.Lent.{lentSettings, lentBucket, failedOfLent}
@@ -15,7 +14,7 @@ use Rattle.bucket_bytes.proofs.Questions.{passed-lent}
 use Rattle.bucket_calls.specs.Calls.{BucketCall, keyFits}
 use Rattle.bucket_calls.proofs.Outcome.{value-is, left, nothing, plain, refused-by, done}
 use Rattle.model.specs.Question.{valueInRange}
-use Rattle.node.specs.Node.{valueOf}
+use Rattle.node.specs.Node.{valueOf, argumentOf}
 use Rattle.codes.specs.Codes.{updateCode}
 use borrow.Author.Needs.{needs}
 use Rattle.bucket_calls.proofs.update_value.Statement.{statement}

@@ -3,7 +3,7 @@ use Prim.Native.Nat.{ℕ, _-_, _≤_}
 use native.Mathlib.Omega.{arith}
 use lib.ListN.{length, set, replicate, length-set}
 use Rattle.model.specs.Bytes.{part, Bytes}
-use Rattle.model.specs.Bucket.{maxNodes}
+use Rattle.model.specs.Bucket.{maxNodesPerBucket}
 use Rattle.model.specs.Sizes.{bucketSize}
 use Rattle.node.specs.declared.Node.{Node}
 use Rattle.places.specs.Places.{padded}
@@ -14,7 +14,7 @@ use Rattle.buckets.proofs.load_at.Statement.{statement}
 use Rattle.buckets.proofs.load_at.Tie as tie
 
 abbrev Inv-loop : tie.InvT-loop
-Inv-loop s at pending-timeout max-incoming filter count first pending nodes₀ i₀ nodes i = (count ≤ maxNodes) × ((i ≤ count) × ((length nodes ≡ maxNodes) × (nodes ≡ padded (readPlaces (part s at bucketSize) i))))
+Inv-loop s at pending-timeout max-incoming filter count first pending nodes₀ i₀ nodes i = (count ≤ maxNodesPerBucket) × ((i ≤ count) × ((length nodes ≡ maxNodesPerBucket) × (nodes ≡ padded (readPlaces (part s at bucketSize) i))))
 
 abbrev μ-loop : tie.MeasureT-loop
 μ-loop s at pending-timeout max-incoming filter count first pending nodes₀ i₀ nodes i = count - i
@@ -48,7 +48,7 @@ loop-holds c =
     let st = c .before .before .before .before .before .before .before in
     let a = st .args in (
       omega (arith, count-few (a .s .now) (a .at) (a .max-incoming) (st .pre .1 .0), c .before .before .before .before .size .ensures),
-      (omega arith, (refl, ap (λ (z : Node). replicate maxNodes z) (c .zero .ensures) ∙ places-none _)),
+      (omega arith, (refl, ap (λ (z : Node). replicate maxNodesPerBucket z) (c .zero .ensures) ∙ places-none _)),
     )
 
 mul-load-node : tie.Need-mul-load-node Inv-loop μ-loop

@@ -6,8 +6,11 @@ use native.Mathlib.Omega.{arith}
 use borrow.Author.Tests.{le-leb, lt-leb}
 use Rattle.model.specs.Layout.{tableOf}
 use Rattle.model.specs.Question.{deadlineFits}
+use Rattle.laws.proofs.Listing.{most-few}
+use Rattle.model.specs.Call.{Listing}
+use mathlib.Core.List.{[]}
 use Rattle.asked.proofs.Questions.{refusal-none, passed-on, passed-two}
-use Rattle.by_distances.proofs.Answers.{one-few, early-two, early-clock, early-count, early-room, early-none}
+use Rattle.by_distances.proofs.Answers.{early-two, early-clock, early-count, early-room, early-none}
 use borrow.Author.Needs.{needs}
 use Rattle.by_distances.proofs.asked_early.Statement.{statement}
 use Rattle.by_distances.proofs.asked_early.Tie as tie
@@ -42,7 +45,7 @@ at-least-one-requires : tie.Need-at-least-one-requires
 at-least-one-requires c κs = search needs
 
 mul-if4 : tie.Need-mul-if4
-mul-if4 c = omega (arith, c .at-least-one .ensures, one-few (c .before .before .before .before .before .before .before .args .n) (c .before .if3 .left))
+mul-if4 c = omega (arith, c .at-least-one .ensures, most-few (Listing.nodesByDistances []) (c .before .before .before .before .before .before .before .args .n) (c .before .if3 .left))
 
 returns-4 : tie.Need-returns-4
 returns-4 c =

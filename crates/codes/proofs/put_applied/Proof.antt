@@ -1,9 +1,11 @@
 use mathlib.Core.Path.{refl}
 use mathlib.Core.List.{List}
 use Prim.Native.Nat.{ℕ}
+use native.Mathlib.Omega.{arith}
+use Rattle.model.specs.Base.{first}
 use Rattle.bucket.specs.declared.AppliedPending.{AppliedPending}
 use Rattle.bucket.specs.Calls.{recordsOf}
-use Rattle.codes.specs.Codes.{appliedCode, appliedBytes, first}
+use Rattle.codes.specs.Codes.{appliedCode, appliedBytes}
 use Rattle.codes.proofs.Put.{carried, kept}
 use borrow.Author.Needs.{needs}
 use Rattle.codes.proofs.put_applied.Statement.{statement}
@@ -27,8 +29,10 @@ put-inserted-requires c κs = search needs
 enum-known-applied-2 : tie.Need-enum-known-applied-2
 enum-known-applied-2 c = search needs
 
-put-replaced-requires : tie.Need-put-replaced-requires
-put-replaced-requires c κs = search needs
+store-replaced-requires : tie.Need-store-replaced-requires
+store-replaced-requires c κs =
+    let st = c .before .before .before .before .before in
+    (omega (arith, st .pre .0), rw (c .before .before .applied2 .given .1) at (st .pre .1))
 
 returns : tie.Need-returns
 returns c = carried code carries _ (c .enum-told .given .1) refl (kept _)
@@ -47,7 +51,7 @@ same-length-2 c = search needs
 returns-3 : tie.Need-returns-3
 returns-3 c =
     let p = c .before .before in
-    carried code carries _ (p .before .before .before .applied2 .given .1) refl (p .put-replaced .ensures)
+    carried code carries _ (p .before .before .before .applied2 .given .1) refl (p .store-replaced .ensures)
 
 pub put-applied-spec : {M : Type 1} → statement M
 put-applied-spec =
@@ -57,7 +61,7 @@ put-applied-spec =
     enum-known-applied
     put-inserted-requires
     enum-known-applied-2
-    put-replaced-requires
+    store-replaced-requires
     returns
     same-length
     returns-2

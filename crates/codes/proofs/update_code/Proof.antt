@@ -1,5 +1,4 @@
 use mathlib.Core.Path.{sym, ap, _∙_}
-use Prim.Native.Nat.{ℕ, _+_}
 use Rattle.bucket.specs.declared.UpdateResult.{UpdateResult}
 use Rattle.bucket.specs.Calls.{updateResultOf}
 use Rattle.codes.specs.Codes.{updateCode}
@@ -25,9 +24,6 @@ enum-known-result c = search needs
 reason-code-requires : tie.Need-reason-code-requires
 reason-code-requires c κs = search needs
 
-add-result : tie.Need-add-result
-add-result c = search needs
-
 returns : tie.Need-returns
 returns c = search needs
 
@@ -42,8 +38,7 @@ returns-4 c = search needs
 
 returns-5 : tie.Need-returns-5
 returns-5 c =
-    let r = c .before .before in
-    ap (λ (n : ℕ). 16 + n) (c .reason-code .ensures .0) ∙ ap (λ (x : UpdateResult). updateCode (updateResultOf x)) (sym (r .result .given .1))
+    c .reason-code .ensures ∙ ap (λ (x : UpdateResult). updateCode (updateResultOf x)) (sym (c .before .before .result .given .1))
 
 pub update-code-spec : {M : Type 1} → statement M
 update-code-spec =
@@ -55,7 +50,6 @@ update-code-spec =
     enum-told-4
     enum-known-result
     reason-code-requires
-    add-result
     returns
     returns-2
     returns-3

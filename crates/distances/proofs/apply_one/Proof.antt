@@ -1,6 +1,7 @@
 use mathlib.Core.Path.{refl}
+use Rattle.laws.proofs.Touched.{distance-of}
 use Rattle.model.specs.Layout.{tableOf}
-use Rattle.distances.proofs.Named.{index-told, distance-of}
+use Rattle.distances.proofs.Named.{index-told}
 use Rattle.distances.proofs.Passes.{one-nothing, one-bucket, room-at}
 use borrow.Author.Needs.{needs}
 use Rattle.distances.proofs.apply_one.Statement.{statement}

@@ -1,7 +1,8 @@
 use mathlib.Core.Path.{refl, sym, _∙_}
 use native.Mathlib.Omega.{arith}
+use Rattle.laws.proofs.Touched.{distance-of}
 use Rattle.model.specs.Layout.{tableOf}
-use Rattle.distances.proofs.Named.{index-told, distance-of, yields-by, yields-none, yields-nothing, yields-again, yields-first}
+use Rattle.distances.proofs.Named.{index-told, yields-by, yields-none, yields-nothing, yields-again, yields-first}
 use borrow.Author.Needs.{needs}
 use Rattle.distances.proofs.given_at.Statement.{statement}
 use Rattle.distances.proofs.given_at.Tie as tie

@@ -1,6 +1,7 @@
 use Prim.Native.Nat.{_-_}
+use Rattle.laws.proofs.Touched.{distance-of}
 use Rattle.model.specs.Layout.{tableOf}
-use Rattle.distances.proofs.Named.{index-told, distance-of}
+use Rattle.distances.proofs.Named.{index-told}
 use Rattle.distances.proofs.Written.{put-nothing, put-bucket-is}
 use borrow.Author.Needs.{needs}
 use Rattle.distances.proofs.put_one.Statement.{statement}

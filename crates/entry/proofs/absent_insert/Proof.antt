@@ -10,9 +10,8 @@ use Rattle.model.specs.Call.{isOne}
 use Rattle.model.specs.Question.{isAbsent}
 use Rattle.model.specs.Layout.{tableOf}
 use Rattle.key.specs.Key.{num}
-use Rattle.node.specs.Node.{valueOf}
+use Rattle.node.specs.Node.{valueOf, argumentOf}
 use Rattle.bucket.specs.Bucket.{bucketOf}
-use Rattle.asked.specs.Answers.{argumentOf}
 use Rattle.asked.proofs.Questions.{refusal-none, refusal-some}
 use Rattle.asked.proofs.OneKey.{refused-early, refused-kind, answers-in, in-done}
 use Rattle.asked.proofs.Steps.{index-told, ready, timely, stepped}

@@ -7,12 +7,12 @@ use Rattle.node.proofs.Stored.{stored-codes}
 use Prim.Native.Nat.{ℕ}
 use native.Mathlib.Omega.{arith}
 use lib.ListN.{getD}
-use Rattle.model.specs.Bucket.{lookup}
+use Rattle.model.specs.Bucket.{get}
 use Rattle.key.specs.Key.{num}
 use Rattle.node.specs.Node.{nodeOf, nodeCodes, zeroNode}
 use Rattle.places.specs.Places.{position}
 use Rattle.bucket.specs.Bucket.{pendingOf, heldOf, bucketOf}
-use Rattle.bucket.proofs.Steps.{found-at, absent-at, lookup-at, stored-at}
+use Rattle.bucket.proofs.Steps.{found-at, absent-at, get-at, stored-at}
 use Rattle.bucket.proofs.Answers.{pending-stored}
 use borrow.Author.Needs.{needs}
 use Rattle.entry.proofs.Kind.{kind-held, kind-none, kind-pending, kind-other}
@@ -41,7 +41,7 @@ returns c =
     let k = num (o .args .key) in
     let e : i .position .result ≡ position k (heldOf b) = omega (arith, i .position .ensures) in
     let f = found-at b (o .pre) k (i .position .result) e (h .if1 .taken) in (
-      kind-held k (bucketOf b) (nodeOf (getD (b .nodes) (i .position .result) zeroNode)) (ap (λ (j : ℕ). lookup j (bucketOf b)) (sym f) ∙ lookup-at b (o .pre) (i .position .result) (h .if1 .taken)),
+      kind-held k (bucketOf b) (nodeOf (getD (b .nodes) (i .position .result) zeroNode)) (ap (λ (j : ℕ). get j (bucketOf b)) (sym f) ∙ get-at b (o .pre) (i .position .result) (h .if1 .taken)),
       status-codes (getD (b .nodes) (i .position .result) zeroNode) (stored-codes _ (stored-at b (o .pre) (i .position .result) (h .if1 .taken))),
     )
 

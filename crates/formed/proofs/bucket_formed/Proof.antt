@@ -41,8 +41,8 @@ returns-2 c =
 held-formed-requires : tie.Need-held-formed-requires
 held-formed-requires c κs = search needs
 
-incoming-requires : tie.Need-incoming-requires
-incoming-requires c κs = search needs
+incoming-within-requires : tie.Need-incoming-within-requires
+incoming-within-requires c κs = search needs
 
 pending-formed-requires : tie.Need-pending-formed-requires
 pending-formed-requires c κs = search needs
@@ -51,7 +51,7 @@ returns-3 : tie.Need-returns-3
 returns-3 c =
     let z = c .before .before .before .before .before in
     let a = z .before .before .before .before .before .args in
-    rw (c .pending-formed .ensures, c .before .incoming .ensures, c .before .before .held-formed .ensures)
+    rw (c .pending-formed .ensures, c .before .incoming-within .ensures, c .before .before .held-formed .ensures)
     (sym (bucket-held (ofIndex (num (a .local)) (a .i)) (a .max-incoming) (a .s .now) (a .at) _ _ (z .before .before .size .ensures) (z .size2 .ensures) (omega arith)))
 
 pub bucket-formed-spec : {M : Type 1} → statement M
@@ -67,6 +67,6 @@ bucket-formed-spec =
     returns
     returns-2
     held-formed-requires
-    incoming-requires
+    incoming-within-requires
     pending-formed-requires
     returns-3)

@@ -1,7 +1,7 @@
 use Rattle.laws.proofs.Zeros.{areZero-within}
 use Prim.Native.Nat.{_+_, _*_, _-_}
 use native.Mathlib.Omega.{arith}
-use Rattle.model.specs.Bucket.{maxNodes}
+use Rattle.model.specs.Bucket.{maxNodesPerBucket}
 use Rattle.model.specs.Sizes.{nodeSize, bucketSize}
 use borrow.Author.Needs.{needs}
 use Rattle.formed.proofs.held_formed.Statement.{statement}
@@ -34,7 +34,7 @@ places-formed-requires c κs = search needs
 returns : tie.Need-returns
 returns c =
     let a = c .before .before .before .before .args in
-    rw (areZero-within (a .s .now) (a .at) bucketSize (2 + a .count * nodeSize) ((maxNodes - a .count) * nodeSize) (omega arith)) (cc)
+    rw (areZero-within (a .s .now) (a .at) bucketSize (2 + a .count * nodeSize) ((maxNodesPerBucket - a .count) * nodeSize) (omega arith)) (cc)
 
 pub held-formed-spec : {M : Type 1} → statement M
 held-formed-spec =

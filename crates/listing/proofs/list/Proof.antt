@@ -1,7 +1,7 @@
 use Rattle.model.specs.Layout.{tableOf}
 use Rattle.asked.proofs.Questions.{refusal-none, refusal-some}
 use Rattle.asked.proofs.Steps.{timely}
-use Rattle.listing.proofs.Shapes.{course-by}
+use Rattle.listing.proofs.Shapes.{visitable-by}
 use Rattle.listing.proofs.Steps.{refused-list, five, five-passed, room-passed, listed-is}
 use borrow.Author.Needs.{needs}
 use Rattle.listing.proofs.list.Statement.{statement}
@@ -41,7 +41,7 @@ list-visited-requires c κs =
       (
         timely (a .s .now) (a .target .now) _ (a .time) (five-passed (a .shape) (a .target .now) (o .pre) (a .time) (a .n) (a .out .now) (a .s .now) q),
         (
-          rw (v .visit-of .ensures) (course-by (a .shape) (tableOf (a .s .now))),
+          rw (v .visit-of .ensures) (visitable-by (a .shape) (tableOf (a .s .now))),
           (o .pre .form, room-passed (a .shape) (a .target .now) (o .pre) (a .time) (a .n) (a .out .now) (a .s .now) q),
         ),
       ),

@@ -6,7 +6,7 @@ use Rattle.model.specs.Table.{numBuckets}
 use Rattle.model.specs.Layout.{tableOf}
 use Rattle.model.specs.Fits.{All}
 use Rattle.key.specs.Visits.{remaining}
-use Rattle.visit.proofs.Courses.{step-at, step-end}
+use Rattle.visit.proofs.Visitable.{step-at, step-end}
 use Rattle.listing.specs.Listed.{firstNodes}
 use Rattle.listing.proofs.Putting.{Putting, putting-starts, putting-next, putting-ends, putting-full}
 use borrow.Author.Needs.{needs}

@@ -7,22 +7,22 @@ use lib.ListN.{take, drop, length, length-append, List·getD-append}
 use lib.Seq.{take-all, getD-at}
 use Rattle.node.specs.Node.{zeroNode}
 use Rattle.places.specs.Places.{removeAt}
-use Rattle.places.proofs.Moves.{fill-start, fill-step, fill-end, removeAt-length, removeAt-past}
+use Rattle.places.proofs.Moves.{fill-start, fill-next, fill-step, fill-end, removeAt-length, removeAt-past}
 use Rattle.places.proofs.remove_at.Statement.{statement}
 use Rattle.places.proofs.remove_at.Tie as tie
 
 abbrev Inv-loop : tie.InvT-loop
-Inv-loop pos nodes out₀ i₀ out i = (pos ≤ i) × (i ≤ 15) × (out ≡ take i (removeAt pos nodes ++ (zeroNode ∷ [])) ++ drop i nodes)
+Inv-loop pos out₀ i₀ out i = (pos ≤ i) × (i ≤ 15) × (out ≡ take i (removeAt pos out₀ ++ (zeroNode ∷ [])) ++ drop i out₀)
 
 abbrev μ-loop : tie.MeasureT-loop
-μ-loop pos nodes out₀ i₀ out i = 15 - i
+μ-loop pos out₀ i₀ out i = 15 - i
 
 -- src/lib.rt:83:5
 loop-holds : tie.Need-loop-holds Inv-loop μ-loop
 loop-holds c =
     let a = c .args in
-    let len : length (a .t1) ≡ 16 = search needs in
-    (omega arith, omega arith, rw append-assoc (fill-start (a .t1) _ (a .pos) (omega arith)))
+    let len : length (a .nodes) ≡ 16 = search needs in
+    (omega arith, omega arith, rw append-assoc (fill-start (a .nodes) _ (a .pos) (omega arith)))
 
 -- src/lib.rt:84:24
 add-out : tie.Need-add-out Inv-loop μ-loop
@@ -57,15 +57,17 @@ loop-again : tie.Need-loop-again Inv-loop μ-loop
 loop-again c =
     let b = c .before .before in
     let a = b .before .args in
-    let len : length (a .t1) ≡ 16 = search needs in
-    let short : length (removeAt (a .pos) (a .t1)) + 1 ≡ length (a .t1) = removeAt-length (a .pos) (a .t1) (omega arith) in (
+    let len : length (a .nodes) ≡ 16 = search needs in
+    let short : length (removeAt (a .pos) (a .nodes)) + 1 ≡ length (a .nodes) = removeAt-length (a .pos) (a .nodes) (omega arith) in (
       omega arith,
       omega arith,
-      fill-step (removeAt (a .pos) (a .t1) ++ (zeroNode ∷ [])) (a .t1) (b .loop .out) (b .loop .i) zeroNode _
-          (omega (arith, length-append (removeAt (a .pos) (a .t1)) (zeroNode ∷ []))) (omega arith)
+      fill-step (removeAt (a .pos) (a .nodes) ++ (zeroNode ∷ [])) (a .nodes) (b .loop .out) (b .loop .i) zeroNode _
+          (omega (arith, length-append (removeAt (a .pos) (a .nodes)) (zeroNode ∷ []))) (omega arith)
           (b .loop .inv .2)
-          (rw (List·getD-append (removeAt (a .pos) (a .t1)) (zeroNode ∷ []) zeroNode (b .loop .i) (omega arith))
-          (removeAt-past (a .pos) (a .t1) (b .loop .i) zeroNode (omega arith))),
+          (fill-next (removeAt (a .pos) (a .nodes) ++ (zeroNode ∷ [])) (a .nodes) (b .loop .out) (b .loop .i) zeroNode
+          (omega (arith, length-append (removeAt (a .pos) (a .nodes)) (zeroNode ∷ []))) (b .loop .inv .2)
+          ∙ rw (List·getD-append (removeAt (a .pos) (a .nodes)) (zeroNode ∷ []) zeroNode (b .loop .i) (omega arith))
+          (removeAt-past (a .pos) (a .nodes) (b .loop .i) zeroNode (omega arith))),
     )
 
 -- src/lib.rt:87:15
@@ -81,15 +83,15 @@ returns : tie.Need-returns Inv-loop μ-loop
 returns c =
     let b = c .before .before in
     let a = b .before .args in
-    let len : length (a .t1) ≡ 16 = search needs in
-    let gone = removeAt (a .pos) (a .t1) in
-    let short : length gone + 1 ≡ length (a .t1) = removeAt-length (a .pos) (a .t1) (omega arith) in
+    let len : length (a .nodes) ≡ 16 = search needs in
+    let gone = removeAt (a .pos) (a .nodes) in
+    let short : length gone + 1 ≡ length (a .nodes) = removeAt-length (a .pos) (a .nodes) (omega arith) in
     let long : length (gone ++ (zeroNode ∷ [])) ≡ 16 = omega (arith, length-append gone (zeroNode ∷ [])) in
     let last : b .loop .i ≡ 15 = omega arith in
-    let out : b .loop .out ≡ take 15 (gone ++ (zeroNode ∷ [])) ++ drop 15 (a .t1) = rw last at (b .loop .inv .2) in
-    fill-step (gone ++ (zeroNode ∷ [])) (a .t1) (b .loop .out) 15 zeroNode (c .zero .result) (omega arith) (omega arith) out
+    let out : b .loop .out ≡ take 15 (gone ++ (zeroNode ∷ [])) ++ drop 15 (a .nodes) = rw last at (b .loop .inv .2) in
+    fill-step (gone ++ (zeroNode ∷ [])) (a .nodes) (b .loop .out) 15 zeroNode (c .zero .result) (omega arith) (omega arith) out
     (c .zero .ensures ∙ sym (getD-at gone zeroNode [] zeroNode 15 (omega arith)))
-    ∙ fill-end (gone ++ (zeroNode ∷ [])) (a .t1) 16 (omega arith) ∙ take-all 16 (gone ++ (zeroNode ∷ [])) (omega arith)
+    ∙ fill-end (gone ++ (zeroNode ∷ [])) (a .nodes) 16 (omega arith) ∙ take-all 16 (gone ++ (zeroNode ∷ [])) (omega arith)
 
 pub remove-at-spec : {M : Type 1} → statement M
 remove-at-spec =

@@ -3,8 +3,8 @@ use Prim.Native.Nat.{_+_, _-_, _≤_}
 use native.Mathlib.Omega.{arith}
 use lib.ListN.{length, length-set}
 use Rattle.model.specs.Bytes.{part, splice}
-use Rattle.laws.proofs.Parts.{splice-nil}
-use Rattle.queue.proofs.Runs.{part-none, moved}
+use Rattle.laws.proofs.Parts.{part-none, splice-nil}
+use Rattle.queue.proofs.Runs.{moved}
 use borrow.Author.Needs.{needs}
 use Rattle.queue.proofs.move_up.Statement.{statement}
 use Rattle.queue.proofs.move_up.Tie as tie

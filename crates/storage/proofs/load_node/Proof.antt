@@ -3,8 +3,8 @@ use native.Mathlib.Omega.{arith}
 use Rattle.model.specs.Bytes.{number, part}
 use Rattle.model.specs.Sizes.{keySize}
 use Rattle.key.specs.Key.{Words}
-use Rattle.node.specs.Node.{keyOf}
-use Rattle.node.proofs.Stored.{keyOf-num}
+use Rattle.key.specs.Key.{keyOf}
+use Rattle.key.proofs.Words.{keyOf-num}
 use Rattle.storage.proofs.Nodes.{node-at}
 use borrow.Author.Needs.{needs}
 use Rattle.storage.proofs.load_node.Statement.{statement}

@@ -4,11 +4,11 @@ use Prim.Native.Nat.{ℕ, _^_, _<_}
 use native.Mathlib.Omega.{arith}
 use lib.Dec.{leb}
 use borrow.Author.Tests.{eq-eqb, ne-eqb, not-true, not-false}
+use Rattle.model.specs.Step.{settingsOf}
 use Rattle.model.specs.Table.{emptyTable}
 use Rattle.model.specs.Sizes.{timeSize}
 use Rattle.model.specs.Layout.{bytesOf}
 use Rattle.laws.proofs.Tests.{and-left, and-right}
-use Rattle.queue.specs.Queue.{settingsOf}
 use borrow.Author.Needs.{needs}
 use Rattle.table.proofs.Whole.{new-size, new-key, new-codes, new-made}
 use Rattle.table.proofs.new.Statement.{statement}

@@ -1,8 +1,8 @@
 use mathlib.Core.Path.{refl}
 use borrow.Author.Needs.{needs}
+use Rattle.laws.proofs.TableBytes.{header-passes}
 use Rattle.bucket.specs.Calls.{recordsOf}
 use Rattle.asked.proofs.Questions.{refusal-none, refusal-some, passed-two}
-use Rattle.asked.proofs.Stored.{header-is-formed}
 use Rattle.table.proofs.Whole.{take-refused, take-accepted}
 use Rattle.table.proofs.take_applied_pending.Statement.{statement}
 use Rattle.table.proofs.take_applied_pending.Tie as tie
@@ -24,7 +24,7 @@ take-record-requires c κs =
     let i = e .before in
     let s = i .before .before .before .args .s .now in
     let p = passed-two s (refusal-none _ (i .asked-storage .ensures) (e .if1 .left)) in
-    (p .size, header-is-formed s (p .formed))
+    (p .size, header-passes s (p .formed))
 
 same-length-2 : tie.Need-same-length-2
 same-length-2 c = search needs

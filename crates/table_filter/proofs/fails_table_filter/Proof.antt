@@ -3,7 +3,7 @@ use mathlib.Core.Path.{_≡_, refl, sym}
 use Prim.Native.Nat.{_+_, _-_, _≤_, _<_}
 use native.Mathlib.Omega.{arith}
 use lib.ListN.{length}
-use Rattle.model.specs.Filter.{counted, tableLimit}
+use Rattle.model.specs.Filter.{counted, maxNodesPerSubnetTable}
 use Rattle.model.specs.Bucket.{nodes}
 use Rattle.model.specs.Table.{numBuckets, heldNodes}
 use Rattle.model.specs.Layout.{tableOf}
@@ -14,7 +14,7 @@ use Rattle.table_filter.proofs.fails_table_filter.Tie as tie
 
 abbrev Inv-loop : tie.InvT-loop
 Inv-loop s value n₀ i₀ n i =
-    (i ≤ numBuckets) × ((n < tableLimit) × (n ≡ length (counted (valueOf value) (heldNodes i (tableOf s .buckets)))))
+    (i ≤ numBuckets) × ((n < maxNodesPerSubnetTable) × (n ≡ length (counted (valueOf value) (heldNodes i (tableOf s .buckets)))))
 
 abbrev μ-loop : tie.MeasureT-loop
 μ-loop s value n₀ i₀ n i = numBuckets - i
@@ -22,7 +22,7 @@ abbrev μ-loop : tie.MeasureT-loop
 returns : tie.Need-returns Inv-loop μ-loop
 returns c =
     let a = c .before .before .before .args in
-    sym (filter-no-address tableLimit (valueOf (a .value)) _ (no-address (a .value) (c .if1 .taken)))
+    sym (filter-no-address maxNodesPerSubnetTable (valueOf (a .value)) _ (no-address (a .value) (c .if1 .taken)))
 
 loop-holds : tie.Need-loop-holds Inv-loop μ-loop
 unfolding heldNodes
@@ -52,7 +52,7 @@ returns-2 c =
     let more = counted-bucket v bs (l .loop .i) in
     let all = counted-mono v bs (l .loop .i + 1) numBuckets (omega arith) in
     let here : c .before .counted .result ≡ length (counted v (nodes (bs (l .loop .i)))) = rw table-bucket (c .before .counted .ensures .0) in
-    sym (filter-fails tableLimit v (heldNodes numBuckets bs) (has-address (a .value) (l .before .if1 .left)) (omega arith))
+    sym (filter-fails maxNodesPerSubnetTable v (heldNodes numBuckets bs) (has-address (a .value) (l .before .if1 .left)) (omega arith))
 
 add-i : tie.Need-add-i Inv-loop μ-loop
 add-i c = search needs
@@ -76,8 +76,8 @@ returns-3 c =
     let a = l .before .before .before .before .args in
     let v = valueOf (a .value) in
     let e : l .loop .i ≡ numBuckets = omega arith in
-    let k : length (counted v (heldNodes numBuckets (tableOf (a .s .now) .buckets))) < tableLimit = rw (← e, ← l .loop .inv .1 .1) (omega arith) in
-    sym (filter-passes tableLimit v _ (has-address (a .value) (l .before .if1 .left)) k)
+    let k : length (counted v (heldNodes numBuckets (tableOf (a .s .now) .buckets))) < maxNodesPerSubnetTable = rw (← e, ← l .loop .inv .1 .1) (omega arith) in
+    sym (filter-passes maxNodesPerSubnetTable v _ (has-address (a .value) (l .before .if1 .left)) k)
 
 pub fails-table-filter-spec : {M : Type 1} → statement M
 fails-table-filter-spec =

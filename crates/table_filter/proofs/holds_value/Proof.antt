@@ -13,7 +13,7 @@ use Rattle.model.specs.Sizes.{bucketSize}
 use Rattle.key.specs.Key.{num}
 use Rattle.formed.specs.Tests.{nodeAt}
 use Rattle.formed.proofs.Places.{place-node}
-use Rattle.table_filter.proofs.Held.{find-more, find-first, lookup-at, value-at, key-at}
+use Rattle.table_filter.proofs.Held.{find-more, find-first, get-at, value-at, key-at}
 use Rattle.table_filter.proofs.holds_value.Statement.{statement}
 use Rattle.table_filter.proofs.holds_value.Tie as tie
 
@@ -65,7 +65,7 @@ returns c =
     let j = l .loop .j in
     let e : same (nodeAt bs j .key) (num (a .key)) ≡ true = rw (place-node (a .s .now) (a .at) j (omega arith), key-at) (cc) in
     rw (
-      lookup-at,
+      get-at,
       find-first (num (a .key)) (nodeAt bs) j (l .loop .inv .1) e (getD (a .s .now) (a .at) 0) (omega arith),
       place-node (a .s .now) (a .at) j (omega arith),
       value-at,
@@ -91,7 +91,7 @@ returns-2 c =
     let l = c .before in
     let a = l .before .before .before .args in
     let e : l .loop .j ≡ getD (a .s .now) (a .at) 0 = omega arith in
-    rw (lookup-at, ← e, l .loop .inv .1)
+    rw (get-at, ← e, l .loop .inv .1)
 
 pub holds-value-spec : {M : Type 1} → statement M
 holds-value-spec =

@@ -12,10 +12,11 @@ use Rattle.model.specs.Table.{Answer, failsTableFilter, insertOrUpdateIn, index
 use Rattle.model.specs.Layout.{tableOf}
 use Rattle.model.specs.Call.{ValueArgument, valueOf, isOne}
 use Rattle.model.specs.Question.{valueInRange}
-use Rattle.laws.proofs.Tests.{and-left, and-right}
+use Rattle.laws.proofs.Tests.{and-turned}
+use Rattle.node.specs.Node.{argumentOf}
 use Rattle.bucket.specs.Bucket.{bucketOf}
 use Rattle.bucket.specs.Calls.{recordsOf}
-use Rattle.asked.specs.Answers.{failedOfFive, refusal, roomFor, argumentOf}
+use Rattle.asked.specs.Answers.{failedOfFive, refusal, roomFor}
 use Rattle.asked.proofs.Questions.{refusal-none, refusal-some, passed-five}
 use Rattle.asked.proofs.OneKey.{refused-early, answers-self, answers-in, in-refused, in-done}
 use Rattle.asked.proofs.Steps.{index-told, key-length, ready, timely, stepped}
@@ -57,10 +58,6 @@ module _ (i : tie.After-asked-at) where
   told-five : failedOfFive key codes (some time) s ≡ refusal (i .asked-at .result)
   told-five = ap (λ (b : Bool). failedOfFive key (b && (leb state 1 && leb direction 1)) (some time) s) (sym (i .before .before .in-range .ensures)) ∙ i .asked-at .ensures
 
--- the three codes in another order
-turned : (a b c : Bool) → (a && (b && c)) ≡ true → (b && (c && a)) ≡ true
-turned a b c e = let f = and-right a (b && c) e in rw (and-left b c f, and-right b c f, and-left a (b && c) e)
-
 module _ (e : tie.Else1) where
   passes : failedOfFive (key (e .before)) (codes (e .before)) (some (time (e .before))) (s (e .before)) ≡ none
   passes = refusal-none _ (told-five (e .before)) (e .if1 .left)
@@ -68,7 +65,7 @@ module _ (e : tie.Else1) where
   known-codes : (leb (state (e .before)) 1 && (leb (direction (e .before)) 1 && valueInRange (value (e .before)))) ≡ true
   known-codes =
       let i = e .before in
-      turned (valueInRange (value i)) (leb (state i) 1) (leb (direction i) 1) (passed-five (s i) (key i) (codes i) (some (time i)) passes .in-range)
+      and-turned (valueInRange (value i)) (leb (state i) 1) (leb (direction i) 1) (passed-five (s i) (key i) (codes i) (some (time i)) passes .in-range)
 
 in-range-requires : tie.Need-in-range-requires
 in-range-requires c κs = search needs

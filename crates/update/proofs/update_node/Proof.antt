@@ -13,9 +13,10 @@ use Rattle.model.specs.Layout.{tableOf}
 use Rattle.model.specs.Call.{ValueArgument, valueOf, optional}
 use Rattle.model.specs.Question.{valueInRange}
 use Rattle.laws.proofs.Tests.{and-left, and-right}
+use Rattle.node.specs.Node.{argumentOf}
 use Rattle.bucket.specs.Bucket.{bucketOf}
 use Rattle.bucket.specs.Calls.{recordsOf}
-use Rattle.asked.specs.Answers.{failedOfFive, refusal, roomFor, argumentOf}
+use Rattle.asked.specs.Answers.{failedOfFive, refusal, roomFor}
 use Rattle.asked.proofs.Questions.{refusal-none, refusal-some, passed-five}
 use Rattle.asked.proofs.OneKey.{refused-early, answers-self, answers-in, in-refused, in-done}
 use Rattle.asked.proofs.Steps.{index-told, key-length, ready, timely, stepped}

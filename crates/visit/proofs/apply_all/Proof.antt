@@ -4,7 +4,7 @@ use native.Mathlib.Omega.{arith}
 use lib.ListN.{length}
 use Rattle.model.specs.Layout.{tableOf}
 use Rattle.key.specs.Visits.{remaining}
-use Rattle.visit.proofs.Courses.{step-at, step-end}
+use Rattle.visit.proofs.Visitable.{step-at, step-end}
 use Rattle.visit.proofs.Passes.{not-zero, Visiting, visiting-starts, visiting-room, visiting-next, visiting-ends, visiting-full}
 use borrow.Author.Needs.{needs}
 use Rattle.visit.proofs.apply_all.Statement.{statement}

@@ -3,7 +3,7 @@ use native.Mathlib.Omega.{arith}
 use lib.ListN.{length}
 use Rattle.model.specs.Layout.{tableOf}
 use Rattle.key.specs.Visits.{remaining}
-use Rattle.visit.proofs.Courses.{step-at, step-end}
+use Rattle.visit.proofs.Visitable.{step-at, step-end}
 use Rattle.visit.proofs.Counts.{Counting, counting-starts, counting-next, counting-ends, counting-full}
 use borrow.Author.Needs.{needs}
 use Rattle.visit.proofs.count_records.Statement.{statement}

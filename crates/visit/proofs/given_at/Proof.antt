@@ -4,7 +4,7 @@ use mathlib.Core.List.{List, []}
 use native.Mathlib.Omega.{arith}
 use lib.ListN.{length}
 use Rattle.model.specs.Node.{AppliedPending}
-use Rattle.model.specs.Bucket.{Bucket, count, applyPending}
+use Rattle.model.specs.Bucket.{Bucket, numEntries, applyPending}
 use Rattle.model.specs.Layout.{tableOf}
 use Rattle.asked.proofs.Due.{not-due}
 use Rattle.bucket.proofs.Sound.{count-of}
@@ -27,7 +27,7 @@ returns c =
     let no : w .before .is-due .result ≡ false = not-true _ (w .if1 .taken) in
     let e : applyPending (t .settings .bucket) (a .time) (t .buckets (a .i)) ≡ (t .buckets (a .i), []) = not-due (t .settings .bucket) (a .time) (t .buckets (a .i)) (sym (w .before .is-due .ensures) ∙ no) in
     record {
-      count = c .held-at .ensures ∙ ap (λ (r : Bucket × List AppliedPending). count (r .0)) (sym e);
+      count = c .held-at .ensures ∙ ap (λ (r : Bucket × List AppliedPending). numEntries (r .0)) (sym e);
       records = ap (λ (r : Bucket × List AppliedPending). length (r .1)) (sym e);
       one = omega arith;
     }
@@ -42,7 +42,7 @@ returns-2 : tie.Need-returns-2
 returns-2 c =
     let x = c .before .before .apply-at .ensures in
     let b = c .before .before .apply-at .result .bucket in
-    record { count = count-of b (x .bucket .sound) ∙ ap count (x .bucket .bucket); records = c .count-of .ensures .0 ∙ ap length (x .records); one = c .count-of .ensures .1 }
+    record { count = count-of b (x .bucket .sound) ∙ ap numEntries (x .bucket .bucket); records = c .count-of .ensures .0 ∙ ap length (x .records); one = c .count-of .ensures .1 }
 
 pub given-at-spec : {M : Type 1} → statement M
 given-at-spec =

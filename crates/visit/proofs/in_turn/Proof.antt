@@ -1,6 +1,6 @@
 use Rattle.key.specs.Key.{num}
 use Rattle.model.specs.Visit.{setsDown}
-use Rattle.visit.proofs.Courses.{in-turn-is}
+use Rattle.visit.proofs.Visitable.{in-turn-is}
 use Rattle.visit.proofs.in_turn.Statement.{statement}
 use Rattle.visit.proofs.in_turn.Tie as tie
 

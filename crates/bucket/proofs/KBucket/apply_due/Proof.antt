@@ -73,7 +73,7 @@ returns-3 c =
     let e1 = e2 .before .before in
     done-apply s x (rules.placed n m) (record { inserted = n .key; evicted = none } ∷ []) (c .placed .result)
     (due-placed s now n m absent (sym (e1 .before .fails-filter .ensures) ∙ e1 .if1 .left) (sym (e2 .before .is-max-incoming .ensures) ∙ e2 .if2 .left)
-    (subst (λ (k : ℕ). k < rules.maxNodes) (count-of b (o .pre .0)) (c .before .if3 .taken)))
+    (subst (λ (k : ℕ). k < rules.maxNodesPerBucket) (count-of b (o .pre .0)) (c .before .if3 .taken)))
     (c .placed .ensures) refl
 
 -- src/lib.rt:379:13
@@ -92,7 +92,7 @@ returns-4 c =
     let e1 = e2 .before .before in
     done-apply s x m [] b
     (due-connected s now n m absent (sym (e1 .before .fails-filter .ensures) ∙ e1 .if1 .left) (sym (e2 .before .is-max-incoming .ensures) ∙ e2 .if2 .left)
-    (subst (λ (k : ℕ). rules.maxNodes ≤ k) (count-of b (o .pre .0)) (e3 .if3 .left)) (none-disconnected b (o .pre .0) (c .if4 .taken)))
+    (subst (λ (k : ℕ). rules.maxNodesPerBucket ≤ k) (count-of b (o .pre .0)) (e3 .if3 .left)) (none-disconnected b (o .pre .0) (c .if4 .taken)))
     (becomes-itself b (o .pre .0)) refl
 
 evict-requires : tie.Need-evict-requires
@@ -120,7 +120,7 @@ returns-5 c =
     let rest = some-disconnected b (o .pre .0) (omega (arith, e4 .if4 .left)) in
     by-apply s x (rules.placed n (rules.takeOut (d .key) m)) (record { inserted = n .key; evicted = some d } ∷ []) _ _
     (due-evicts s now n m absent (sym (e1 .before .fails-filter .ensures) ∙ e1 .if1 .left) (sym (e2 .before .is-max-incoming .ensures) ∙ e2 .if2 .left)
-    (subst (λ (k : ℕ). rules.maxNodes ≤ k) (count-of b (o .pre .0)) (e3 .if3 .left)) d (rest .0) (rest .1) (o .pre .1 .1 .1 .0) (formed-of b (o .pre .0) .different))
+    (subst (λ (k : ℕ). rules.maxNodesPerBucket ≤ k) (count-of b (o .pre .0)) (e3 .if3 .left)) d (rest .0) (rest .1) (o .pre .1 .1 .1 .0) (formed-of b (o .pre .0) .different))
     (c .evict .ensures)
 
 pub apply-due-spec : {M : Type 1} → statement M

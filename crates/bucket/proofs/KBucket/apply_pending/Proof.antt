@@ -6,7 +6,7 @@ use Rattle.model.specs.Node as model
 use Rattle.model.specs.Bucket as rules
 use Rattle.model.specs.Question.{firstFailed}
 use Rattle.bucket.specs.Bucket.{bucketOf, settingsOf}
-use Rattle.bucket.specs.Calls.{refusal, questions, timely, applyPendingCall}
+use Rattle.bucket.specs.Calls.{refusalNumber, questions, timely, applyPendingCall}
 use Rattle.bucket.proofs.Entry.{refused, accepted}
 use Rattle.bucket.proofs.KBucket.apply_pending.Statement.{statement}
 use Rattle.bucket.proofs.KBucket.apply_pending.Tie as tie

@@ -5,6 +5,7 @@ use native.Mathlib.Omega.{arith}
 use Rattle.model.specs.Bucket as rules
 use Rattle.model.specs.Node as model
 use Rattle.key.specs.Key.{num}
+use Rattle.laws.proofs.Applied.{apply-none}
 use Rattle.node.specs.declared.Node.{Node}
 use Rattle.node.specs.Node.{nodeOf}
 use Rattle.bucket.specs.Bucket.{pendingOf, bucketOf, settingsOf, Becomes}
@@ -14,7 +15,7 @@ use Rattle.node.proofs.Stored.{stored-codes}
 use Rattle.bucket.specs.declared.KBucket.{KBucket}
 use Rattle.bucket.proofs.Sound.{becomes-itself}
 use Rattle.bucket.proofs.Steps.{done-apply, told, then-becomes, pending-becomes}
-use Rattle.bucket.proofs.Rules.{apply-none, apply-later, apply-due}
+use Rattle.bucket.proofs.Rules.{apply-later, apply-due}
 use Rattle.bucket.proofs.Answers.{pending-stored, pending-apart}
 use borrow.Author.Needs.{needs}
 use Rattle.bucket.proofs.KBucket.apply_pending_sound.Statement.{statement}

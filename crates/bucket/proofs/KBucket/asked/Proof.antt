@@ -2,7 +2,7 @@ use borrow.Author.Needs.{needs}
 use mathlib.Core.Path.{refl, sym, ap, _∙_}
 use mathlib.Core.List.{[]}
 use borrow.Author.Tests.{not-true, not-false}
-use Rattle.bucket.specs.Calls.{refusal}
+use Rattle.bucket.specs.Calls.{refusalNumber}
 use Rattle.bucket.proofs.Entry.{asked-sound, asked-codes, asked-rest, not-none}
 use Rattle.bucket.proofs.KBucket.asked.Statement.{statement}
 use Rattle.bucket.proofs.KBucket.asked.Tie as tie
@@ -16,7 +16,7 @@ returns : tie.Need-returns
 returns c =
     let i = c .before in
     let a = i .before .args in
-    (sym (ap refusal (asked-sound (a .self) (a .codes) [] (sym (i .is-sound .ensures .0) ∙ not-true _ (c .if1 .taken)))), (λ e. not-none 2 refl e))
+    (sym (ap refusalNumber (asked-sound (a .self) (a .codes) [] (sym (i .is-sound .ensures .0) ∙ not-true _ (c .if1 .taken)))), (λ e. not-none 2 refl e))
 
 -- src/lib.rt:739:13
 returns-2 : tie.Need-returns-2
@@ -24,7 +24,7 @@ returns-2 c =
     let e1 = c .before in
     let i = e1 .before in
     let a = i .before .args in
-    (sym (ap refusal (asked-codes (a .self) (a .codes) [] (sym (i .is-sound .ensures .0) ∙ not-false _ (e1 .if1 .left)) (not-true _ (c .if2 .taken)))), (λ e. not-none 4 refl e))
+    (sym (ap refusalNumber (asked-codes (a .self) (a .codes) [] (sym (i .is-sound .ensures .0) ∙ not-false _ (e1 .if1 .left)) (not-true _ (c .if2 .taken)))), (λ e. not-none 4 refl e))
 
 -- src/lib.rt:731:5
 returns-3 : tie.Need-returns-3
@@ -35,7 +35,7 @@ returns-3 c =
     let t = not-false _ (e1 .if1 .left) in
     let codes = not-false _ (c .if2 .left) in
     let none = asked-rest (a .self) (a .codes) [] (sym (i .is-sound .ensures .0) ∙ t) codes in
-    (sym (ap refusal none), (λ e. (i .is-sound .ensures .1 t, codes, none)))
+    (sym (ap refusalNumber none), (λ e. (i .is-sound .ensures .1 t, codes, none)))
 
 pub asked-spec : {M : Type 1} → statement M
 asked-spec = tie.close (tie.spec is-sound-requires returns returns-2 returns-3)

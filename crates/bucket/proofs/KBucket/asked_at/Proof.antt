@@ -1,7 +1,7 @@
 use borrow.Author.Needs.{needs}
 use mathlib.Core.Path.{refl, sym, ap, _∙_}
 use borrow.Author.Tests.{not-true, not-false}
-use Rattle.bucket.specs.Calls.{refusal, timely}
+use Rattle.bucket.specs.Calls.{refusalNumber, timely}
 use native.Mathlib.Omega.{arith}
 use Prim.Native.Nat.{_+_, _<_, _^_}
 use Rattle.bucket.proofs.Entry.{asked-sound, asked-codes, asked-rest, asked-late, asked-timely, not-none}
@@ -24,7 +24,7 @@ returns : tie.Need-returns
 returns c =
     let i = c .before in
     let a = i .before .args in
-    (sym (ap refusal (asked-sound (a .self) (a .codes) (timely (a .self) (a .now)) (sym (i .is-sound .ensures .0) ∙ not-true _ (c .if1 .taken)))), (λ e. not-none 2 refl e))
+    (sym (ap refusalNumber (asked-sound (a .self) (a .codes) (timely (a .self) (a .now)) (sym (i .is-sound .ensures .0) ∙ not-true _ (c .if1 .taken)))), (λ e. not-none 2 refl e))
 
 -- src/lib.rt:753:13
 returns-2 : tie.Need-returns-2
@@ -32,7 +32,7 @@ returns-2 c =
     let e1 = c .before in
     let i = e1 .before in
     let a = i .before .args in (
-      sym (ap refusal (asked-codes (a .self) (a .codes) (timely (a .self) (a .now)) (sym (i .is-sound .ensures .0) ∙ not-false _ (e1 .if1 .left)) (not-true _ (c .if2 .taken)))),
+      sym (ap refusalNumber (asked-codes (a .self) (a .codes) (timely (a .self) (a .now)) (sym (i .is-sound .ensures .0) ∙ not-false _ (e1 .if1 .left)) (not-true _ (c .if2 .taken)))),
       (λ e. not-none 4 refl e),
     )
 
@@ -48,7 +48,7 @@ returns-3 c =
     let i = e1 .before in
     let a = i .before .args in (
       sym
-          (ap refusal
+          (ap refusalNumber
           (asked-rest (a .self) (a .codes) (timely (a .self) (a .now)) (sym (i .is-sound .ensures .0) ∙ not-false _ (e1 .if1 .left)) (not-false _ (e2 .if2 .left))
           ∙ asked-late (a .self) (a .now) (short (c .before)) (c .if3 .taken))),
       (λ e. not-none 5 refl e),
@@ -66,7 +66,7 @@ returns-4 c =
     let none =
     asked-rest (a .self) (a .codes) (timely (a .self) (a .now)) (sym (i .is-sound .ensures .0) ∙ t) codes
     ∙ asked-timely (a .self) (a .now) (short (c .before)) (c .if3 .left) in
-    (sym (ap refusal none), (λ e. (i .is-sound .ensures .1 t, codes, fits c, none)))
+    (sym (ap refusalNumber none), (λ e. (i .is-sound .ensures .1 t, codes, fits c, none)))
 
 pub asked-at-spec : {M : Type 1} → statement M
 asked-at-spec =

@@ -2,7 +2,7 @@ use mathlib.Core.Path.{refl, sym, ap}
 use lib.ListN.{replicate}
 use borrow.Author.Tests.{le-leb}
 use Rattle.node.specs.declared.Node.{Node}
-use Rattle.node.proofs.Stored.{test-code}
+use Rattle.laws.proofs.NodeFormed.{flag-back}
 use Rattle.bucket.proofs.Stored.{same-parts}
 use borrow.Author.Needs.{needs}
 use Rattle.bucket.proofs.KBucket.empty.Statement.{statement}
@@ -16,7 +16,7 @@ zero-requires c κs = search needs
 returns : tie.Need-returns
 returns c =
     let o = c .before in
-    same-parts (ap (λ (n : Node). replicate 16 n) (c .zero .ensures)) refl refl refl refl refl (sym (test-code (o .args .filter) (le-leb (o .args .filter) 1 (o .pre))))
+    same-parts (ap (λ (n : Node). replicate 16 n) (c .zero .ensures)) refl refl refl refl refl (sym (flag-back (o .args .filter) (le-leb (o .args .filter) 1 (o .pre))))
 
 pub empty-spec : {M : Type 1} → statement M
 empty-spec = tie.close (tie.spec zero-requires returns)

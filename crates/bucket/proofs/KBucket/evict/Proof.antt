@@ -32,7 +32,7 @@ placed-requires c κs =
     let n = nodeOf (o .args .node) in
     let fewer = count-takeOut-held k (bucketOf b) (holds-at b (o .pre .0) 0 (omega (arith, o .pre .1 .1 .0))) in
     let most = formed-of b (o .pre .0) .at-most in
-    let many = count-of (c .taken-out .result) (x .sound) ∙ ap rules.count (x .bucket) in (
+    let many = count-of (c .taken-out .result) (x .sound) ∙ ap rules.numEntries (x .bucket) in (
       x .sound,
       (
         omega arith,

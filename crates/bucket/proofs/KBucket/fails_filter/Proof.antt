@@ -1,3 +1,6 @@
+use mathlib.Core.Path.{sym}
+use Rattle.node.specs.Node.{valueOf}
+use Rattle.bucket.specs.Bucket.{bucketOf, settingsOf}
 use borrow.Author.Tests.{eq-eqb, ne-eqb}
 use Rattle.bucket.proofs.Steps.{filter-off, filter-on}
 use borrow.Author.Needs.{needs}
@@ -7,7 +10,7 @@ use Rattle.bucket.proofs.KBucket.fails_filter.Tie as tie
 returns : tie.Need-returns
 returns c =
     let o = c .before .before in
-    filter-off (o .args .self) (o .args .value) (ne-eqb _ _ (c .if1 .taken))
+    sym (filter-off (settingsOf (o .args .self)) (valueOf (o .args .value)) (bucketOf (o .args .self)) (ne-eqb _ _ (c .if1 .taken)))
 
 ip-filter-requires : tie.Need-ip-filter-requires
 ip-filter-requires c κs = search needs

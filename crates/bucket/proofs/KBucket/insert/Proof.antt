@@ -5,7 +5,7 @@ use Rattle.model.specs.Bucket as rules
 use Rattle.node.specs.Node.{nodeOf, nodeCodes}
 use Rattle.model.specs.Question.{firstFailed}
 use Rattle.bucket.specs.Bucket.{bucketOf, settingsOf}
-use Rattle.bucket.specs.Calls.{refusal, questions, timely, insertCall}
+use Rattle.bucket.specs.Calls.{refusalNumber, questions, timely, insertCall}
 use Rattle.bucket.proofs.Entry.{refused, accepted}
 use Rattle.bucket.proofs.KBucket.insert.Statement.{statement}
 use Rattle.bucket.proofs.KBucket.insert.Tie as tie
@@ -28,7 +28,7 @@ returns c =
     let s = settingsOf b in
     let m = bucketOf b in
     let x = rules.insert s (o .args .now) (nodeOf (o .args .node)) m in
-    refused b (firstFailed (questions b (nodeCodes (o .args .node)) (timely b (o .args .now)))) _ x (q .asked-at .ensures .0 ∙ ap (λ (t : Bool). refusal (firstFailed (questions b t (timely b (o .args .now))))) (q .before .in-range .ensures)) (c .if1 .taken)
+    refused b (firstFailed (questions b (nodeCodes (o .args .node)) (timely b (o .args .now)))) _ x (q .asked-at .ensures .0 ∙ ap (λ (t : Bool). refusalNumber (firstFailed (questions b t (timely b (o .args .now))))) (q .before .in-range .ensures)) (c .if1 .taken)
 
 -- src/lib.rt:773:13
 insert-sound-requires : tie.Need-insert-sound-requires

@@ -92,7 +92,7 @@ returns-4 c =
     let e2 = e3 .before .before in
     done s x BucketInsertResult.Inserted (rules.placed n m) (c .placed .result)
     (insert-placed s now n m (sym (hd .holds .ensures) ∙ e2 .before .before .if1 .left) (sym (e2 .before .fails-filter .ensures) ∙ e2 .if2 .left)
-    (sym (e3 .before .is-max-incoming .ensures) ∙ e3 .if3 .left) (subst (λ (k : ℕ). k < rules.maxNodes) (count-of b (o .pre .0)) (c .before .if4 .taken)))
+    (sym (e3 .before .is-max-incoming .ensures) ∙ e3 .if3 .left) (subst (λ (k : ℕ). k < rules.maxNodesPerBucket) (count-of b (o .pre .0)) (c .before .if4 .taken)))
     (c .placed .ensures)
 
 insert-full-requires : tie.Need-insert-full-requires
@@ -114,7 +114,7 @@ returns-5 c =
     let m = bucketOf b in
     let n = nodeOf (o .args .node) in
     let now = o .args .now in
-    let is-full : rules.maxNodes ≤ rules.count m = subst (λ (k : ℕ). rules.maxNodes ≤ k) (count-of b (o .pre .0)) (e4 .if4 .left) in
+    let is-full : rules.maxNodesPerBucket ≤ rules.numEntries m = subst (λ (k : ℕ). rules.maxNodesPerBucket ≤ k) (count-of b (o .pre .0)) (e4 .if4 .left) in
     by-rule s (rules.insert s now n m) (rules.insertFull s now n m (n .connected) (m .disconnected) (m .pending)) _ _
     (insert-full s now n m (sym (hd .holds .ensures) ∙ e2 .before .before .if1 .left) (sym (e2 .before .fails-filter .ensures) ∙ e2 .if2 .left)
     (sym (e3 .before .is-max-incoming .ensures) ∙ e3 .if3 .left) is-full)

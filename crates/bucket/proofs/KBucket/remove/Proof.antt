@@ -4,7 +4,7 @@ use Rattle.key.specs.Key.{num}
 use Rattle.model.specs.Bucket as rules
 use Rattle.model.specs.Question.{firstFailed}
 use Rattle.bucket.specs.Bucket.{bucketOf, settingsOf}
-use Rattle.bucket.specs.Calls.{refusal, questions, timely, removeCall}
+use Rattle.bucket.specs.Calls.{refusalNumber, questions, timely, removeCall}
 use Rattle.bucket.proofs.Entry.{refused, accepted}
 use Rattle.bucket.proofs.KBucket.remove.Statement.{statement}
 use Rattle.bucket.proofs.KBucket.remove.Tie as tie

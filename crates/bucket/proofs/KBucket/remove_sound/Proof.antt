@@ -1,57 +1,98 @@
-use mathlib.Core.Path.{_≡_, sym, ap, _∙_, subst}
+use mathlib.Core.Path.{_≡_, refl, sym, ap, _∙_, subst}
 use mathlib.Core.Bool.{true, false}
 use Prim.Native.Nat.{ℕ, _≤_, _<_}
 use native.Mathlib.Omega.{arith}
 use Rattle.model.specs.Bucket as rules
 use Rattle.key.specs.Key.{num}
-use Rattle.bucket.specs.Bucket.{heldOf, bucketOf, settingsOf, Becomes}
+use Rattle.bucket.specs.Bucket.{pendingOf, heldOf, bucketOf, settingsOf, Becomes}
+use Rattle.bucket.specs.declared.KBucket.{KBucket}
 use borrow.Author.Tests.{lt-ltb, le-ltb}
 use Rattle.places.specs.Places.{position}
 use Rattle.bucket.proofs.Sound.{becomes-itself}
 use Rattle.bucket.proofs.Steps.{done, then-becomes, found-at, holds-is}
-use Rattle.bucket.proofs.Rules.{remove-held, remove-absent}
+use Rattle.laws.proofs.Applied.{apply-none}
+use Rattle.bucket.proofs.Rules.{apply-later, remove-held, remove-absent}
 use borrow.Author.Needs.{needs}
 use Rattle.bucket.proofs.KBucket.remove_sound.Statement.{statement}
 use Rattle.bucket.proofs.KBucket.remove_sound.Tie as tie
 
--- src/lib.rt:613:13
+-- the node was taken out; what is left of a due pending to do
+module _ (t : tie.After-taken-out) where
+  abbrev start : tie.Start
+  start = t .before .before .before .before
+
+  abbrev key : ℕ
+  key = num (start .args .key)
+
+  abbrev model : rules.Bucket
+  model = bucketOf (start .args .self)
+
+  found : t .before .before .position .result ≡ position key (heldOf (start .args .self))
+  found = omega (arith, t .before .before .position .ensures)
+
+  rest : Becomes (settingsOf (start .args .self)) (rules.takeOut key model) (t .taken-out .result)
+  rest =
+      let b = start .args .self in
+      let f = found-at b (start .pre .0) key (t .before .before .position .result) found (t .before .if1 .taken) in
+      subst (λ (j : ℕ). Becomes (settingsOf b) (rules.takeOut j model) (t .taken-out .result)) f (t .taken-out .ensures)
+
+  left-pending : rules.takeOut key model .pending ≡ pendingOf (t .taken-out .result .pending)
+  left-pending = ap (λ (m : rules.Bucket). m .pending) (sym (rest .bucket))
+
+  removes : {m : rules.Bucket} {r : KBucket} → rules.applyPending (settingsOf (start .args .self)) (start .args .now) (rules.takeOut key model) .0 ≡ m
+      → Becomes (settingsOf (start .args .self)) m r
+      → let x = rules.remove (settingsOf (start .args .self)) (start .args .now) key model in (true ≡ x .0) × Becomes (settingsOf (start .args .self)) (x .1) r
+  removes {m} {r} e z =
+      let b = start .args .self in
+      let h : rules.holds key model ≡ true = sym (holds-is b (start .pre .0) key) ∙ lt-ltb _ _ (subst (λ (j : ℕ). j < b .count) found (t .before .if1 .taken)) in
+      done (settingsOf b) (rules.remove (settingsOf b) (start .args .now) key model) true m r
+      (remove-held (settingsOf b) (start .args .now) key model h ∙ ap (λ (x : rules.Bucket). (true, x)) e) z
+
 position-requires : tie.Need-position-requires
 position-requires c κs = search needs
 
--- src/lib.rt:615:13
 taken-out-requires : tie.Need-taken-out-requires
 taken-out-requires c κs = search needs
 
--- src/lib.rt:616:17
-apply-pending-sound-requires : tie.Need-apply-pending-sound-requires
-apply-pending-sound-requires c κs =
-    let o = c .before .before .before .before in
-    let x = c .taken-out .ensures in
-    let same-time = ap (λ (s : rules.BucketSettings). s .pendingTimeout) (x .settings) in
-    (x .sound, omega (arith, o .pre .1, same-time))
+enum-told : tie.Need-enum-told
+enum-told c = search needs
 
--- src/lib.rt:618:13
 returns : tie.Need-returns
 returns c =
     let t = c .before .before in
-    let i = t .before .before in
-    let o = i .before .before in
-    let b = o .args .self in
-    let s = settingsOf b in
-    let m = bucketOf b in
-    let k = num (o .args .key) in
-    let now = o .args .now in
-    let e : i .position .result ≡ position k (heldOf b) = omega (arith, i .position .ensures) in
-    let lt = t .before .if1 .taken in
-    let f = found-at b (o .pre .0) k (i .position .result) e lt in
-    let y = subst (λ (j : ℕ). Becomes s (rules.takeOut j m) (t .taken-out .result)) f (t .taken-out .ensures) in
-    let h : rules.holds k m ≡ true = sym (holds-is b (o .pre .0) k) ∙ lt-ltb _ _ (subst (λ (j : ℕ). j < b .count) e lt) in
-    done s (rules.remove s now k m) true (rules.applyPending s now (rules.takeOut k m) .0) (c .before .apply-pending-sound .result .bucket) (remove-held s now k m h)
-    (then-becomes y (λ (s' : rules.BucketSettings) (m' : rules.Bucket). rules.applyPending s' now m' .0) (c .before .apply-pending-sound .ensures .1 .0))
+    removes t
+    (ap (λ x. x .0)
+    (apply-none (settingsOf (start t .args .self)) (start t .args .now) (rules.takeOut (key t) (model t)) (left-pending t ∙ ap pendingOf (c .enum-told .given .1))))
+    (rest t)
 
--- src/lib.rt:605:5
+enum-known-p : tie.Need-enum-known-p
+enum-known-p c = search needs
+
+apply-pending-sound-requires : tie.Need-apply-pending-sound-requires
+apply-pending-sound-requires c κs =
+    let t = c .before .before .before .before in
+    let x = t .taken-out .ensures in
+    let same-time = ap (λ (s : rules.BucketSettings). s .pendingTimeout) (x .settings) in
+    (x .sound, omega (arith, start t .pre .1, same-time))
+
 returns-2 : tie.Need-returns-2
 returns-2 c =
+    let a = c .before in
+    let t = a .before .before .before .before .before in
+    removes t refl
+    (then-becomes (rest t) (λ (s' : rules.BucketSettings) (m' : rules.Bucket). rules.applyPending s' (start t .args .now) m' .0) (a .apply-pending-sound .ensures .1 .0))
+
+returns-3 : tie.Need-returns-3
+returns-3 c =
+    let q = c .before .before in
+    let t = q .before .before in
+    removes t
+    (ap (λ x. x .0)
+    (apply-later (settingsOf (start t .args .self)) (start t .args .now) (rules.takeOut (key t) (model t)) _ (left-pending t ∙ ap pendingOf (q .p .given .1)) (c .if2 .left)))
+    (rest t)
+
+returns-4 : tie.Need-returns-4
+returns-4 c =
     let i = c .before in
     let o = i .before .before in
     let b = o .args .self in
@@ -65,4 +106,13 @@ returns-2 c =
 pub remove-sound-spec : {M : Type 1} → statement M
 remove-sound-spec =
     tie.close
-    (tie.spec position-requires taken-out-requires apply-pending-sound-requires returns returns-2)
+    (tie.spec
+    position-requires
+    taken-out-requires
+    enum-told
+    returns
+    enum-known-p
+    apply-pending-sound-requires
+    returns-2
+    returns-3
+    returns-4)

@@ -16,7 +16,7 @@ use Rattle.laws.proofs.KeepFormed.{count-takeOut-held, takeOut-without}
 use Rattle.node.specs.Node.{nodeCodes}
 use Rattle.node.proofs.Stored.{nodeOf-restated, stored-restated, codes-stored}
 use Rattle.bucket.proofs.Sound.{count-of, formed-of}
-use Rattle.bucket.proofs.Steps.{done, unpended, then-becomes, told, first-at, lookup-at, holds-at, stored-at, filter-told, maximum-told, placed-told}
+use Rattle.bucket.proofs.Steps.{done, unpended, then-becomes, told, first-at, get-at, holds-at, stored-at, filter-told, maximum-told, placed-told}
 use Rattle.bucket.proofs.Rules.{reinsert-filter, reinsert-many, reinsert-placed, status-held}
 use borrow.Author.Needs.{needs}
 use Rattle.bucket.proofs.KBucket.status_at.Statement.{statement}
@@ -37,8 +37,7 @@ module _ (c : tie.After-without-pending) where
   left =
       let o = start c in
       let b = o .args .t1 in
-      let k = keyAt b (o .args .pos) in
-      rules.withPending (cond (isOne (o .args .state) && rules.isFirst k (rules.nodes (bucketOf b))) none (bucketOf b .pending)) (rules.takeOut k (bucketOf b))
+      rules.takenOut (keyAt b (o .args .pos)) (isOne (o .args .state)) (bucketOf b)
 
   abbrev step : UpdateResult × rules.Bucket
   step =
@@ -76,7 +75,7 @@ module _ (c : tie.After-without-pending) where
       let o = start c in
       let b = o .args .t1 in
       status-held (settingsOf b) (keyAt b (o .args .pos)) (isOne (o .args .state)) (optional (o .args .direction)) (bucketOf b) (nodeOf (getD (b .nodes) (o .args .pos) zeroNode)) f m
-      (lookup-at b (o .pre .0) (o .args .pos) (o .pre .1 .0)) e
+      (get-at b (o .pre .0) (o .args .pos) (o .pre .1 .0)) e
 
 -- src/lib.rt:427:19
 mul-old : tie.Need-mul-old
@@ -134,7 +133,7 @@ placed-requires c κs =
     let x = third w in
     let fewer = count-takeOut-held k (bucketOf b) (holds-at b (o .pre .0) (o .args .pos) (o .pre .1 .0)) in
     let most = formed-of b (o .pre .0) .at-most in
-    let many = count-of (w .without-pending .result) (x .sound) ∙ ap rules.count (x .bucket) in (
+    let many = count-of (w .without-pending .result) (x .sound) ∙ ap rules.numEntries (x .bucket) in (
       x .sound,
       (
         omega arith,

@@ -9,7 +9,7 @@ use Rattle.laws.proofs.Tests.{and-left, and-right}
 use Rattle.model.specs.Bucket as rules
 use Rattle.model.specs.Question.{firstFailed}
 use Rattle.bucket.specs.Bucket.{bucketOf, settingsOf}
-use Rattle.bucket.specs.Calls.{refusal, questions, updatePendingCall}
+use Rattle.bucket.specs.Calls.{refusalNumber, questions, updatePendingCall}
 use Rattle.bucket.proofs.Entry.{refused, accepted}
 use Rattle.bucket.proofs.KBucket.update_pending.Statement.{statement}
 use Rattle.bucket.proofs.KBucket.update_pending.Tie as tie

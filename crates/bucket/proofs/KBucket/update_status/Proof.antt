@@ -9,7 +9,7 @@ use Rattle.key.specs.Key.{num}
 use Rattle.model.specs.Bucket as rules
 use Rattle.model.specs.Question.{firstFailed}
 use Rattle.bucket.specs.Bucket.{bucketOf, settingsOf}
-use Rattle.bucket.specs.Calls.{refusal, questions, updateStatusCall}
+use Rattle.bucket.specs.Calls.{refusalNumber, questions, updateStatusCall}
 use Rattle.bucket.proofs.Entry.{refused, accepted}
 use Rattle.bucket.proofs.KBucket.update_status.Statement.{statement}
 use Rattle.bucket.proofs.KBucket.update_status.Tie as tie

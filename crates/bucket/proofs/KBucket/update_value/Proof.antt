@@ -7,7 +7,7 @@ use Rattle.node.specs.Node.{valueOf, valueCodes}
 use Rattle.model.specs.Bucket as rules
 use Rattle.model.specs.Question.{firstFailed}
 use Rattle.bucket.specs.Bucket.{bucketOf, settingsOf}
-use Rattle.bucket.specs.Calls.{refusal, questions, updateValueCall}
+use Rattle.bucket.specs.Calls.{refusalNumber, questions, updateValueCall}
 use Rattle.bucket.proofs.Entry.{refused, accepted}
 use Rattle.bucket.proofs.KBucket.update_value.Statement.{statement}
 use Rattle.bucket.proofs.KBucket.update_value.Tie as tie
@@ -30,7 +30,7 @@ returns c =
     let s = settingsOf b in
     let m = bucketOf b in
     let x = rules.updateValue s (num (o .args .key)) (valueOf (o .args .value)) m in
-    refused b (firstFailed (questions b (valueCodes (o .args .value)) [])) _ x (q .asked .ensures .0 ∙ ap (λ (t : Bool). refusal (firstFailed (questions b t []))) (q .before .in-range .ensures)) (c .if1 .taken)
+    refused b (firstFailed (questions b (valueCodes (o .args .value)) [])) _ x (q .asked .ensures .0 ∙ ap (λ (t : Bool). refusalNumber (firstFailed (questions b t []))) (q .before .in-range .ensures)) (c .if1 .taken)
 
 -- src/lib.rt:834:13
 update-value-sound-requires : tie.Need-update-value-sound-requires

@@ -1,16 +1,34 @@
-use mathlib.Core.Path.{sym, ap, _∙_, subst}
+use mathlib.Core.Path.{_≡_, sym, ap, _∙_, subst}
+use mathlib.Core.Bool.{false}
+use mathlib.Core.Logic.{⊎-elim}
+use borrow.Author.Tests.{ne-eqb}
 use lib.ListN.{getD}
 use Rattle.model.specs.Bucket as rules
 use Rattle.model.specs.Result.{FailureReason, UpdateResult}
 use Rattle.node.specs.Node.{valueOf, nodeOf, zeroNode}
 use Rattle.bucket.specs.Bucket.{bucketOf, settingsOf, keyAt}
-use Rattle.laws.proofs.KeepFormed.{Formed, updateValue-formed}
+use Rattle.model.specs.Fits.{Formed}
+use Rattle.laws.proofs.KeepFormed.{updateValue-formed}
 use Rattle.bucket.proofs.Sound.{becomes-itself, formed-of}
-use Rattle.bucket.proofs.Steps.{done, told, lookup-at, changed, revalued-becomes}
+use Rattle.bucket.proofs.Steps.{done, told, filter-off, get-at, changed, revalued-becomes}
 use Rattle.bucket.proofs.Rules.{value-same, value-fails, value-changes}
 use borrow.Author.Needs.{needs}
 use Rattle.bucket.proofs.KBucket.value_at.Statement.{statement}
 use Rattle.bucket.proofs.KBucket.value_at.Tie as tie
+
+-- the filter is off, or it was tested without the node
+passes : (c : tie.Joined2)
+    → let o = c .before .before .before .before in
+    let b = o .args .t1 in
+    rules.failsBucketFilter (settingsOf b) (valueOf (o .args .value)) (rules.takeOut (keyAt b (o .args .pos)) (bucketOf b)) ≡ false
+passes c =
+    let o = c .before .before .before .before in
+    let b = o .args .t1 in
+    let v = valueOf (o .args .value) in
+    ⊎-elim
+    (λ x. sym (told (x .1 .ensures) (λ (s : rules.BucketSettings) (m : rules.Bucket). rules.failsBucketFilter s v m)) ∙ sym (x .2 .ensures) ∙ x .3 .left)
+    (λ x. filter-off (settingsOf b) v (rules.takeOut (keyAt b (o .args .pos)) (bucketOf b)) (ne-eqb _ _ (x .left)))
+    (c .if2 .came)
 
 -- src/lib.rt:517:19
 mul-old : tie.Need-mul-old
@@ -34,7 +52,7 @@ returns c =
     let k = keyAt b (o .args .pos) in
     let v = valueOf (o .args .value) in
     let old = nodeOf (getD (b .nodes) (o .args .pos) zeroNode) in
-    let at = lookup-at b (o .pre .0) (o .args .pos) (o .pre .1 .0) in
+    let at = get-at b (o .pre .0) (o .args .pos) (o .pre .1 .0) in
     let x = rules.updateValue s k v m in
     done s x UpdateResult.NotModified m b (value-same s k v m old at (sym (c .before .eq .ensures) ∙ c .if1 .taken)) (becomes-itself b (o .pre .0))
 
@@ -49,21 +67,21 @@ fails-filter-requires c κs = search needs
 -- src/lib.rt:526:13
 returns-2 : tie.Need-returns-2
 returns-2 c =
-    let o = c .before .before .before .before .before .before in
+    let o = c .before .before .before .before .before .before .before in
     let b = o .args .t1 in
     let s = settingsOf b in
     let m = bucketOf b in
     let k = keyAt b (o .args .pos) in
     let v = valueOf (o .args .value) in
     let old = nodeOf (getD (b .nodes) (o .args .pos) zeroNode) in
-    let at = lookup-at b (o .pre .0) (o .args .pos) (o .pre .1 .0) in
+    let at = get-at b (o .pre .0) (o .args .pos) (o .pre .1 .0) in
     let x = rules.updateValue s k v m in
     let t = c .before .before in
-    let e1 = t .before in
+    let e1 = t .before .before in
     let y = t .taken-out .ensures in
     done s x (UpdateResult.Failed FailureReason.BucketFilter) (rules.takeOut k m) (t .taken-out .result)
     (value-fails s k v m old at (sym (e1 .before .eq .ensures) ∙ e1 .if1 .left)
-    (sym (told y (λ (s' : rules.BucketSettings) (m' : rules.Bucket). rules.failsBucketFilter s' v m')) ∙ sym (c .before .fails-filter .ensures) ∙ c .if2 .taken))
+    (sym (told y (λ (s' : rules.BucketSettings) (m' : rules.Bucket). rules.failsBucketFilter s' v m')) ∙ sym (c .before .fails-filter .ensures) ∙ c .if3 .taken))
     y
 
 -- src/lib.rt:531:13
@@ -81,22 +99,17 @@ element-set-from-node c = search needs
 -- src/lib.rt:510:5
 returns-3 : tie.Need-returns-3
 returns-3 c =
-    let o = c .before .before .before .before .before .before .before in
+    let e1 = c .before .before in
+    let o = e1 .before .before .before in
     let b = o .args .t1 in
     let s = settingsOf b in
     let m = bucketOf b in
     let k = keyAt b (o .args .pos) in
     let v = valueOf (o .args .value) in
     let old = nodeOf (getD (b .nodes) (o .args .pos) zeroNode) in
-    let at = lookup-at b (o .pre .0) (o .args .pos) (o .pre .1 .0) in
+    let at = get-at b (o .pre .0) (o .args .pos) (o .pre .1 .0) in
     let x = rules.updateValue s k v m in
-    let e2 = c .before in
-    let t = e2 .before .before in
-    let e1 = t .before in
-    let y = t .taken-out .ensures in
-    let e =
-    value-changes s k v m old at (sym (e1 .before .eq .ensures) ∙ e1 .if1 .left)
-    (sym (told y (λ (s' : rules.BucketSettings) (m' : rules.Bucket). rules.failsBucketFilter s' v m')) ∙ sym (e2 .before .fails-filter .ensures) ∙ e2 .if2 .left) in
+    let e = value-changes s k v m old at (sym (e1 .before .eq .ensures) ∙ e1 .if1 .left) (passes (c .before)) in
     let new = c .with-value .ensures in
     let z = changed b (o .pre .0) (o .args .pos) (o .pre .1 .0) (o .args .value) (o .pre .1 .1) (c .with-value .result) new in
     done s x UpdateResult.Updated z _ e

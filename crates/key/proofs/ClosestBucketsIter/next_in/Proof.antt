@@ -1,11 +1,10 @@
 use mathlib.Core.Path.{_≡_, refl, sym, ap, _∙_}
-use Prim.Native.Nat.{_-_}
 use native.Mathlib.Omega.{arith}
 use borrow.Author.Needs.{needs}
+use Rattle.model.specs.Base.{first}
 use Rattle.model.specs.Visit.{setsDown}
 use Rattle.laws.proofs.Visits.{in-set, in-clear, in-none}
 use Rattle.key.specs.Key.{num}
-use Rattle.key.specs.Visits.{first}
 use Rattle.key.proofs.ClosestBucketsIter.next_in.Statement.{statement}
 use Rattle.key.proofs.ClosestBucketsIter.next_in.Tie as tie
 

@@ -3,9 +3,9 @@ use Prim.Native.Nat.{suc, _-_}
 use native.Mathlib.Omega.{arith}
 use borrow.Author.Needs.{needs}
 use borrow.Author.Tests.{not-true, not-false}
+use Rattle.model.specs.Base.{first}
 use Rattle.model.specs.Visit.{clearsUp}
 use Rattle.key.specs.Key.{num}
-use Rattle.key.specs.Visits.{first}
 use Rattle.key.proofs.Steps.{up-clear, up-set, up-none}
 use Rattle.key.proofs.ClosestBucketsIter.next_out.Statement.{statement}
 use Rattle.key.proofs.ClosestBucketsIter.next_out.Tie as tie

@@ -1,9 +1,9 @@
 use mathlib.Core.Path.{ap, _∙_}
 use lib.ListN.{drop}
+use Rattle.model.specs.Base.{first}
 use Rattle.model.specs.Visit.{visits}
 use Rattle.key.specs.declared.Key.{Key}
 use Rattle.key.specs.Key.{num}
-use Rattle.key.specs.Visits.{first}
 use Rattle.positions.proofs.Computed.{first-visits}
 use borrow.Author.Needs.{needs}
 use Rattle.positions.proofs.rows.row5.Statement.{statement}

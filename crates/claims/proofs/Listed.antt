@@ -1,0 +1,267 @@
+-- Each call answers what it can answer (specs/Listed), and nothing else.
+use Prim.Native.Nat.{ℕ}
+use mathlib.Core.Path.{_≡_, refl, ap, _∙_}
+use mathlib.Core.Bool.{Bool, true, false}
+use mathlib.Core.List.{List, [], _∷_}
+use mathlib.Core.Option.{Option, none, some}
+use lib.ListN.{length}
+use lib.Dec.{eqb}
+use Rattle.model.specs.Base.{same, isSome}
+use Rattle.model.specs.Bytes.{number}
+use Rattle.model.specs.Node.{Node, PendingNode, AppliedPending, withStatus, withValue, sameStatus, promotes}
+use Rattle.model.specs.Value.{Value, sameValue}
+use Rattle.model.specs.Result.{FailureReason, BucketInsertResult, UpdateResult, InsertResult, isFailed}
+use Rattle.model.specs.Bucket.{Bucket, BucketSettings, holds, get, failsBucketFilter, isMaxIncoming, takeOut, insert, reinsert, takenOut, statusResult, applyPending, updateIfPending, updateStatusOf, updateStatus, updateValueOf, updateValue}
+use Rattle.model.specs.Table.{Table, Answer, failsTableFilter, kindOfNode, kindOf, indexIn, bothUpdates, insertUpdates, inserts, thenStatus, updateNodeIn, insertOrUpdateIn}
+use Rattle.model.specs.Call.{Call, isOne, optional, valueOf}
+use Rattle.model.specs.Question.{firstFailed, isPresent, isPending, isAbsent, kindFits}
+use Rattle.model.specs.Sizes.{storageSize}
+use Rattle.model.specs.Layout.{tableOf}
+use Rattle.model.specs.Step.{nodeOf, takeOldest, act, questions}
+use Rattle.model.specs.StepBytes.{allQuestions, unlessRefused, stepBytes, holdsTable}
+use Rattle.laws.proofs.Tests.{clash, cases}
+use Rattle.laws.proofs.KeepStep.{passed, accepted}
+use Rattle.laws.proofs.Unreachable.{absent-not-exists, present-held, present-stays}
+use Rattle.claims.specs.Listed.{reasons, updates, statusUpdates, nodeUpdates, presentUpdates, valueUpdates, insertResults, absentInserts, no, answers, canAnswer}
+use Rattle.claims.proofs.Ran.{Ran, equation}
+use Rattle.claims.proofs.Refusals.{on-key, on-entry}
+
+-- The status step and the value step, for any test p of their answers.
+module _ (p : UpdateResult → Bool) where
+  status-result : (m n : Node) → p UpdateResult.NotModified ≡ true → p UpdateResult.Updated ≡ true → p UpdateResult.UpdatedAndPromoted ≡ true
+      → p (statusResult m n none) ≡ true
+  status-result m n a b c =
+      cases (λ (r : UpdateResult). p r ≡ true) (sameStatus m n) (λ _. a) (λ _. cases (λ (r : UpdateResult). p r ≡ true) (promotes m n) (λ _. c) (λ _. b))
+
+  reinserted : (s : BucketSettings) (m n : Node) (b : Bucket) → p (statusResult m n none) ≡ true → p (UpdateResult.Failed FailureReason.TooManyIncoming) ≡ true
+      → p (UpdateResult.Failed FailureReason.BucketFilter) ≡ true → p (statusResult m n (reinsert s n b .0)) ≡ true
+  unfolding reinsert
+  reinserted s m n b x y z =
+      let Q : Option FailureReason × Bucket → Type 0 = λ r. p (statusResult m n (r .0)) ≡ true in
+      cases Q (failsBucketFilter s (n .value) b) (λ _. z) (λ _. cases Q (isMaxIncoming s n b) (λ _. y) (λ _. x))
+
+  if-pending : (k : ℕ) (f : Node → Node) (b : Bucket) (o : Option PendingNode) → p UpdateResult.UpdatedPending ≡ true
+      → p (UpdateResult.Failed FailureReason.KeyNonExistent) ≡ true → p (updateIfPending k f b o .0) ≡ true
+  if-pending k f b none x y = y
+  if-pending k f b (some q) x y = cases (λ (r : UpdateResult × Bucket). p (r .0) ≡ true) (same (q .node .key) k) (λ _. x) (λ _. y)
+
+-- what the status step answers on a held key, and on any
+held-status : (s : BucketSettings) (k : ℕ) (u : Bool) (d : Option Bool) (b : Bucket) → holds k b ≡ true → presentUpdates (updateStatus s k u d b .0) ≡ true
+unfolding updateStatus
+held-status s k u d b h = found (get k b) h
+  where
+    found : (o : Option Node) → isSome o ≡ true → presentUpdates (updateStatusOf s k u d b o .0) ≡ true
+    found none h = clash h refl
+    found (some n) h =
+        reinserted presentUpdates s n (withStatus u d n) (takenOut k u b)
+        (status-result presentUpdates n (withStatus u d n) refl refl refl) refl refl
+
+any-status : (p : UpdateResult → Bool) (s : BucketSettings) (k : ℕ) (u : Bool) (d : Option Bool) (b : Bucket) → p UpdateResult.NotModified ≡ true
+    → p UpdateResult.Updated ≡ true → p UpdateResult.UpdatedAndPromoted ≡ true → p UpdateResult.UpdatedPending ≡ true
+    → p (UpdateResult.Failed FailureReason.TooManyIncoming) ≡ true → p (UpdateResult.Failed FailureReason.BucketFilter) ≡ true
+    → p (UpdateResult.Failed FailureReason.KeyNonExistent) ≡ true → p (updateStatus s k u d b .0) ≡ true
+unfolding updateStatus
+any-status p s k u d b x y z w f g h = found (get k b)
+  where
+    found : (o : Option Node) → p (updateStatusOf s k u d b o .0) ≡ true
+    found none = if-pending p k (withStatus u d) b (b .pending) w h
+    found (some n) =
+        reinserted p s n (withStatus u d n) (takenOut k u b)
+        (status-result p n (withStatus u d n) x y z) f g
+
+-- what the value step answers on a held key
+abbrev heldValues : UpdateResult → Bool
+heldValues r = updates true true false false (reasons false true false false false false) r
+
+held-value : (s : BucketSettings) (k : ℕ) (v : Value) (b : Bucket) → holds k b ≡ true → heldValues (updateValue s k v b .0) ≡ true
+unfolding updateValue
+held-value s k v b h = found (get k b) h
+  where
+    found : (o : Option Node) → isSome o ≡ true → heldValues (updateValueOf s k v b o .0) ≡ true
+    found none h = clash h refl
+    found (some n) h =
+        let Q : UpdateResult × Bucket → Type 0 = λ r. heldValues (r .0) ≡ true in
+        cases Q (sameValue (n .value) v) (λ _. refl) (λ _. cases Q (failsBucketFilter s v (takeOut k b)) (λ _. refl) (λ _. refl))
+
+any-value : (p : UpdateResult → Bool) (s : BucketSettings) (k : ℕ) (v : Value) (b : Bucket) → p UpdateResult.NotModified ≡ true
+    → p UpdateResult.Updated ≡ true → p UpdateResult.UpdatedPending ≡ true → p (UpdateResult.Failed FailureReason.BucketFilter) ≡ true
+    → p (UpdateResult.Failed FailureReason.KeyNonExistent) ≡ true → p (updateValue s k v b .0) ≡ true
+unfolding updateValue
+any-value p s k v b x y z f g = found (get k b)
+  where
+    found : (o : Option Node) → p (updateValueOf s k v b o .0) ≡ true
+    found none = if-pending p k (withValue v) b (b .pending) z g
+    found (some n) =
+        let Q : UpdateResult × Bucket → Type 0 = λ r. p (r .0) ≡ true in
+        cases Q (sameValue (n .value) v) (λ _. x) (λ _. cases Q (failsBucketFilter s v (takeOut k b)) (λ _. f) (λ _. y))
+
+-- a bucket's update_status and update_value
+pub status-listed : (s : BucketSettings) (k : ℕ) (u : Bool) (d : Option Bool) (b : Bucket) → statusUpdates (updateStatus s k u d b .0) ≡ true
+status-listed s k u d b = any-status statusUpdates s k u d b refl refl refl refl refl refl refl
+
+pub value-listed : (s : BucketSettings) (k : ℕ) (v : Value) (b : Bucket) → valueUpdates (updateValue s k v b .0) ≡ true
+value-listed s k v b = any-value valueUpdates s k v b refl refl refl refl refl
+
+-- update_node: either step's failure, or none
+both : (v r : UpdateResult) → nodeUpdates v ≡ true → nodeUpdates r ≡ true → nodeUpdates (bothUpdates v r) ≡ true
+both v (UpdateResult.Failed r) h g = g
+both (UpdateResult.Failed r) UpdateResult.UpdatedAndPromoted h g = h
+both (UpdateResult.Failed r) UpdateResult.Updated h g = h
+both (UpdateResult.Failed r) UpdateResult.UpdatedPending h g = h
+both (UpdateResult.Failed r) UpdateResult.NotModified h g = h
+both UpdateResult.Updated UpdateResult.UpdatedAndPromoted h g = refl
+both UpdateResult.Updated UpdateResult.Updated h g = refl
+both UpdateResult.Updated UpdateResult.UpdatedPending h g = refl
+both UpdateResult.Updated UpdateResult.NotModified h g = refl
+both UpdateResult.UpdatedAndPromoted UpdateResult.UpdatedAndPromoted h g = refl
+both UpdateResult.UpdatedAndPromoted UpdateResult.Updated h g = refl
+both UpdateResult.UpdatedAndPromoted UpdateResult.UpdatedPending h g = refl
+both UpdateResult.UpdatedAndPromoted UpdateResult.NotModified h g = refl
+both UpdateResult.UpdatedPending UpdateResult.UpdatedAndPromoted h g = refl
+both UpdateResult.UpdatedPending UpdateResult.Updated h g = refl
+both UpdateResult.UpdatedPending UpdateResult.UpdatedPending h g = refl
+both UpdateResult.UpdatedPending UpdateResult.NotModified h g = refl
+both UpdateResult.NotModified UpdateResult.UpdatedAndPromoted h g = refl
+both UpdateResult.NotModified UpdateResult.Updated h g = refl
+both UpdateResult.NotModified UpdateResult.UpdatedPending h g = refl
+both UpdateResult.NotModified UpdateResult.NotModified h g = refl
+
+-- an answer of a call on one key, beside its bucket
+abbrev Listed : (Answer → Bool) → Answer × Bucket → Type 0
+Listed q r = q (r .0) ≡ true
+
+abbrev ofNode : Answer → Bool
+ofNode a = answers false false false false false nodeUpdates no no a
+
+then-status : (s : BucketSettings) (k : ℕ) (o : Option Bool) (v : UpdateResult) (b : Bucket) → nodeUpdates v ≡ true → ofNode (thenStatus s k o v b .0) ≡ true
+then-status s k none v b h = h
+then-status s k (some u) v b h = both v (updateStatus s k u none b .0) h (any-status nodeUpdates s k u none b refl refl refl refl refl refl refl)
+
+update-node : (s : BucketSettings) (fails : Bool) (now k : ℕ) (v : Value) (o : Option Bool) (b : Bucket) → ofNode (updateNodeIn s fails now k v o b .0) ≡ true
+update-node s fails now k v o b =
+    let r = updateValue s k v b in
+    let h = any-value nodeUpdates s k v b refl refl refl refl refl in
+    cases (Listed ofNode) fails (λ _. refl) (λ _. cases (Listed ofNode) (isFailed (r .0)) (λ _. h) (λ _. then-status s k o (r .0) (r .1) h))
+
+-- insert_or_update on a held key
+updated : (v r : UpdateResult) → heldValues v ≡ true → presentUpdates r ≡ true → isFailed r ≡ false → insertResults (insertUpdates v r) ≡ true
+updated UpdateResult.Updated UpdateResult.Updated h g f = refl
+updated UpdateResult.Updated UpdateResult.UpdatedAndPromoted h g f = refl
+updated UpdateResult.Updated UpdateResult.UpdatedPending h g f = clash g refl
+updated UpdateResult.Updated (UpdateResult.Failed x) h g f = clash refl f
+updated UpdateResult.Updated UpdateResult.NotModified h g f = refl
+updated UpdateResult.NotModified UpdateResult.Updated h g f = refl
+updated UpdateResult.NotModified UpdateResult.UpdatedAndPromoted h g f = refl
+updated UpdateResult.NotModified UpdateResult.UpdatedPending h g f = clash g refl
+updated UpdateResult.NotModified (UpdateResult.Failed x) h g f = clash refl f
+updated UpdateResult.NotModified UpdateResult.NotModified h g f = refl
+updated UpdateResult.UpdatedAndPromoted r h g f = clash h refl
+updated UpdateResult.UpdatedPending r h g f = clash h refl
+updated (UpdateResult.Failed FailureReason.TooManyIncoming) r h g f = refl
+updated (UpdateResult.Failed FailureReason.BucketFilter) r h g f = refl
+updated (UpdateResult.Failed FailureReason.TableFilter) r h g f = refl
+updated (UpdateResult.Failed FailureReason.KeyNonExistent) r h g f = clash h refl
+updated (UpdateResult.Failed FailureReason.BucketFull) r h g f = refl
+updated (UpdateResult.Failed FailureReason.InvalidSelfUpdate) r h g f = refl
+
+-- an insert of a key that is not held
+new-key : (r : BucketInsertResult) → (r ≡ BucketInsertResult.NodeExists → ⊥) → absentInserts r ≡ true
+new-key BucketInsertResult.Inserted f = refl
+new-key (BucketInsertResult.Pending k) f = refl
+new-key BucketInsertResult.FailedFilter f = refl
+new-key BucketInsertResult.TooManyIncoming f = refl
+new-key BucketInsertResult.Full f = refl
+new-key BucketInsertResult.NodeExists f = absurd (f refl)
+
+inserted : (r : BucketInsertResult) → absentInserts r ≡ true → insertResults (inserts r) ≡ true
+inserted BucketInsertResult.Inserted h = refl
+inserted (BucketInsertResult.Pending k) h = refl
+inserted BucketInsertResult.FailedFilter h = refl
+inserted BucketInsertResult.TooManyIncoming h = refl
+inserted BucketInsertResult.Full h = refl
+inserted BucketInsertResult.NodeExists h = clash h refl
+
+new-insert : (s : BucketSettings) (now : ℕ) (n : Node) (b : Bucket) → holds (n .key) b ≡ false → absentInserts (insert s now n b .0) ≡ true
+new-insert s now n b h = new-key (insert s now n b .0) (absent-not-exists s now n b h)
+
+abbrev ofInsert : Answer → Bool
+ofInsert a = answers false false false false false no insertResults no a
+
+insert-or-update : (s : BucketSettings) (fails : Bool) (now : ℕ) (n : Node) (b : Bucket) → ofInsert (insertOrUpdateIn s fails now n b .0) ≡ true
+insert-or-update s fails now n b =
+    let r = updateStatus s (n .key) (n .connected) (some (n .incoming)) b in
+    cases (Listed ofInsert) fails (λ _. refl)
+    (λ _. cases (Listed ofInsert) (holds (n .key) b)
+    (λ h. cases (Listed ofInsert) (isFailed (r .0)) (λ _. refl)
+    (λ f. updated (updateValue s (n .key) (n .value) (r .1) .0) (r .0)
+    (held-value s (n .key) (n .value) (r .1) (present-stays s (n .key) (n .connected) (some (n .incoming)) b h f))
+    (held-status s (n .key) (n .connected) (some (n .incoming)) b h) f))
+    (λ h. inserted (insert s now n b .0) (new-insert s now n b h)))
+
+-- Absent: the key is not held
+absent-not-held : (k : ℕ) (b : Bucket) → isAbsent (kindOf k b) ≡ true → holds k b ≡ false
+absent-not-held k b h = found (get k b) h
+  where
+    found : (o : Option Node) → isAbsent (kindOfNode k b o) ≡ true → isSome o ≡ false
+    found none h = refl
+    found (some n) h = clash h refl
+
+taken : (t : Table) (q : List AppliedPending) → canAnswer Call.takeAppliedPending (takeOldest t q .answer) ≡ true
+taken t [] = refl
+taken t (a ∷ q) = refl
+
+acts : (c : Call) (t : Table) → kindFits c t ≡ true → canAnswer c (act c t .answer) ≡ true
+unfolding act kindFits
+acts (Call.new k timeout m tf bf) t h = refl
+acts (Call.updateNodeStatus k st dr now) t h =
+    on-key (canAnswer (Call.updateNodeStatus k st dr now)) true t _ _ (indexIn t (number k)) refl
+    (λ i. status-listed (t .settings .bucket) (number k) (isOne st) (optional dr) (applyPending (t .settings .bucket) now (t .buckets i) .0))
+acts (Call.updateNode k v st now) t h =
+    on-key ofNode true t _ _ (indexIn t (number k)) refl
+    (λ i. update-node (t .settings .bucket) (failsTableFilter t i (number k) (valueOf v)) now (number k) (valueOf v) (optional st)
+    (applyPending (t .settings .bucket) now (t .buckets i) .0))
+acts (Call.insertOrUpdate k v st dr now) t h =
+    on-key ofInsert true t _ _ (indexIn t (number k)) refl
+    (λ i. insert-or-update (t .settings .bucket) (failsTableFilter t i (number k) (valueOf v)) now (nodeOf k v st dr)
+    (applyPending (t .settings .bucket) now (t .buckets i) .0))
+acts (Call.remove k now) t h = on-key (canAnswer (Call.remove k now)) true t _ _ (indexIn t (number k)) refl (λ i. refl)
+acts (Call.entry k now) t h = on-key (canAnswer (Call.entry k now)) true t _ _ (indexIn t (number k)) refl (λ i. refl)
+acts (Call.presentUpdate k st dr) t h =
+    on-entry (canAnswer (Call.presentUpdate k st dr)) true isPresent t (number k) _ (indexIn t (number k)) refl h
+    (λ i e. held-status (t .settings .bucket) (number k) (isOne st) (optional dr) (t .buckets i) (present-held (number k) (t .buckets i) e))
+acts (Call.pendingUpdate k st dr) t h =
+    on-entry (canAnswer (Call.pendingUpdate k st dr)) true isPending t (number k) _ (indexIn t (number k)) refl h (λ i e. refl)
+acts (Call.absentInsert k v st dr now) t h =
+    on-entry (canAnswer (Call.absentInsert k v st dr now)) true isAbsent t (number k) _ (indexIn t (number k)) refl h
+    (λ i e. new-insert (t .settings .bucket) now (nodeOf k v st dr) (t .buckets i) (absent-not-held (number k) (t .buckets i) e))
+acts (Call.list l n now out) t h = refl
+acts Call.takeAppliedPending t h = taken t (t .queue)
+
+refused : (c : Call) (n : ℕ) → canAnswer c (Answer.Refused n) ≡ true
+refused (Call.new k timeout m tf bf) n = refl
+refused (Call.updateNodeStatus k st dr now) n = refl
+refused (Call.updateNode k v st now) n = refl
+refused (Call.insertOrUpdate k v st dr now) n = refl
+refused (Call.remove k now) n = refl
+refused (Call.entry k now) n = refl
+refused (Call.presentUpdate k st dr) n = refl
+refused (Call.pendingUpdate k st dr) n = refl
+refused (Call.absentInsert k v st dr now) n = refl
+refused (Call.list l m now out) n = refl
+refused Call.takeAppliedPending n = refl
+
+-- on any storage, whatever the arguments
+step-listed : (c : Call) (s : List ℕ) → canAnswer c (stepBytes c s .answer) ≡ true
+unfolding stepBytes
+step-listed c s = go (firstFailed (allQuestions c s)) refl
+  where
+    go : (o : Option ℕ) → firstFailed (allQuestions c s) ≡ o → canAnswer c (unlessRefused o c s .answer) ≡ true
+    go (some n) e = refused c n
+    go none e =
+        let q1 = passed 1 (eqb (length s) storageSize) ((2, holdsTable c s) ∷ questions c (tableOf s)) e in
+        let q2 = passed 2 (holdsTable c s) (questions c (tableOf s)) (q1 .1) in
+        acts c (tableOf s) (accepted c (tableOf s) (q2 .1) .kind)
+
+-- what the code answers
+pub listed : {c : Call} {s : List ℕ} {a : Answer} {s′ : List ℕ} → Ran c s a s′ → canAnswer c a ≡ true
+listed {c} {s} run = ap (canAnswer c) (equation run .answer) ∙ step-listed c s
