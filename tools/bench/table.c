@@ -88,19 +88,28 @@ static sum_function *chosen;
 static void run_sum(int i) { (void)i; sink += chosen(storage, sizeof storage); }
 static void run_question_2(int i) { (void)i; sink += kbuckets_take_applied_pending(storage, sizeof storage, answer, sizeof answer); }
 
-// The key of a call stands in one buffer, as in the message that a host took it from; it is put there before the clock starts.
-static uint8_t key[32];
-static void take_key(int i) { memcpy(key, held[(unsigned)i * 2654435761u % (unsigned)held_count], sizeof key); }
-static void run_status(int i) { (void)i; sink += kbuckets_update_node_status(storage, sizeof storage, key, sizeof key, 1, 0, 0); }
+// The key of a call stands in one buffer, as in the message that a host took it from; it is put there before the clock starts. With the word
+// 'list' on the command line it stays in the list of all keys, and the call is the first to read it.
+static uint8_t message[32];
+static const uint8_t *key = message;
+static int from_list;
+static void take_key(int i) {
+    const uint8_t *from = held[(unsigned)i * 2654435761u % (unsigned)held_count];
+    if (from_list) key = from;
+    else memcpy(message, from, sizeof message);
+}
+static void run_status(int i) { (void)i; sink += kbuckets_update_node_status(storage, sizeof storage, key, 32, 1, 0, 0); }
 static void run_held(int i) { (void)i; sink += put(key); }
-static void run_update(int i) { sink += kbuckets_update_node(storage, sizeof storage, key, sizeof key, 1, 10, 0, 0, 1, (uint16_t)i, 1, 0); }
-static void run_present(int i) { (void)i; sink += kbuckets_present_update(storage, sizeof storage, key, sizeof key, 1, 0); }
-static void run_entry(int i) { (void)i; sink += kbuckets_entry(storage, sizeof storage, key, sizeof key, 0); }
-static void run_remove(int i) { (void)i; sink += kbuckets_remove(storage, sizeof storage, key, sizeof key, 0); }
+static void run_update(int i) { sink += kbuckets_update_node(storage, sizeof storage, key, 32, 1, 10, 0, 0, 1, (uint16_t)i, 1, 0); }
+static void run_present(int i) { (void)i; sink += kbuckets_present_update(storage, sizeof storage, key, 32, 1, 0); }
+static void run_entry(int i) { (void)i; sink += kbuckets_entry(storage, sizeof storage, key, 32, 0); }
+static void run_remove(int i) { (void)i; sink += kbuckets_remove(storage, sizeof storage, key, 32, 0); }
 static void run_closest(int i) {
     (void)i;
-    key[31] ^= 85;
-    sink += kbuckets_closest_keys(storage, sizeof storage, key, sizeof key, N, 0, output, sizeof output);
+    uint8_t target[32];
+    memcpy(target, key, sizeof target);
+    target[31] ^= 85;
+    sink += kbuckets_closest_keys(storage, sizeof storage, target, sizeof target, N, 0, output, sizeof output);
 }
 
 static double timed(void (*f)(int), int i) {
@@ -155,8 +164,9 @@ static double measure(const char *name, int first, int most) {
     return question_2;
 }
 
-int main(void) {
+int main(int count, char **words) {
     double sum[2] = {1e18, 1e18};
+    from_list = count > 1 && strcmp(words[1], "list") == 0;
     fill(0, 16);
     printf("plain sum of %zu bytes, ns\n  %-10s %12s %12s\n", sizeof storage, "", "64-bit", "32-bit");
     for (size_t k = 0; k < sizeof sums / sizeof sums[0]; k++) {
