@@ -1,4 +1,4 @@
-/* The routing table (k-buckets) of Discovery v5, on storage lent by the host. Link with libkbuckets.a (x86-64).
+/* The routing table (k-buckets) of Discovery v5, on storage lent by the host. Link with libkbuckets.a (x86-64 Linux).
  *
  * Lent memory. Each run of bytes is handed over as a pointer and its length. A pointer is never null, not even with length 0. Runs that
  * are lent to one call do not overlap; while it runs nobody else writes them, nor reads those that it may write. No call keeps a pointer,
@@ -15,9 +15,32 @@
 #include <stddef.h>
 #include <stdint.h>
 
+/* A call's answer is to be looked at: a failed update may have taken the peer out, and a taken record is in the queue no more. A compiler
+ * warns where it is dropped. A host that wants no such warning defines this as nothing. */
+#ifndef KBUCKETS_MUST_USE
+#if defined(__cplusplus) && __cplusplus >= 201703L
+#define KBUCKETS_MUST_USE [[nodiscard]]
+#elif defined(__STDC_VERSION__) && __STDC_VERSION__ >= 202311L
+#define KBUCKETS_MUST_USE [[nodiscard]]
+#elif defined(__GNUC__)
+#define KBUCKETS_MUST_USE __attribute__((warn_unused_result))
+#else
+#define KBUCKETS_MUST_USE
+#endif
+#endif
+
+/* The version of this header: 0x00MMmmpp, a byte each for major, minor and patch. */
+#define KBUCKETS_VERSION_MAJOR 0
+#define KBUCKETS_VERSION_MINOR 2
+#define KBUCKETS_VERSION_PATCH 0
+#define KBUCKETS_VERSION (KBUCKETS_VERSION_MAJOR * 0x10000 + KBUCKETS_VERSION_MINOR * 0x100 + KBUCKETS_VERSION_PATCH)
+
 #ifdef __cplusplus
 extern "C" {
 #endif
+
+/* The version of the linked library. Header and library belong together where this is KBUCKETS_VERSION; a host asks once, at its start. */
+KBUCKETS_MUST_USE uint32_t kbuckets_version(void);
 
 /* Sizes in bytes, each from the others. */
 enum {
@@ -155,13 +178,20 @@ enum {
     KBUCKETS_APPLIED_RECORD = 1 /* the record's 74 bytes stand in `answer`: inserted key, evicted flag, evicted node */
 };
 
-/* The table. `storage` is KBUCKETS_STORAGE_BYTES; `now` is a count of milliseconds, and may go back. A pending whose deadline has come is
- * applied by the first call about its bucket that is given `now` and is no entry action, before the call's own work: it takes a free place
- * or evicts the node at place 0, and is a record in the queue, or it is dropped without a record. A value is address flag, octets a, b, c,
- * d, and slot. */
+/* The table. `storage` is KBUCKETS_STORAGE_BYTES; `now` is a count of milliseconds, and may go back. A value is address flag, octets a, b,
+ * c, d, and slot.
+ *
+ * A pending whose deadline has come is applied by the first call about its bucket that is given `now` and is no entry action: it takes a
+ * free place or evicts the node at place 0, and is a record in the queue, or it is dropped without a record. The call then acts on the
+ * bucket as that left it. One thing comes before: the table filter of kbuckets_update_node and kbuckets_insert_or_update looks at the
+ * values that were held before the pending was applied.
+ *
+ * The filters. A value with an address fails the table filter where the table holds 10 values of its /24 that are unequal to it, and the
+ * bucket filter where its bucket holds 2. kbuckets_absent_insert and a pending that is applied are not asked the table filter, so a table
+ * may hold more than 10 values of a /24. */
 
 /* Makes the storage, whatever it held, that of an empty table. max_incoming: 0 to 16. Answers 0. Questions 1, 3, 4. */
-uint32_t kbuckets_new(
+KBUCKETS_MUST_USE uint32_t kbuckets_new(
     uint8_t *storage, size_t storage_len, const uint8_t *local_key, size_t local_key_len, uint64_t pending_timeout,
     uint8_t max_incoming, uint8_t table_filter, uint8_t bucket_filter);
 
@@ -169,47 +199,47 @@ uint32_t kbuckets_new(
  * direction: also NOT_GIVEN. The node at place 0 given CONNECTED clears the bucket's pending. Where the call fails for another reason than
  * KEY_NON_EXISTENT the node is taken out. The local key answers NOT_MODIFIED. Answers any UPDATE_.., FAILED_TOO_MANY_INCOMING,
  * FAILED_BUCKET_FILTER or FAILED_KEY_NON_EXISTENT. Questions 1 to 5, 8. */
-uint32_t kbuckets_update_node_status(
+KBUCKETS_MUST_USE uint32_t kbuckets_update_node_status(
     uint8_t *storage, size_t storage_len, const uint8_t *key, size_t key_len, uint8_t state, uint8_t direction, uint64_t now);
 
 /* Sets the value of the key's node or pending, then the state where it is given (state: also NOT_GIVEN), as kbuckets_update_node_status
- * does. Where the call fails for another reason than KEY_NON_EXISTENT the node is taken out. The local key answers NOT_MODIFIED. Answers any
- * UPDATE_.., FAILED_TOO_MANY_INCOMING, FAILED_BUCKET_FILTER, FAILED_TABLE_FILTER or FAILED_KEY_NON_EXISTENT. Questions 1 to 5, 8. */
-uint32_t kbuckets_update_node(
+ * does. Where the call fails for another reason than KEY_NON_EXISTENT the node is taken out. The local key answers NOT_MODIFIED. Answers
+ * any UPDATE_.., FAILED_TOO_MANY_INCOMING, FAILED_BUCKET_FILTER, FAILED_TABLE_FILTER or FAILED_KEY_NON_EXISTENT. Questions 1 to 5, 8. */
+KBUCKETS_MUST_USE uint32_t kbuckets_update_node(
     uint8_t *storage, size_t storage_len, const uint8_t *key, size_t key_len, uint8_t flag, uint8_t a, uint8_t b, uint8_t c, uint8_t d,
     kbuckets_slot slot, uint8_t state, uint64_t now);
 
 /* Inserts a node, also where the key is only pending, or sets status and value of the key's node. Where setting either fails, or the table
- * filter does, the key's node is taken out; a status that cannot be set answers FAILED_TOO_MANY_INCOMING, whatever the reason. The local key
- * answers FAILED_INVALID_SELF_UPDATE. `answer` is at least KBUCKETS_ANSWER_BYTES; only its first 32 bytes are written, and only where the
- * answer is PENDING. Answers any INSERT_.. but UPDATED_PENDING, or any FAILED_.. but KEY_NON_EXISTENT. Questions 1 to 6, 8. */
-uint32_t kbuckets_insert_or_update(
+ * filter does, the key's node is taken out; a status that cannot be set answers FAILED_TOO_MANY_INCOMING, whatever the reason. The local
+ * key answers FAILED_INVALID_SELF_UPDATE. `answer` is at least KBUCKETS_ANSWER_BYTES; only its first 32 bytes are written, and only where
+ * the answer is PENDING. Answers any INSERT_.. but UPDATED_PENDING, or any FAILED_.. but KEY_NON_EXISTENT. Questions 1 to 6, 8. */
+KBUCKETS_MUST_USE uint32_t kbuckets_insert_or_update(
     uint8_t *storage, size_t storage_len, const uint8_t *key, size_t key_len, uint8_t flag, uint8_t a, uint8_t b, uint8_t c, uint8_t d,
     kbuckets_slot slot, uint8_t state, uint8_t direction, uint64_t now, uint8_t *answer, size_t answer_len);
 
 /* Takes the key's node out. A pending of the key that is not due stays. Answers REMOVE_REMOVED, or REMOVE_NOT_HELD, as for the local key.
  * Questions 1, 2, 3, 5, 8. */
-uint32_t kbuckets_remove(uint8_t *storage, size_t storage_len, const uint8_t *key, size_t key_len, uint64_t now);
+KBUCKETS_MUST_USE uint32_t kbuckets_remove(uint8_t *storage, size_t storage_len, const uint8_t *key, size_t key_len, uint64_t now);
 
 /* What the key is in the table. Answers ENTRY_ABSENT, ENTRY_SELF (the local key), ENTRY_PRESENT + 2 * state + direction or
  * ENTRY_PENDING + 2 * state + direction. Questions 1, 2, 3, 5, 8. */
-uint32_t kbuckets_entry(uint8_t *storage, size_t storage_len, const uint8_t *key, size_t key_len, uint64_t now);
+KBUCKETS_MUST_USE uint32_t kbuckets_entry(uint8_t *storage, size_t storage_len, const uint8_t *key, size_t key_len, uint64_t now);
 
-/* The entry actions. Each names the key again, applies no pending, and is refused with KIND where the key, as stored, is not of its kind, as
- * for the local key. */
+/* The entry actions. Each names the key again, applies no pending, and is refused with KIND where the key, as stored, is not of its kind,
+ * as for the local key. */
 
 /* Of a Present key: sets the status, as kbuckets_update_node_status does. direction: also NOT_GIVEN. Answers any UPDATE_.. but
  * UPDATED_PENDING, FAILED_TOO_MANY_INCOMING or FAILED_BUCKET_FILTER. Questions 1 to 4, 7. */
-uint32_t kbuckets_present_update(
+KBUCKETS_MUST_USE uint32_t kbuckets_present_update(
     uint8_t *storage, size_t storage_len, const uint8_t *key, size_t key_len, uint8_t state, uint8_t direction);
 
 /* Of a Pending key: sets the pending's status. Answers UPDATE_UPDATED_PENDING. Questions 1 to 4, 7. */
-uint32_t kbuckets_pending_update(
+KBUCKETS_MUST_USE uint32_t kbuckets_pending_update(
     uint8_t *storage, size_t storage_len, const uint8_t *key, size_t key_len, uint8_t state, uint8_t direction);
 
 /* Of an Absent key: inserts a node; the table filter is skipped. `answer` as for kbuckets_insert_or_update. Answers any BUCKET_INSERT_..
  * but NODE_EXISTS. Questions 1 to 7. */
-uint32_t kbuckets_absent_insert(
+KBUCKETS_MUST_USE uint32_t kbuckets_absent_insert(
     uint8_t *storage, size_t storage_len, const uint8_t *key, size_t key_len, uint8_t flag, uint8_t a, uint8_t b, uint8_t c, uint8_t d,
     kbuckets_slot slot, uint8_t state, uint8_t direction, uint64_t now, uint8_t *answer, size_t answer_len);
 
@@ -218,67 +248,70 @@ uint32_t kbuckets_absent_insert(
  * applied first. */
 
 /* All nodes, bucket by bucket, each in stored order. Questions 1, 2, 5, 6, 8. */
-uint32_t kbuckets_iter(uint8_t *storage, size_t storage_len, size_t n, uint64_t now, uint8_t *output, size_t output_len);
+KBUCKETS_MUST_USE uint32_t kbuckets_iter(uint8_t *storage, size_t storage_len, size_t n, uint64_t now, uint8_t *output, size_t output_len);
 
-/* The nodes of the buckets at these log2 distances, in the order given, repeats included. Distances outside 1 to 256 are dropped; n = 0
- * still gives one node. It may apply pendings of buckets that it does not list. Questions 1, 2, 5, 6, 8. */
-uint32_t kbuckets_nodes_by_distances(
+/* The nodes of the buckets at these log2 distances, in the order given, repeats included. Distance d is bucket d - 1: the keys whose XOR
+ * with the local key is at least 2^(d-1) and below 2^d. `distances` are distances_len numbers (not bytes) of 64 bits in the machine's byte
+ * order, aligned as the machine's uint64_t. Distances outside 1 to 256 are dropped; n = 0 still gives one node. It may apply pendings of
+ * buckets that it does not list. Questions 1, 2, 5, 6, 8. */
+KBUCKETS_MUST_USE uint32_t kbuckets_nodes_by_distances(
     uint8_t *storage, size_t storage_len, const uint64_t *distances, size_t distances_len, size_t n, uint64_t now, uint8_t *output,
     size_t output_len);
 
 /* The keys nearest to the target, nearest first. When the local key and the target are equal or their last bits differ, the node of bucket
  * 0 stands a second time right behind itself; so it does in the two calls below. Questions 1, 2, 3, 5, 6, 8. */
-uint32_t kbuckets_closest_keys(
+KBUCKETS_MUST_USE uint32_t kbuckets_closest_keys(
     uint8_t *storage, size_t storage_len, const uint8_t *target, size_t target_len, size_t n, uint64_t now, uint8_t *output,
     size_t output_len);
 
 /* The same, each key with its value. Questions 1, 2, 3, 5, 6, 8. */
-uint32_t kbuckets_closest_values(
+KBUCKETS_MUST_USE uint32_t kbuckets_closest_values(
     uint8_t *storage, size_t storage_len, const uint8_t *target, size_t target_len, size_t n, uint64_t now, uint8_t *output,
     size_t output_len);
 
 /* The same, each with a byte that says whether the value matches the predicate. a, b, c are looked at for ADDRESS_IN_NET only, slot for
  * SLOT_EQUALS only. Questions 1 to 6, 8. */
-uint32_t kbuckets_closest_values_predicate(
+KBUCKETS_MUST_USE uint32_t kbuckets_closest_values_predicate(
     uint8_t *storage, size_t storage_len, const uint8_t *target, size_t target_len, uint8_t predicate, uint8_t a, uint8_t b, uint8_t c,
     kbuckets_slot slot, size_t n, uint64_t now, uint8_t *output, size_t output_len);
 
 /* Takes the oldest record of an applied pending out of the queue. `answer` is at least KBUCKETS_ANSWER_BYTES. Answers APPLIED_RECORD with
  * the record in `answer`, or APPLIED_NONE. Questions 1, 2, 6. */
-uint32_t kbuckets_take_applied_pending(uint8_t *storage, size_t storage_len, uint8_t *answer, size_t answer_len);
+KBUCKETS_MUST_USE uint32_t kbuckets_take_applied_pending(uint8_t *storage, size_t storage_len, uint8_t *answer, size_t answer_len);
 
 /* A bucket by itself. `bucket` is KBUCKETS_BUCKET_BYTES: what a table stores of a bucket, then pending timeout, max_incoming and filter.
  * Question 2 asks nothing of the index of its keys. */
 
 /* Makes the bytes, whatever they were, an empty bucket. max_incoming: 0 to 16. Answers 0. Questions 1, 4. */
-uint32_t kbuckets_b_new(uint8_t *bucket, size_t bucket_len, uint64_t pending_timeout, uint8_t max_incoming, uint8_t filter);
+KBUCKETS_MUST_USE uint32_t kbuckets_b_new(
+    uint8_t *bucket, size_t bucket_len, uint64_t pending_timeout, uint8_t max_incoming, uint8_t filter);
 
 /* Inserts a node, or makes it the pending. `answer` as for kbuckets_insert_or_update. Answers any BUCKET_INSERT_.. Questions 1 to 6. */
-uint32_t kbuckets_b_insert(
+KBUCKETS_MUST_USE uint32_t kbuckets_b_insert(
     uint8_t *bucket, size_t bucket_len, const uint8_t *key, size_t key_len, uint8_t flag, uint8_t a, uint8_t b, uint8_t c, uint8_t d,
     kbuckets_slot slot, uint8_t state, uint8_t direction, uint64_t now, uint8_t *answer, size_t answer_len);
 
 /* Applies the pending if its deadline has come. `answer` is at least KBUCKETS_ANSWER_BYTES. Answers APPLIED_RECORD with the record in
  * `answer`, or APPLIED_NONE where none is due or it was dropped. Questions 1, 2, 5, 6. */
-uint32_t kbuckets_b_apply_pending(uint8_t *bucket, size_t bucket_len, uint64_t now, uint8_t *answer, size_t answer_len);
+KBUCKETS_MUST_USE uint32_t kbuckets_b_apply_pending(uint8_t *bucket, size_t bucket_len, uint64_t now, uint8_t *answer, size_t answer_len);
 
 /* Sets the status of the key's node or pending, fails and answers as kbuckets_update_node_status does. direction: also NOT_GIVEN.
  * Questions 1 to 4. */
-uint32_t kbuckets_b_update_status(
+KBUCKETS_MUST_USE uint32_t kbuckets_b_update_status(
     uint8_t *bucket, size_t bucket_len, const uint8_t *key, size_t key_len, uint8_t state, uint8_t direction);
 
 /* Sets the value of the key's node, which keeps its place, or of the key's pending. Where the bucket filter fails the node is taken out.
  * Answers UPDATE_NOT_MODIFIED, UPDATE_UPDATED, UPDATE_UPDATED_PENDING, FAILED_BUCKET_FILTER or FAILED_KEY_NON_EXISTENT. Questions 1 to 4. */
-uint32_t kbuckets_b_update_value(
+KBUCKETS_MUST_USE uint32_t kbuckets_b_update_value(
     uint8_t *bucket, size_t bucket_len, const uint8_t *key, size_t key_len, uint8_t flag, uint8_t a, uint8_t b, uint8_t c, uint8_t d,
     kbuckets_slot slot);
 
 /* Sets the status of the pending, if there is one. Answers 0. Questions 1, 2, 4. */
-uint32_t kbuckets_b_update_pending(uint8_t *bucket, size_t bucket_len, uint8_t state, uint8_t direction);
+KBUCKETS_MUST_USE uint32_t kbuckets_b_update_pending(uint8_t *bucket, size_t bucket_len, uint8_t state, uint8_t direction);
 
 /* Takes the key's node out, then applies a due pending, without a record. Answers REMOVE_REMOVED or REMOVE_NOT_HELD; with NOT_HELD nothing
  * is applied. Questions 1, 2, 3, 5. */
-uint32_t kbuckets_b_remove(uint8_t *bucket, size_t bucket_len, const uint8_t *key, size_t key_len, uint64_t now);
+KBUCKETS_MUST_USE uint32_t kbuckets_b_remove(uint8_t *bucket, size_t bucket_len, const uint8_t *key, size_t key_len, uint64_t now);
 
 #ifdef __cplusplus
 }

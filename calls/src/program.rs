@@ -30,21 +30,22 @@ pub trait Implementation {
     fn bucket_dump(&self, out: &mut Vec<u8>);
 }
 
+/// An option that prints a text and ends the program.
+pub type Text = (&'static str, fn() -> String);
+
 /// Runs a program of this name: answers the lines of standard input. A bad line ends it with a message; what came before stands.
-pub fn run(name: &str, help: impl FnOnce() -> String, implementation: impl Implementation) -> ExitCode {
+pub fn run(name: &str, texts: &[Text], implementation: impl Implementation) -> ExitCode {
     let mut dumps = false;
     for argument in std::env::args().skip(1) {
-        match argument.as_str() {
-            "--dump" => dumps = true,
-            "--help" | "-h" => {
-                // Whoever reads it may stop early.
-                let _ = io::Write::write_all(&mut io::stdout(), help().as_bytes());
-                return ExitCode::SUCCESS;
-            }
-            other => {
-                eprintln!("{name}: {other:?} is no option; see {name} --help");
-                return ExitCode::FAILURE;
-            }
+        if argument == "--dump" {
+            dumps = true;
+        } else if let Some((_, text)) = texts.iter().find(|(option, _)| *option == argument) {
+            // Whoever reads it may stop early.
+            let _ = io::Write::write_all(&mut io::stdout(), text().as_bytes());
+            return ExitCode::SUCCESS;
+        } else {
+            eprintln!("{name}: {argument:?} is no option; see {name} --help");
+            return ExitCode::FAILURE;
         }
     }
     match answer(implementation, dumps) {

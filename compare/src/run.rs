@@ -16,6 +16,8 @@ pub struct Disagreement {
     pub at: usize,
     pub first: String,
     pub second: String,
+    /// Both ended before their answers were through, or ended with a failure: they part from the list, and not from each other.
+    pub both_ended: bool,
 }
 
 /// A running program that is being fed a list.
@@ -84,7 +86,8 @@ impl Running {
     }
 }
 
-/// Feeds a list to both programs, with a dump after each call, and finds where they part. `answered` sees each answer they agree on.
+/// Feeds a list to both programs, with a dump after each call, and finds where they part, or where they end though answers are due.
+/// `answered` sees each answer they agree on.
 pub fn compare(
     programs: &[Program; 2],
     list: &[String],
@@ -97,36 +100,35 @@ pub fn compare(
         let lines = text::parse(call).ok().flatten().map_or(0, |line| line.answer_lines());
         for i in 0..lines {
             let (a, b) = (first.line(&mut one)?, second.line(&mut two)?);
-            if a.is_none() && b.is_none() {
-                // Both ended at the same line: one that neither takes.
-                return ended(first, second, at);
-            }
-            if a != b {
+            let Some(answer) = a.filter(|_| a == b) else {
+                let both_ended = a.is_none() && b.is_none();
                 let (first, second) = (shown(a, first)?, shown(b, second)?);
-                return Ok(Some(Disagreement { at, first, second }));
-            }
+                return Ok(Some(Disagreement { at, first, second, both_ended }));
+            };
             if i == 0 {
-                answered(call, &String::from_utf8_lossy(a.unwrap()));
+                answered(call, &String::from_utf8_lossy(answer));
             }
         }
     }
     let (a, b) = (first.line(&mut one)?, second.line(&mut two)?);
     if a != b {
         let (first, second) = (shown(a, first)?, shown(b, second)?);
-        return Ok(Some(Disagreement { at: list.len(), first, second }));
+        return Ok(Some(Disagreement { at: list.len(), first, second, both_ended: false }));
     }
     ended(first, second, list.len())
 }
 
-/// The programs have written all they had to: they part only if one succeeded and the other did not.
+/// The programs have written all they had to, and must end well.
 fn ended(first: Running, second: Running, at: usize) -> Result<Option<Disagreement>, String> {
     let (first, second) = (first.end(false)?, second.end(false)?);
     let shown = |end: &End| match end.status.success() {
         true => "(ended well)".to_string(),
         false => format!("(ended with a failure{})", end.said),
     };
-    let parted = first.status.success() != second.status.success();
-    Ok(parted.then(|| Disagreement { at, first: shown(&first), second: shown(&second) }))
+    let failed = [&first, &second].map(|end| !end.status.success());
+    let both_ended = failed == [true, true];
+    let disagreement = || Disagreement { at, first: shown(&first), second: shown(&second), both_ended };
+    Ok((failed != [false, false]).then(disagreement))
 }
 
 /// A program's line where the two part, or what it said as it ended. Ends the program.

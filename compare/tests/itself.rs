@@ -1,4 +1,5 @@
-//! The comparison finds nothing between the reference and itself, and finds and shrinks a changed answer or dump.
+//! The comparison finds nothing between the reference and itself, finds and shrinks a changed answer or dump, and fails where it did less
+//! than was asked for.
 
 use std::path::Path;
 use std::process::{Command, Output};
@@ -16,21 +17,30 @@ fn has_reference() -> bool {
     cfg!(reference_source)
 }
 
+/// Also in runs that are too short to reach every outcome.
 #[test]
 fn agrees_with_itself() {
     if has_reference() {
-        let run = compare(&["--calls", "20000", "--seed", "7", REFERENCE, REFERENCE]);
-        let text = String::from_utf8(run.stdout).unwrap();
-        assert_eq!(run.status.code(), Some(0), "{text}");
-        assert!(text.contains("calls agree"), "{text}");
+        for (calls, reached) in [("1000", false), ("200000", true)] {
+            let run = compare(&["--calls", calls, "--seed", "7", REFERENCE, REFERENCE]);
+            let text = String::from_utf8(run.stdout).unwrap();
+            assert_eq!(run.status.code(), Some(0), "{text}");
+            assert!(text.contains("calls agree"), "{text}");
+            let (outcomes, _) = text.split_once("Asked of the listings:").unwrap();
+            assert_eq!(!outcomes.contains("not reached: "), reached, "{text}");
+        }
     }
+}
+
+/// The command that runs a script beside this file.
+fn script(name: &str) -> String {
+    format!("sh {}", Path::new(env!("CARGO_MANIFEST_DIR")).join("tests").join(name).display())
 }
 
 /// The fewest lines, and what each program says, of the disagreement between the reference and an edited one.
 fn shrunk(edit: &str) -> (Vec<String>, String, String) {
-    let wrapper = Path::new(env!("CARGO_MANIFEST_DIR")).join("tests/changed.sh");
     let run = Command::new(env!("CARGO_BIN_EXE_compare"))
-        .args(["--calls", "20000", "--seed", "7", REFERENCE, &format!("sh {}", wrapper.display())])
+        .args(["--calls", "20000", "--seed", "7", REFERENCE, &script("changed.sh")])
         .env("REFERENCE", REFERENCE)
         .env("EDIT", edit)
         .output()
@@ -81,6 +91,47 @@ fn finds_a_program_that_ends_early() {
         let text = String::from_utf8(run.stdout).unwrap();
         assert_eq!(run.status.code(), Some(1), "{text}");
         assert!(text.contains("the program ended"), "{text}");
+    }
+}
+
+/// Neither parts from the other; both part from the list.
+#[test]
+fn programs_that_both_end_early_do_not_agree() {
+    for command in ["true", &script("one_answer.sh")] {
+        let run = compare(&["--calls", "5000", "--seconds", "10", command, command]);
+        let text = String::from_utf8(run.stdout).unwrap();
+        assert_eq!(run.status.code(), Some(1), "{text}");
+        let ended = "(no answer: the program ended)";
+        assert!(text.ends_with(&format!("\n\nfirst:  {ended}\nsecond: {ended}\n")), "{text}");
+    }
+}
+
+#[test]
+fn fails_where_fewer_calls_ran_than_were_asked_for() {
+    let run = compare(&["--calls", "5000", "--seconds", "0", "true", "true"]);
+    let text = String::from_utf8(run.stdout).unwrap();
+    assert_eq!(run.status.code(), Some(1), "{text}");
+    assert!(text.contains("FAILED: only 0 of 5000 calls ran"), "{text}");
+}
+
+/// Two programs that agree, and never give one of the answers.
+#[test]
+fn fails_where_an_outcome_is_not_reached() {
+    if has_reference() {
+        let changed = script("changed.sh");
+        let run = Command::new(env!("CARGO_BIN_EXE_compare"))
+            .args(["--calls", "200000", &changed, &changed])
+            .env("REFERENCE", REFERENCE)
+            .env("EDIT", "s/^UpdatedAndPromoted$/Updated/")
+            .output()
+            .unwrap();
+        let text = String::from_utf8(run.stdout).unwrap();
+        assert_eq!(run.status.code(), Some(1), "{text}");
+        let missing: Vec<String> = ["b_update_status", "present_update", "update_node", "update_node_status"]
+            .map(|call| format!("{call} UpdatedAndPromoted"))
+            .to_vec();
+        assert!(text.contains(&format!("not reached: {}\n", missing.join(", "))), "{text}");
+        assert!(text.contains("4 outcomes that must be reached are not"), "{text}");
     }
 }
 

@@ -20,6 +20,7 @@ pub enum Refusal {
 
 impl Refusal {
     /// The number of the question.
+    #[must_use]
     pub fn number(self) -> u8 {
         self as u8
     }
@@ -63,6 +64,7 @@ pub enum FailureReason {
 }
 
 #[derive(Clone, Copy, Debug, PartialEq, Eq)]
+#[must_use = "a failed update may have taken the node out"]
 pub enum UpdateResult {
     NotModified,
     Updated,
@@ -76,6 +78,7 @@ pub enum UpdateResult {
 
 /// What `insert_or_update` answers.
 #[derive(Clone, Copy, Debug, PartialEq, Eq)]
+#[must_use = "a node that was not inserted is not held, and a failed update may have taken it out"]
 pub enum InsertResult {
     Inserted,
     /// The node waits; `disconnected` is the key at place 0, whose peer is to be checked: set connected in time, it clears the pending.
@@ -95,6 +98,7 @@ pub enum InsertResult {
 
 /// What a bucket's insert and `absent_insert` answer.
 #[derive(Clone, Copy, Debug, PartialEq, Eq)]
+#[must_use = "a node that was not inserted is not held"]
 pub enum BucketInsertResult {
     Inserted,
     Pending { disconnected: Key },
@@ -106,6 +110,7 @@ pub enum BucketInsertResult {
 
 /// What a key is in the table.
 #[derive(Clone, Copy, Debug, PartialEq, Eq)]
+#[must_use]
 pub enum Entry {
     Present(NodeStatus),
     Pending(NodeStatus),
@@ -116,6 +121,7 @@ pub enum Entry {
 
 /// A pending node that was applied, and the node that it replaced.
 #[derive(Clone, Copy, Debug, PartialEq, Eq)]
+#[must_use = "the record is no longer in the queue"]
 pub struct AppliedPending {
     pub inserted: Key,
     pub evicted: Option<Node>,

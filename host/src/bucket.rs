@@ -20,10 +20,12 @@ impl KBucket {
     }
 
     /// A bucket from the bytes of one, as [`KBucket::bytes`] gives them. Bytes that are no bucket's are refused by each call.
+    #[must_use]
     pub fn from_bytes(bytes: Vec<u8>) -> KBucket {
         KBucket { bytes }
     }
 
+    #[must_use]
     pub fn bytes(&self) -> &[u8] {
         &self.bytes
     }

@@ -1,6 +1,7 @@
 //! The functions of the library, as include/kbuckets.h declares them: a run of bytes is a pointer and its length.
 
 unsafe extern "C" {
+    pub fn kbuckets_version() -> u32;
     pub fn kbuckets_new(
         storage: *mut u8,
         storage_len: usize,

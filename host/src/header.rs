@@ -1,8 +1,9 @@
-//! Tests that this package agrees with include/kbuckets.h: the functions, the sizes, the codes.
+//! Tests that this package agrees with include/kbuckets.h: the functions, the sizes, the codes, the version.
 
 use crate::answers::{self, BucketInsertResult, Entry, FailureReason, InsertResult, Refusal, UpdateResult};
 use crate::lent;
 use crate::node::{ConnectionDirection, ConnectionState, NOT_GIVEN, NodeStatus};
+use crate::version::{VERSION, Version};
 use calls::layout;
 use std::collections::HashMap;
 
@@ -25,7 +26,7 @@ fn declared(code: &str, start: &str, end: &str, parameter: impl Fn(&str) -> Stri
     for part in code.split(start).skip(1) {
         let (declaration, _) = part.split_once(end).unwrap();
         let (name, parameters) = declaration.split_once('(').unwrap();
-        let parameters = parameters.split(',').map(str::trim).filter(|p| !p.is_empty()).map(&parameter);
+        let parameters = parameters.split(',').map(str::trim).filter(|p| !p.is_empty() && *p != "void").map(&parameter);
         functions.push((name.to_string(), parameters.collect::<Vec<_>>().join(", ")));
     }
     functions
@@ -50,30 +51,50 @@ fn rust_parameter(parameter: &str) -> String {
 fn functions() {
     let header = plain(HEADER, "/*", "*/");
     assert!(header.contains("typedef uint16_t kbuckets_slot;"));
-    let in_header = declared(&header, "uint32_t ", ");", rust_parameter);
+    // Each must have its answer looked at.
+    let in_header = declared(&header, "KBUCKETS_MUST_USE uint32_t ", ");", rust_parameter);
     let in_rust = declared(&plain(FFI, "//", "\n"), "pub fn ", ") -> u32;", str::to_string);
     assert!(in_header.len() > 20);
     assert_eq!(in_header, in_rust);
+    assert_eq!(in_header.len(), header.matches("uint32_t kbuckets_").count());
 }
 
 /// The constants of the header: sums of products of numbers and names.
 fn constants() -> HashMap<String, u64> {
     let header = plain(HEADER, "/*", "*/");
     let mut constants = HashMap::new();
+    let mut define = |name: &str, sum: &str| {
+        let factor = |word: &str| match (word.strip_prefix("0x"), word.parse::<u64>()) {
+            (Some(digits), _) => u64::from_str_radix(digits, 16).unwrap(),
+            (None, Ok(number)) => number,
+            (None, Err(_)) => constants[word],
+        };
+        let value = sum.split('+').map(|p| p.split('*').map(|word| factor(word.trim())).product::<u64>()).sum();
+        constants.insert(name.trim().to_string(), value);
+    };
+    for line in HEADER.lines().filter_map(|line| line.strip_prefix("#define ")) {
+        if let Some((name, sum)) = line.split_once(' ').filter(|(name, _)| name.starts_with("KBUCKETS_VERSION")) {
+            define(name, sum.trim_start_matches('(').trim_end_matches(')'));
+        }
+    }
     for part in header.split("enum {").skip(1) {
         let (body, _) = part.split_once('}').unwrap();
         for constant in body.split(',').filter(|constant| !constant.trim().is_empty()) {
             let (name, sum) = constant.split_once('=').unwrap();
-            let factor = |word: &str| match (word.strip_prefix("0x"), word.parse::<u64>()) {
-                (Some(digits), _) => u64::from_str_radix(digits, 16).unwrap(),
-                (None, Ok(number)) => number,
-                (None, Err(_)) => constants[word],
-            };
-            let value = sum.split('+').map(|p| p.split('*').map(|word| factor(word.trim())).product::<u64>()).sum();
-            constants.insert(name.trim().to_string(), value);
+            define(name, sum);
         }
     }
     constants
+}
+
+/// version.rs holds the linked library to the same version.
+#[test]
+fn version() {
+    let constants = constants();
+    for (name, part) in [("MAJOR", VERSION.major), ("MINOR", VERSION.minor), ("PATCH", VERSION.patch)] {
+        assert_eq!(constants[&format!("KBUCKETS_VERSION_{name}")], part.into(), "{name}");
+    }
+    assert_eq!(Version::from(constants["KBUCKETS_VERSION"] as u32), VERSION);
 }
 
 #[test]

@@ -175,6 +175,8 @@ pub fn iter(storage: &mut [u8], n: usize, now: u64, output: &mut [u8]) -> Result
     answered(returned).map(found)
 }
 
+/// Log2 distances, as [`KBucketsTable::nodes_by_distances`](crate::KBucketsTable::nodes_by_distances) says: numbers of this machine, and not
+/// the big-endian bytes of the storage.
 pub fn nodes_by_distances(
     storage: &mut [u8],
     distances: &[u64],

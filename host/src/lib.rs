@@ -14,6 +14,26 @@
 //! assert_eq!(table.closest_keys(&[0; 32], 16, 1000)?, [key]);
 //! # Ok::<(), kbuckets::Refusal>(())
 //! ```
+//!
+//! An answer is to be looked at: a failed update may have taken the peer out. The compiler warns where one is dropped:
+//!
+//! ```compile_fail
+//! #![deny(unused_must_use)]
+//! # use kbuckets::{ConnectionState, KBucketsTable, Refusal};
+//! fn disconnected(table: &mut KBucketsTable, key: &[u8; 32], now: u64) -> Result<(), Refusal> {
+//!     table.update_node_status(key, ConnectionState::Disconnected, None, now)?;
+//!     Ok(())
+//! }
+//! ```
+//!
+//! ```
+//! #![deny(unused_must_use)]
+//! # use kbuckets::{ConnectionState, KBucketsTable, Refusal};
+//! fn disconnected(table: &mut KBucketsTable, key: &[u8; 32], now: u64) -> Result<(), Refusal> {
+//!     let _ = table.update_node_status(key, ConnectionState::Disconnected, None, now)?;
+//!     Ok(())
+//! }
+//! ```
 
 mod answers;
 mod bucket;
@@ -23,8 +43,10 @@ mod header;
 pub mod lent;
 mod node;
 mod table;
+mod version;
 
 pub use answers::{AppliedPending, BucketInsertResult, Entry, FailureReason, InsertResult, Refusal, UpdateResult};
 pub use bucket::KBucket;
 pub use node::{ClosestValue, ConnectionDirection, ConnectionState, Key, Node, NodeStatus, PredicateValue, Value};
 pub use table::{KBucketsTable, Predicate, Settings};
+pub use version::{OtherLibrary, VERSION, Version, check_library, library_version};

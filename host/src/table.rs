@@ -15,9 +15,11 @@ pub struct Settings {
     pub pending_timeout: u64,
     /// The most connected incoming nodes in a bucket: 0 to 16.
     pub max_incoming: u8,
-    /// At most 10 unequal values of a /24 in the table.
+    /// `update_node` and `insert_or_update` fail where the table holds 10 values of the value's /24 that are unequal to it. What
+    /// `absent_insert` inserts and a pending node that is applied are not asked, so a table may hold more of a /24.
     pub table_filter: bool,
-    /// At most 2 unequal values of a /24 in a bucket.
+    /// A value fails where its bucket holds 2 values of its /24 that are unequal to it; so a bucket holds at most 2 different values of
+    /// a /24.
     pub bucket_filter: bool,
 }
 
@@ -49,11 +51,13 @@ impl KBucketsTable {
     }
 
     /// A table from the bytes of one, as [`KBucketsTable::storage`] gives them. Bytes that are no table's are refused by each call.
+    #[must_use]
     pub fn from_storage(storage: Vec<u8>) -> KBucketsTable {
         KBucketsTable { storage }
     }
 
     /// The bytes of the table, which may be kept and compared.
+    #[must_use]
     pub fn storage(&self) -> &[u8] {
         &self.storage
     }
@@ -137,7 +141,8 @@ impl KBucketsTable {
         Ok(entries(&output, lent::ITER_ENTRY, count, node))
     }
 
-    /// The first n nodes at these log2 distances; at n = 0 still one.
+    /// The first n nodes at these log2 distances, in the order given; at n = 0 still one. Distance d, from 1 to 256, is bucket d - 1: the
+    /// keys whose XOR with the local key is at least 2^(d-1) and below 2^d. Other distances are dropped.
     pub fn nodes_by_distances(&mut self, distances: &[u64], n: usize, now: u64) -> Result<Vec<Node>, Refusal> {
         let mut output = room(n.max(1), lent::NODES_BY_DISTANCES_ENTRY);
         let count = lent::nodes_by_distances(&mut self.storage, distances, n, now, &mut output)?;

@@ -67,6 +67,13 @@ fn help() {
     assert_eq!(answers, format!("New\nInserted\nList 1 {:0>64}\n", 4));
 }
 
+/// The tool's version and the linked library's.
+#[test]
+fn version() {
+    let version = env!("CARGO_PKG_VERSION");
+    assert_eq!(answers(&["--version"], ""), format!("kbtable {version}\nlibkbuckets {version}\n"));
+}
+
 /// A dump follows each call on the table, bdump each b_ call; nothing follows a raw line or a dump.
 #[test]
 fn dumps() {

@@ -136,7 +136,8 @@ fn refusals() -> Result<(), Refusal> {
 fn lent_output() -> Result<(), Refusal> {
     let mut storage = vec![0; lent::STORAGE_BYTES];
     let none = ValueCodes { flag: 0, octets: [0; 4], slot: 5 };
-    lent::insert_or_update(&mut storage, &key(0, 2), none, 1, 0, 0, &mut [0; lent::ANSWER_BYTES])?;
+    let inserted = lent::insert_or_update(&mut storage, &key(0, 2), none, 1, 0, 0, &mut [0; lent::ANSWER_BYTES])?;
+    assert_eq!(inserted, InsertResult::Inserted);
     let mut output = [0xaa; 3 * lent::CLOSEST_VALUES_PREDICATE_ENTRY + 7];
     let slot = PredicateCodes { predicate: 3, net: [0; 3], slot: 5 };
     let refused = lent::closest_values_predicate(&mut storage, &[0; 32], slot, 4, 0, &mut output);

@@ -19,6 +19,11 @@ ASSERT_SIZE(KBUCKETS_CLOSEST_KEYS_ENTRY_BYTES, 32);
 ASSERT_SIZE(KBUCKETS_CLOSEST_VALUES_ENTRY_BYTES, 39);
 ASSERT_SIZE(KBUCKETS_CLOSEST_VALUES_PREDICATE_ENTRY_BYTES, 40);
 
+/* A host may test the header's version while it compiles. */
+#if KBUCKETS_VERSION < 0x000200 || KBUCKETS_VERSION >= 0x010000
+#error "this program is written for versions from 0.2.0 to below 1.0.0"
+#endif
+
 static unsigned checks, failures;
 
 static void check(int line, uint64_t got, uint64_t expected) {
@@ -230,7 +235,14 @@ static void buckets(void) {
     CHECK(kbuckets_b_insert(bucket, sizeof bucket, of(3), 32, 1, 10, 1, 2, 4, 2, 0, 0, 0, answer, 74), 0);
 }
 
+/* Header and library belong together: what a host asks at its start. */
+static inline int same_version(void) { return kbuckets_version() == KBUCKETS_VERSION; }
+
 int main(void) {
+    CHECK(same_version(), 1);
+    CHECK(kbuckets_version() >> 16, KBUCKETS_VERSION_MAJOR);
+    CHECK(kbuckets_version() >> 8 & 0xff, KBUCKETS_VERSION_MINOR);
+    CHECK(kbuckets_version() & 0xff, KBUCKETS_VERSION_PATCH);
     refusals();
     listings();
     pendings();

@@ -46,7 +46,7 @@ static uint32_t put(const uint8_t *key) {
 // A new table with up to `most` nodes in each of the buckets from the first on.
 static void fill(int first, int most) {
     static const uint8_t local[32];
-    kbuckets_new(storage, sizeof storage, local, 32, 60000, 16, 0, 0);
+    if (kbuckets_new(storage, sizeof storage, local, 32, 60000, 16, 0, 0) != 0) abort();
     held_count = 0;
     for (int i = first; i < 256; i++)
         for (int tries = 0, n = 0; n < most && tries < 200; tries++) {

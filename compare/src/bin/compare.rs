@@ -12,10 +12,12 @@ compare [OPTIONS] --replay-out FILE [FIRST]
 
 Feeds seeded random lists of calls to two commands, each started with --dump, and holds their answers and dumps against each other
 line by line. FIRST is the `reference` beside this program where it is not given. A command may have arguments, parted by spaces.
-Exits with 0 where they agree, with 1 after a disagreement, which is shrunk to its fewest lines, with 2 where it cannot run.
+Exits with 0 where they agree on all calls, with 2 where it cannot run, and with 1 otherwise: after a disagreement, which is shrunk to its
+fewest lines, and a command that ends before its answers are through is one, whatever the other does; where fewer calls ran than were asked
+for; and, from 200,000 calls on, where an outcome of a call is not reached (from 2,000,000 on also what listings are to be asked for).
 
   --calls N          calls to compare (100,000) or to write (3,000)
-  --seconds N        stop after N seconds, whatever the count
+  --seconds N        stop after N seconds; calls that have not run by then are a failure
   --seed N           the seed (1)
   --replay-out FILE  write a list of calls that reaches every outcome, with the answers of FIRST after '#= '
 
@@ -39,13 +41,13 @@ fn main() -> ExitCode {
         Err(message) => return cannot(&message),
     };
     let done = match (&options.replay, &options.programs[..]) {
-        (Some(file), [first]) => replay(&options, first, file).map(|()| None),
+        (Some(file), [first]) => replay(&options, first, file),
         (None, [first, second]) => compare(&options, &[first.clone(), second.clone()]),
         _ => Err("give one command to write a list, two to compare; see --help".to_string()),
     };
     match done {
-        Ok(None) => ExitCode::SUCCESS,
-        Ok(Some(())) => ExitCode::FAILURE,
+        Ok(true) => ExitCode::SUCCESS,
+        Ok(false) => ExitCode::FAILURE,
         Err(message) => cannot(&message),
     }
 }
@@ -89,8 +91,13 @@ const TRIED: u64 = 20_000;
 /// Lines that are handed to a pair of programs at a time.
 const BATCH: usize = 3000;
 
-/// `Some` after a disagreement.
-fn compare(options: &Options, programs: &[Program; 2]) -> Result<Option<()>, String> {
+/// From so many calls on every outcome must be reached, and all that listings are to be asked for. By the counts of docs/MEASUREMENTS.md the
+/// rarest outcome comes 6 times in so many calls, the rarest n 15 times.
+const ALL_OUTCOMES: u64 = 200_000;
+const ALL_ASKED: u64 = 2_000_000;
+
+/// Whether the programs agree, on as many calls as were asked for, and on every outcome where there are enough of them.
+fn compare(options: &Options, programs: &[Program; 2]) -> Result<bool, String> {
     let start = Instant::now();
     let limit = Duration::from_secs(options.seconds);
     let wanted = options.calls.unwrap_or(COMPARED);
@@ -114,7 +121,7 @@ fn compare(options: &Options, programs: &[Program; 2]) -> Result<Option<()>, Str
         if let Some(disagreement) = disagreement {
             println!("seed {}: disagreement after {calls} calls", options.seed);
             report(programs, &list, &disagreement)?;
-            return Ok(Some(()));
+            return Ok(false);
         }
         if shown.elapsed() > Duration::from_secs(5) {
             shown = Instant::now();
@@ -125,11 +132,22 @@ fn compare(options: &Options, programs: &[Program; 2]) -> Result<Option<()>, Str
     print_counts(&counts);
     println!("Asked of the listings:");
     print_counts(&asked);
-    println!("seed {}: {calls} calls agree, in {:.1} s", options.seed, start.elapsed().as_secs_f64());
-    Ok(None)
+    let (seed, seconds) = (options.seed, start.elapsed().as_secs_f64());
+    let missing = |counts: &Counts, from| if wanted < from { 0 } else { counts.rare(1).len() };
+    let missing = missing(&counts, ALL_OUTCOMES) + missing(&asked, ALL_ASKED);
+    if calls < wanted {
+        println!("seed {seed}: FAILED: only {calls} of {wanted} calls ran, in {seconds:.1} s; they agree");
+    } else if missing > 0 {
+        println!(
+            "seed {seed}: FAILED: {calls} calls agree, in {seconds:.1} s, and {missing} outcomes that must be reached are not"
+        );
+    } else {
+        println!("seed {seed}: {calls} calls agree, in {seconds:.1} s");
+    }
+    Ok(calls >= wanted && missing == 0)
 }
 
-/// Shrinks a disagreement and prints it.
+/// Shrinks a disagreement to one of its kind, and prints it.
 fn report(programs: &[Program; 2], list: &[String], disagreement: &Disagreement) -> Result<(), String> {
     let mut trials = 0;
     let upto = &list[..list.len().min(disagreement.at + 1)];
@@ -138,7 +156,8 @@ fn report(programs: &[Program; 2], list: &[String], disagreement: &Disagreement)
         if trials % 200 == 0 {
             eprintln!("shrinking: {trials} trials, {} lines", part.len());
         }
-        matches!(run::compare(programs, part, |_, _| ()), Ok(Some(_)))
+        let parted = run::compare(programs, part, |_, _| ());
+        parted.is_ok_and(|parted| parted.is_some_and(|parted| parted.both_ended == disagreement.both_ended))
     };
     let lines = if parts(upto) { shrink(upto, parts) } else { shrink(list, parts) };
     let Some(disagreement) = run::compare(programs, &lines, |_, _| ())? else {
@@ -153,14 +172,15 @@ fn report(programs: &[Program; 2], list: &[String], disagreement: &Disagreement)
 }
 
 /// Writes a list that reaches every outcome: for each outcome the fewest lines that reach it, then random lists. Each part begins
-/// with a new table or bucket and ends with a dump.
-fn replay(options: &Options, program: &Program, file: &str) -> Result<(), String> {
+/// with a new table or bucket and ends with a dump. False where it does not reach them all, or has too few calls.
+fn replay(options: &Options, program: &Program, file: &str) -> Result<bool, String> {
     let start = Instant::now();
     let limit = Duration::from_secs(options.seconds);
     let mut generator = Generator::new(options.seed);
     generator.small = true;
     let mut counts = Counts::outcomes();
     let mut lines: Vec<String> = Vec::new();
+    let wanted = options.calls.unwrap_or(REPLAYED);
     let mut calls = 0;
     let mut shown = start;
     for _ in 0..TRIED {
@@ -175,7 +195,7 @@ fn replay(options: &Options, program: &Program, file: &str) -> Result<(), String
             list = fewest(program, &list, &answers, &unseen);
         } else if !counts.rare(1).is_empty() {
             continue;
-        } else if calls >= options.calls.unwrap_or(REPLAYED) {
+        } else if calls >= wanted {
             break;
         }
         for (line, answer) in list.iter().zip(program.answers(&list)?) {
@@ -193,8 +213,8 @@ fn replay(options: &Options, program: &Program, file: &str) -> Result<(), String
     let text: String = lines.iter().zip(answers).map(|(line, answer)| format!("{line}\n#= {answer}\n")).collect();
     std::fs::write(file, text).map_err(|error| format!("{file}: {error}"))?;
     print_counts(&counts);
-    println!("seed {}: {calls} calls, {} lines, written to {file}", options.seed, lines.len());
-    Ok(())
+    println!("seed {}: {calls} of {wanted} calls, {} lines, written to {file}", options.seed, lines.len());
+    Ok(calls >= wanted && counts.rare(1).is_empty())
 }
 
 /// The fewest lines of a list, the first among them, whose last reaches an outcome.

@@ -21,5 +21,6 @@ fn main() -> ExitCode {
 
 #[cfg(reference_source)]
 fn main() -> ExitCode {
-    compare::program::run("reference", || HELP.to_string(), compare::driver::Driver::new())
+    let help = || HELP.to_string();
+    compare::program::run("reference", &[("--help", help), ("-h", help)], compare::driver::Driver::new())
 }

@@ -1,5 +1,5 @@
 -- What a sound bucket tells, and when a bucket is sound.
-use Prim.Native.Nat.{ℕ, _-_, _≤_}
+use Prim.Native.Nat.{ℕ, _+_, _-_, _≤_}
 use native.Mathlib.Omega.{arith}
 use mathlib.Core.Path.{_≡_, refl, sym, ap, _∙_, subst}
 use mathlib.Core.Bool.{Bool, true, false, cond, not}
@@ -11,7 +11,7 @@ use lib.Dec.{eqb, leb}
 use borrow.Author.Tests.{leb-true, eqb-true, not-true, eq-eqb, ne-eqb}
 use Rattle.model.specs.Base.{every}
 use Rattle.model.specs.Node as model
-use Rattle.model.specs.Bucket.{Bucket, BucketSettings, maxNodesPerBucket, nodes, numEntries, holds, incomingNodes}
+use Rattle.model.specs.Bucket.{Bucket, BucketSettings, maxNodesPerBucket, nodes, firstConnected, firstConnectedPos, numEntries, holds, incomingNodes}
 use Rattle.model.specs.Fits.{All, Opt, Different, Formed}
 use Rattle.laws.proofs.KeepFormed.{count-nodes}
 use Rattle.key.specs.Key.{num, Words}
@@ -26,7 +26,8 @@ use Rattle.places.proofs.Model.{map-take, map-drop, all-of-every, all-of-map, d
 use Rattle.bucket.specs.declared.Pending.{Pending}
 use Rattle.bucket.specs.declared.Pending.the-variants.{Nothing, Waiting}
 use Rattle.bucket.specs.declared.KBucket.{KBucket}
-use Rattle.bucket.specs.Bucket.{pendingOf, heldOf, bucketOf, firstConnected, settingsOf, storedPending, stored, pendingSound, PendingWords, sound, Sound, Becomes}
+use Rattle.bucket.specs.Bucket as specs
+use Rattle.bucket.specs.Bucket.{pendingOf, heldOf, bucketOf, settingsOf, storedPending, stored, pendingSound, PendingWords, sound, Sound, Becomes}
 use Rattle.bucket.proofs.Stored.{same-parts, bucket-stored, settings-stored, sound-stored}
 use Rattle.laws.proofs.All.{all-map, all-append}
 
@@ -138,21 +139,18 @@ module _ (b : KBucket) (s : Sound b) where
         pending-apart = apart (bucketOf b) (b .pending) (t .pending-fits);
       }
 
--- The first connected place is none where no node is connected, and else the number of the disconnected ones.
+-- 01, question 2 and position 7: first_connected_pos is the model's first connected place where it is below the count, and at the count
+-- the model has none
+first-place : (f c : ℕ) (cs : List model.Node) → c ≡ f + length cs → firstConnected f cs ≡ cond (eqb f c) none (some f)
+first-place f c [] e = sym (ap (λ (t : Bool). cond t none (some f)) (eq-eqb f c (omega (arith, e))))
+first-place f c (n ∷ ns) e = sym (ap (λ (t : Bool). cond t none (some f)) (ne-eqb f c (λ q. omega (arith, e, q))))
 
-pub no-first-connected : (b : KBucket) → Sound b → bucketOf b .connected ≡ [] → firstConnected b ≡ none
-no-first-connected b s e =
-    let none-there = ap length e in
-    ap (λ (t : Bool). cond t none (some (b .«first_connected_pos»)))
-    (eq-eqb (b .«first_connected_pos») (b .count) (omega (arith, first-of b s, count-of b s, none-there)))
-
-pub first-connected : (b : KBucket) → Sound b → (n : model.Node) (ns : List model.Node) → bucketOf b .connected ≡ n ∷ ns
-    → firstConnected b ≡ some (length (bucketOf b .disconnected))
-first-connected b s n ns e =
-    let some-there = ap length e in
-    ap (λ (t : Bool). cond t none (some (b .«first_connected_pos»)))
-    (ne-eqb (b .«first_connected_pos») (b .count) (λ q. omega (arith, first-of b s, count-of b s, some-there)))
-    ∙ ap some (first-of b s)
+pub first-connected-pos : (b : KBucket) → Sound b → firstConnectedPos (bucketOf b) ≡ specs.firstConnected b
+unfolding firstConnectedPos
+first-connected-pos b s =
+    ap (λ (f : ℕ). firstConnected f (bucketOf b .connected)) (sym (first-of b s))
+    ∙ first-place (b .«first_connected_pos») (b .count) (bucketOf b .connected)
+    (count-of b s ∙ ap (λ (f : ℕ). f + length (bucketOf b .connected)) (sym (first-of b s)))
 
 -- What is stored of a well-formed bucket is sound.
 

@@ -31,7 +31,7 @@ pub enum Pending {
 
 pub struct KBucket {
     // The nodes, in the first count places; the others are zero.
-    pub nodes: [Node; 16],
+    pub nodes: [Node; KBucket::MAX_NODES_PER_BUCKET],
     pub count: usize,
     // The place of the first connected node, and count where no node is connected.
     pub first_connected_pos: usize,
@@ -164,7 +164,7 @@ pub struct NewReply {
 
 impl KBucket {
     // The fixed number of places.
-    pub const MAX_NODES_PER_BUCKET: usize = 16;
+    pub const MAX_NODES_PER_BUCKET: usize = model::MAX_NODES_PER_BUCKET;
 
     // How many bytes a bucket by itself takes: count, first connected place, the nodes; pending flag, pending node, deadline; the settings.
     pub const BYTES: usize = 2
@@ -180,7 +180,7 @@ impl KBucket {
     pub fn new(pending_timeout: u64, max_incoming: usize, filter: u8) -> NewReply
         ensures { λ r. ⌜ newCall «pending_timeout» «max_incoming» filter ≡ (newAnswerOf (r .answer), r .bucket) ⌝ }
     {
-        if 16 < max_incoming {
+        if KBucket::MAX_NODES_PER_BUCKET < max_incoming {
             let zero = KBucket::empty(0, 0, 0);
             return NewReply {
                 bucket: zero,
@@ -207,7 +207,7 @@ impl KBucket {
         ensures { λ r. ⌜ r ≡ stored (record { pendingTimeout = «pending_timeout»; maxIncoming = «max_incoming»; filter = isOne filter }) emptyBucket ⌝ }
     {
         let z = Node::zero();
-        let nodes = [z; 16];
+        let nodes = [z; KBucket::MAX_NODES_PER_BUCKET];
         let p = Pending::Nothing;
         KBucket {
             nodes: nodes,
@@ -365,7 +365,7 @@ impl KBucket {
                 result: InsertResult::TooManyIncoming,
             };
         }
-        if self.count < 16 {
+        if self.count < KBucket::MAX_NODES_PER_BUCKET {
             let put = self.placed(node);
             return Inserted {
                 bucket: put,
@@ -437,7 +437,7 @@ impl KBucket {
                 applied: AppliedPending::Nothing,
             };
         }
-        if self.count < 16 {
+        if self.count < KBucket::MAX_NODES_PER_BUCKET {
             self = self.placed(node);
             return Applied {
                 bucket: self,
@@ -502,7 +502,7 @@ impl KBucket {
     }
 
     // Internal: the status step on the node at place pos of a sound bucket.
-    pub fn status_at(self, pos: usize, state: u8, direction: u8) -> Updated
+    pub fn status_at(mut self, pos: usize, state: u8, direction: u8) -> Updated
         requires { ⌜ Sound self ⌝ }
         requires { ⌜ pos < self .count ⌝ }
         requires { ⌜ state ≤ 1 ⌝ }
@@ -512,23 +512,23 @@ impl KBucket {
     {
         let old = self.nodes[pos];
         let node = old.with_status(state, direction);
-        let out = self.taken_out(pos);
-        let left = out.without_pending((state == 1) & (pos == 0));
-        if left.fails_filter(node.value) {
+        self = self.taken_out(pos);
+        self = self.without_pending((state == 1) & (pos == 0));
+        if self.fails_filter(node.value) {
             return Updated {
-                bucket: left,
+                bucket: self,
                 result: UpdateResult::Failed(FailureReason::BucketFilter),
             };
         }
-        if left.is_max_incoming(node) {
+        if self.is_max_incoming(node) {
             return Updated {
-                bucket: left,
+                bucket: self,
                 result: UpdateResult::Failed(FailureReason::TooManyIncoming),
             };
         }
-        let put = left.placed(node);
+        self = self.placed(node);
         Updated {
-            bucket: put,
+            bucket: self,
             result: status_result(old, node),
         }
     }
@@ -689,7 +689,7 @@ impl KBucket {
     }
 
     // Internal: remove on a sound bucket.
-    pub fn remove_sound(self, key: Key, now: u64) -> Removed
+    pub fn remove_sound(mut self, key: Key, now: u64) -> Removed
         requires { ⌜ Sound self ⌝ }
         requires { ⌜ now + self .«pending_timeout» < 2 ^ 64 ⌝ }
         ensures { λ r. ⌜ r .found ≡ remove (settingsOf self) now (num key) (bucketOf self) .0 ⌝ }
@@ -699,26 +699,26 @@ impl KBucket {
         let count = self.count;
         let pos = places::position(nodes, 0, count, key);
         if pos < count {
-            let out = self.taken_out(pos);
-            let p = out.pending;
+            self = self.taken_out(pos);
+            let p = self.pending;
             match p {
                 Pending::Nothing => {
                     return Removed {
-                        bucket: out,
+                        bucket: self,
                         found: true,
                     };
                 }
                 Pending::Waiting(_, deadline) => {
                     if deadline <= now {
-                        let a = out.apply_pending_sound(now);
-                        let b = a.bucket;
+                        let a = self.apply_pending_sound(now);
+                        self = a.bucket;
                         return Removed {
-                            bucket: b,
+                            bucket: self,
                             found: true,
                         };
                     }
                     return Removed {
-                        bucket: out,
+                        bucket: self,
                         found: true,
                     };
                 }
@@ -738,7 +738,7 @@ impl KBucket {
         let nodes = self.nodes;
         let count = self.count;
         let first = self.first_connected_pos;
-        if 16 < count {
+        if KBucket::MAX_NODES_PER_BUCKET < count {
             return false;
         }
         if count < first {
@@ -749,7 +749,7 @@ impl KBucket {
         let few = places::incoming(nodes, count) <= self.max_incoming;
         let p = self.pending;
         let pending = pending_sound(nodes, count, p);
-        let codes = (self.max_incoming <= 16) & (self.filter <= 1);
+        let codes = (self.max_incoming <= KBucket::MAX_NODES_PER_BUCKET) & (self.filter <= 1);
         different & (placed & (few & (pending & codes)))
     }
 
@@ -932,7 +932,7 @@ pub fn cleared(key: Key, p: Pending) -> Pending
 }
 
 // Internal: is a pending not held, and are its codes in range? A yes also tells what Rattle knows of its key.
-pub fn pending_sound(nodes: [Node; 16], count: usize, p: Pending) -> bool
+pub fn pending_sound(nodes: [Node; KBucket::MAX_NODES_PER_BUCKET], count: usize, p: Pending) -> bool
     requires { ⌜ count ≤ maxNodesPerBucket ⌝ }
     ensures { λ r. ⌜ r ≡ pendingFits (take count nodes) p ⌝ }
     ensures { λ r. ⌜ PendingWords p ⌝ }

@@ -24,11 +24,11 @@ use Rattle.node.specs.declared.Value.{Value}
 use Rattle.node.specs.Node.{valueCodes}
 use Rattle.bucket.specs.declared.KBucket.{KBucket}
 use Rattle.bucket.specs.Bucket.{bucketOf}
-use Rattle.asked.proofs.Questions.{front-fails, front-passes}
-use Rattle.asked.proofs.Steps.{Stepped}
+use Rattle.laws.proofs.Questions.{front-fails, front-passes}
+use Rattle.on_key.proofs.Steps.{Stepped}
 use Rattle.codes.specs.Codes.{refusedCode, updateCode, bucketInsertCode, bucketInsertBytes, appliedCode, appliedBytes, answerSize}
 use Rattle.codes.specs.Exported.{Exported, Leaves, Writes}
-use Rattle.bucket_bytes.specs.Lent.{lentTimeoutAt, lentMaxIncomingAt, lentFilterAt, lentSize, lentSettings, lentBucket, emptyBytes, lentFive, failedOfLent}
+use Rattle.bucket_calls.specs.Lent.{lentTimeoutAt, lentMaxIncomingAt, lentFilterAt, lentSize, lentSettings, lentBucket, emptyBytes, lentFive, failedOfLent}
 use Rattle.bucket_calls.specs.Calls.{BucketCall, BucketEffect, answerFits, bucketQuestions, bucketAct, bucketStep, bucketNew}
 
 -- the questions, with and without a lent answer

@@ -15,7 +15,7 @@ use Rattle.model.specs.Step.{nodeOf}
 use Rattle.model.specs.Layout.{flagByte, bucketBytes}
 use Rattle.codes.specs.Codes.{refusedCode, updateCode, bucketInsertCode, bucketInsertBytes, appliedCode, appliedBytes, answerSize}
 use Rattle.codes.specs.Exported.{Exported}
-use Rattle.bucket_bytes.specs.Lent.{lentSize, lentSettings, lentBucket, lentFive, emptyBytes}
+use Rattle.bucket_calls.specs.Lent.{lentSize, lentSettings, lentBucket, lentFive, emptyBytes}
 
 pub data BucketCall : Type 0 where
   insert : (key : List ℕ) (value : ValueArgument) (state direction now : ℕ) → BucketCall

@@ -4,8 +4,11 @@ ghost use mathlib.Core.List.{[]};
 ghost use Rattle.node.specs.Node.{argumentOf};
 ghost use Rattle.codes.specs.Exported.{Leaves, Writes};
 ghost use Rattle.bucket_calls.specs.Calls.{BucketCall, bucketStep, bucketNew};
+
+pub mod stored;
+
+use crate::stored::Lent;
 use bucket::KBucket;
-use bucket_bytes::Lent;
 use codes::Answer;
 use node::Node;
 use node::NodeStatus;
@@ -42,20 +45,20 @@ pub fn insert(
 {
     let fits = key.len() == Layout::KEY;
     let codes = value.in_range() & ((status.state <= 1) & (status.direction <= 1));
-    let q = bucket_bytes::asked_at(s, fits, codes, time);
+    let q = crate::stored::asked_at(s, fits, codes, time);
     if q != 0 {
         return codes::refused(q);
     }
     if answer.len() < Answer::BYTES {
         return codes::refused(6);
     }
-    let k = asked::key_of(key);
+    let k = on_key::key_of(key);
     let node = Node {
         key: k,
         value,
         status,
     };
-    let b = bucket_bytes::load(s);
+    let b = crate::stored::load(s);
     let r = b.insert_sound(node, time);
     let left = r.bucket;
     let result = r.result;
@@ -67,14 +70,14 @@ pub fn insert(
 pub fn apply_pending(s: &mut [u8], time: u64, answer: &mut [u8]) -> u32
     ensures { λ r. ⌜ Writes r (now (s .exit)) (now (answer .exit)) (bucketStep (BucketCall.applyPending time) (now (answer .entry)) (now (s .entry))) ⌝ }
 {
-    let q = bucket_bytes::asked_at(s, true, true, time);
+    let q = crate::stored::asked_at(s, true, true, time);
     if q != 0 {
         return codes::refused(q);
     }
     if answer.len() < Answer::BYTES {
         return codes::refused(6);
     }
-    let b = bucket_bytes::load(s);
+    let b = crate::stored::load(s);
     let r = b.apply_pending_sound(time);
     let left = r.bucket;
     let applied = r.applied;
@@ -88,12 +91,12 @@ pub fn update_status(s: &mut [u8], key: &[u8], state: u8, direction: u8) -> u32
 {
     let fits = key.len() == Layout::KEY;
     let codes = (state <= 1) & (direction <= 2);
-    let q = bucket_bytes::asked(s, fits, codes);
+    let q = crate::stored::asked(s, fits, codes);
     if q != 0 {
         return codes::refused(q);
     }
-    let k = asked::key_of(key);
-    let b = bucket_bytes::load(s);
+    let k = on_key::key_of(key);
+    let b = crate::stored::load(s);
     let r = b.update_status_sound(k, state, direction);
     let left = r.bucket;
     let result = r.result;
@@ -107,12 +110,12 @@ pub fn update_value(s: &mut [u8], key: &[u8], value: Value) -> u32
 {
     let fits = key.len() == Layout::KEY;
     let codes = value.in_range();
-    let q = bucket_bytes::asked(s, fits, codes);
+    let q = crate::stored::asked(s, fits, codes);
     if q != 0 {
         return codes::refused(q);
     }
-    let k = asked::key_of(key);
-    let b = bucket_bytes::load(s);
+    let k = on_key::key_of(key);
+    let b = crate::stored::load(s);
     let r = b.update_value_sound(k, value);
     let left = r.bucket;
     let result = r.result;
@@ -125,11 +128,11 @@ pub fn update_pending(s: &mut [u8], state: u8, direction: u8) -> u32
     ensures { λ r. ⌜ Leaves r (now (s .exit)) (bucketStep (BucketCall.updatePending state direction) [] (now (s .entry))) ⌝ }
 {
     let codes = (state <= 1) & (direction <= 1);
-    let q = bucket_bytes::asked(s, true, codes);
+    let q = crate::stored::asked(s, true, codes);
     if q != 0 {
         return codes::refused(q);
     }
-    let b = bucket_bytes::load(s);
+    let b = crate::stored::load(s);
     let left = b.update_pending_sound(state, direction);
     buckets::store_at(s, 0, left);
     0
@@ -140,12 +143,12 @@ pub fn remove(s: &mut [u8], key: &[u8], time: u64) -> u32
     ensures { λ r. ⌜ Leaves r (now (s .exit)) (bucketStep (BucketCall.remove (now (key .entry)) time) [] (now (s .entry))) ⌝ }
 {
     let fits = key.len() == Layout::KEY;
-    let q = bucket_bytes::asked_at(s, fits, true, time);
+    let q = crate::stored::asked_at(s, fits, true, time);
     if q != 0 {
         return codes::refused(q);
     }
-    let k = asked::key_of(key);
-    let b = bucket_bytes::load(s);
+    let k = on_key::key_of(key);
+    let b = crate::stored::load(s);
     let r = b.remove_sound(k, time);
     let left = r.bucket;
     let found = r.found;

@@ -11,8 +11,7 @@ use lib.Dec.{eqb, leb}
 use borrow.Author.Tests.{eqb-true, ne-eqb, leb-true, le-leb}
 use Rattle.model.specs.Base.{tabulate}
 use Rattle.model.specs.Bytes.{number, part, Bytes}
-use Rattle.model.specs.Bucket.{maxNodesPerBucket, nodes, numEntries}
-use Rattle.model.specs.Table.{numBuckets}
+use Rattle.model.specs.Bucket.{maxNodesPerBucket, nodes}
 use Rattle.model.specs.Sizes.{keySize, valueSize, timeSize, nodeSize, pendingAt, pendingSize, bucketSize, timeoutAt, maxIncomingAt, bucketFilterAt}
 use Rattle.model.specs.Layout.{valueIn, nodeIn, placeIn, nodesIn, pendingIn, bucketIn, settingsIn, bucketPart, tableOf}
 use Rattle.model.specs.Formed as formed
@@ -24,7 +23,6 @@ use Rattle.laws.proofs.Bytes.{Bytes-part}
 use Rattle.laws.proofs.NodeFormed.{flag-back}
 use Rattle.laws.proofs.BucketFormed.{Checked, checked, checked-if}
 use Rattle.laws.proofs.HeaderBack.{checked-header}
-use Rattle.laws.proofs.TableBytes.{header-passes, bucket-passes}
 use Rattle.laws.proofs.BucketBack.{nodes-in, count-in, first-in, pending-of, bucket-good}
 use Rattle.node.specs.declared.Node.{Node}
 use Rattle.node.specs.Node.{storedValue, storedNode, zeroNode}
@@ -202,13 +200,12 @@ module _ (s : List ℕ) (at m : ℕ) (c : soundBytes m (part s at bucketSize) �
       (e₄ ∙ ap readPending (sym (part-part s at bucketSize pendingAt pendingSize (omega arith)))) refl refl refl))
       (loaded bucketBytesAt (length-part s at bucketSize l) (Bytes-part s at bucketSize h) m c t f a b)
 
--- what question 2 of the storage tells of bucket i and of its settings
-module _ (s : List ℕ) (h : formed.formed s ≡ true) where
-  pub bucket-sound : (i : ℕ) → i < numBuckets → soundBytes (getD s maxIncomingAt 0) (bucketPart s i) ≡ true
-  bucket-sound i l = any-index _ _ (bucketPart s i) (bucket-passes s h i l)
+-- what question 2 tells of bucket i and of its settings
+pub bucket-sound : (s : List ℕ) (i : ℕ) → formed.bucketFormedAt s i ≡ true → soundBytes (getD s maxIncomingAt 0) (bucketPart s i) ≡ true
+bucket-sound s i h = any-index _ _ (bucketPart s i) h
 
-  pub settings-sound : (getD s maxIncomingAt 0 ≤ maxNodesPerBucket) × (getD s bucketFilterAt 0 ≤ 1)
-  settings-sound = let c = checked-header s (header-passes s h) in (c .maxIncoming, leb-true (getD s bucketFilterAt 0) 1 (c .bucketFilter))
+pub settings-sound : (s : List ℕ) → formed.headerFormed s ≡ true → (getD s maxIncomingAt 0 ≤ maxNodesPerBucket) × (getD s bucketFilterAt 0 ≤ 1)
+settings-sound s h = let c = checked-header s h in (c .maxIncoming, leb-true (getD s bucketFilterAt 0) 1 (c .bucketFilter))
 
 -- a bucket that is loaded under the storage's settings
 pub table-becomes : (s : List ℕ) (i t m : ℕ) (r : KBucket) → t ≡ number (part s timeoutAt timeSize) → m ≡ getD s maxIncomingAt 0

@@ -8,7 +8,7 @@ ghost use Rattle.model.specs.Bucket.{maxNodesPerBucket};
 ghost use Rattle.model.specs.Table.{numBuckets};
 ghost use Rattle.model.specs.Sizes.{pendingSize, bucketSize, bucketAt, storageSize};
 ghost use Rattle.model.specs.Layout.{pendingBytes, bucketBytes, bucketIn, tableOf};
-ghost use Rattle.model.specs.Formed.{formed};
+ghost use Rattle.model.specs.Formed.{headerFormed, bucketFormedAt};
 ghost use Rattle.bucket.specs.Bucket.{pendingOf, bucketOf, Sound, Becomes};
 ghost use Rattle.buckets.specs.Read.{readPending, pendingCodes, soundBytes, settings};
 use bucket::KBucket;
@@ -69,11 +69,12 @@ pub fn load_at(
     }
 }
 
-// Internal: bucket i of storage that is formed.
+// Internal: bucket i of storage whose header and bucket i pass question 2.
 pub fn load_bucket(s: &[u8], i: usize) -> KBucket
     requires { ⌜ length (now s) ≡ storageSize ⌝ }
-    requires { ⌜ formed (now s) ≡ true ⌝ }
+    requires { ⌜ headerFormed (now s) ≡ true ⌝ }
     requires { ⌜ i < numBuckets ⌝ }
+    requires { ⌜ bucketFormedAt (now s) i ≡ true ⌝ }
     ensures { λ r. ⌜ Becomes (tableOf (now (s .entry)) .settings .bucket) (tableOf (now (s .entry)) .buckets i) r ⌝ }
 {
     let pending_timeout = words::get_u64(s, Layout::TIMEOUT_AT);

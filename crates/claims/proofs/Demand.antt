@@ -4,7 +4,7 @@
 -- finds in the queue behind those that were there before.
 use Prim.Native.Nat.{ℕ}
 use mathlib.Core.Path.{_≡_, refl, sym, ap, ap₂, _∙_, subst, subst⁻¹}
-use mathlib.Core.List.{List, [], _∷_, reverse}
+use mathlib.Core.List.{List, _∷_, reverse}
 use Rattle.model.specs.Node.{AppliedPending}
 use Rattle.model.specs.Table.{Table, Answer}
 use Rattle.model.specs.Call.{Call}
@@ -17,20 +17,12 @@ use Rattle.laws.proofs.TableBytes.{table-there, formed-there}
 use Rattle.laws.proofs.TableStep.{step-bytes, new-bytes}
 use Rattle.log.specs.Log.{Entry}
 use Rattle.log.specs.Claim.{Claim, StorageClaim, tableAfter, entries}
-use Rattle.asked.specs.Answers.{Answers}
+use Rattle.items.specs.Lists.{Lists}
 use Rattle.theorem.proofs.Theorem.{theorem}
-use Rattle.claims.proofs.Records.{behind, records-behind}
-use Rattle.claims.proofs.Ran.{Ran, equation}
-
--- what the log is fed of a run that answered a and left s′ where it found s
-abbrev pub fed : (c : Call) (s : List ℕ) (a : Answer) (s′ : List ℕ) → Entry
-fed c s a s′ = record { call = c; answer = a; records = behind (tableOf s .queue) (tableOf s′ .queue) }
-
--- Runs of the code one after the other, each on the storage that the one before left, and what the log is fed of them.
-pub data Runs : (cs : List Call) (s : List ℕ) (es : List Entry) (s′ : List ℕ) → Type 1 where
-  none : {s : List ℕ} → Runs [] s [] s
-  next : {c : Call} {cs : List Call} {s : List ℕ} {a : Answer} {r : List ℕ} {es : List Entry} {s′ : List ℕ}
-      → Ran c s a r → Runs cs r es s′ → Runs (c ∷ cs) s (fed c s a r ∷ es) s′
+use Rattle.claims.specs.Ran.{Ran}
+use Rattle.claims.specs.Runs.{behind, fed, Runs}
+use Rattle.claims.proofs.Records.{records-behind}
+use Rattle.claims.proofs.Ran.{equation}
 
 -- the runs come to what the model's steps come to
 pub record Followed (cs : List Call) (t : Table) (es : List Entry) (s′ : List ℕ) : Type 0 where
@@ -39,7 +31,7 @@ pub record Followed (cs : List Call) (t : Table) (es : List Entry) (s′ : List 
   pub fits : Fits (tableAfter cs t)
 
 -- what is fed of one run, where the storage before holds t and the storage after is that of the model's step
-fed-step : (c : Call) (s : List ℕ) (t : Table) (a : Answer) (r : List ℕ) → tableOf s ≡ t → tableOf r ≡ step c t .table → a ≡ step c t .answer
+pub fed-step : (c : Call) (s : List ℕ) (t : Table) (a : Answer) (r : List ℕ) → tableOf s ≡ t → tableOf r ≡ step c t .table → a ≡ step c t .answer
     → fed c s a r ≡ record { call = c; answer = step c t .answer; records = step c t .records }
 fed-step c s t a r e f g =
     ap₂ (λ (x : Answer) (rs : List AppliedPending). record { call = c; answer = x; records = rs }) g
@@ -48,8 +40,8 @@ fed-step c s t a r e f g =
 pub followed : (cs : List Call) (t : Table) (s : List ℕ) (es : List Entry) (s′ : List ℕ) → All FitsCall cs → Fits t → s ≡ bytesOf t → Runs cs s es s′
     → Followed cs t es s′
 followed _ t s _ _ h f e Runs.none = record { log = refl; storage = e; fits = f }
-followed _ t s _ s′ h f e (Runs.next {c} {cs} {a = a} {r} {es} run runs) =
-    let q : Answers a r (stepBytes c (bytesOf t)) = subst (λ (x : List ℕ). Answers a r (stepBytes c x)) e (equation run) in
+followed _ t s _ s′ h f e (Runs.next {c} {cs} {a = a} {r} {out′} {es} run runs) =
+    let q : Lists a r out′ (stepBytes c (bytesOf t)) = subst (λ (x : List ℕ). Lists a r out′ (stepBytes c x)) e (equation run) in
     let o = step-bytes c t (h .0) f in
     let g = step-fits c t (h .0) f in
     let left : r ≡ bytesOf (step c t .table) = q .storage ∙ o .storage in
@@ -63,11 +55,11 @@ followed _ t s _ s′ h f e (Runs.next {c} {cs} {a = a} {r} {es} run runs) =
     }
 
 -- The code's `new` answered New on whatever bytes s, then the calls cs followed.
-pub demand-3 : (k : List ℕ) (timeout m tf bf : ℕ) (cs : List Call) (s r : List ℕ) (es : List Entry) (s′ : List ℕ)
+pub demand-3 : (k : List ℕ) (timeout m tf bf : ℕ) (cs : List Call) (s r out′ : List ℕ) (es : List Entry) (s′ : List ℕ)
     → All FitsCall (Call.new k timeout m tf bf ∷ cs)
-    → Ran (Call.new k timeout m tf bf) s Answer.New r → Runs cs r es s′
+    → Ran (Call.new k timeout m tf bf) s Answer.New r out′ → Runs cs r es s′
     → StorageClaim (reverse (fed (Call.new k timeout m tf bf) s Answer.New r ∷ es)) s′
-demand-3 k timeout m tf bf cs s r es s′ h run runs =
+demand-3 k timeout m tf bf cs s r out′ es s′ h run runs =
     let c : Call = Call.new k timeout m tf bf in
     let q = equation run in
     let t : Table = tableOf s in

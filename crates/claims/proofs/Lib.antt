@@ -1,7 +1,15 @@
--- Demands 1 and 3 for the code, and the answers that each call can give, over the contracts of its entry points.
-pub mod Records
+-- Demands 1 and 3 for the code, and the answers that each call can give; the same for a host, on codes and bytes. Every call of the code is
+-- such a run: EntryPoints, HostFunctions.
+pub mod Returns
+pub mod EntryPoints
+pub mod HostFunctions
 pub mod Ran
-pub mod Refusals
+pub mod Records
 pub mod Listed
+pub mod Refusals
 pub mod Demand
 pub mod Listings
+pub mod Codes
+pub mod Exports
+pub mod Reading
+pub mod HostDemand

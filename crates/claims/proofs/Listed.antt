@@ -4,27 +4,26 @@ use mathlib.Core.Path.{_≡_, refl, ap, _∙_}
 use mathlib.Core.Bool.{Bool, true, false}
 use mathlib.Core.List.{List, [], _∷_}
 use mathlib.Core.Option.{Option, none, some}
-use lib.ListN.{length}
-use lib.Dec.{eqb}
 use Rattle.model.specs.Base.{same, isSome}
 use Rattle.model.specs.Bytes.{number}
 use Rattle.model.specs.Node.{Node, PendingNode, AppliedPending, withStatus, withValue, sameStatus, promotes}
 use Rattle.model.specs.Value.{Value, sameValue}
-use Rattle.model.specs.Result.{FailureReason, BucketInsertResult, UpdateResult, InsertResult, isFailed}
-use Rattle.model.specs.Bucket.{Bucket, BucketSettings, holds, get, failsBucketFilter, isMaxIncoming, takeOut, insert, reinsert, takenOut, statusResult, applyPending, updateIfPending, updateStatusOf, updateStatus, updateValueOf, updateValue}
-use Rattle.model.specs.Table.{Table, Answer, failsTableFilter, kindOfNode, kindOf, indexIn, bothUpdates, insertUpdates, inserts, thenStatus, updateNodeIn, insertOrUpdateIn}
-use Rattle.model.specs.Call.{Call, isOne, optional, valueOf}
-use Rattle.model.specs.Question.{firstFailed, isPresent, isPending, isAbsent, kindFits}
-use Rattle.model.specs.Sizes.{storageSize}
+use Rattle.model.specs.Result.{FailureReason, BucketInsertResult, UpdateResult, isFailed}
+use Rattle.model.specs.Bucket.{Bucket, BucketSettings, holds, get, failsBucketFilter, isMaxIncoming, takeOut, insert, reinsert, takenOut, statusResult, updateIfPending, updateStatusOf, updateStatus, updateValueOf, updateValue}
+use Rattle.model.specs.Table.{Table, EntryKind, Answer, failsTableFilter, kindOfNode, kindOf, kindIn, indexIn, bothUpdates, insertUpdates, inserts, thenStatus, updateNodeIn, insertOrUpdateIn}
+use Rattle.model.specs.Call.{Call, KeyCall, isOne, optional, valueOf}
+use Rattle.model.specs.Question.{firstFailed, isAbsent, keyArguments, kindFits}
 use Rattle.model.specs.Layout.{tableOf}
-use Rattle.model.specs.Step.{nodeOf, takeOldest, act, questions}
-use Rattle.model.specs.StepBytes.{allQuestions, unlessRefused, stepBytes, holdsTable}
-use Rattle.laws.proofs.Tests.{clash, cases}
-use Rattle.laws.proofs.KeepStep.{passed, accepted}
+use Rattle.model.specs.Step.{onKey, nodeOf, ownAnswer, effect, takeOldest, act}
+use Rattle.model.specs.StepBytes.{allQuestions, unlessRefusedBytes, stepBytes}
+use Rattle.log.specs.Log.{isRefused}
+use Rattle.laws.proofs.Tests.{clash, cases, or-second}
+use Rattle.laws.proofs.Questions.{accepted-bytes}
 use Rattle.laws.proofs.Unreachable.{absent-not-exists, present-held, present-stays}
-use Rattle.claims.specs.Listed.{reasons, updates, statusUpdates, nodeUpdates, presentUpdates, valueUpdates, insertResults, absentInserts, no, answers, canAnswer}
-use Rattle.claims.proofs.Ran.{Ran, equation}
-use Rattle.claims.proofs.Refusals.{on-key, on-entry}
+use Rattle.claims.specs.Listed
+use Rattle.claims.specs.Listed.{reasons, updates, statusUpdates, nodeUpdates, presentUpdates, valueUpdates, insertResults, absentInserts, no, kinds, among, keyKinds, kindsOf, canAnswer}
+use Rattle.claims.specs.Ran.{Ran}
+use Rattle.claims.proofs.Ran.{equation}
 
 -- The status step and the value step, for any test p of their answers.
 module _ (p : UpdateResult → Bool) where
@@ -127,11 +126,11 @@ both UpdateResult.NotModified UpdateResult.UpdatedPending h g = refl
 both UpdateResult.NotModified UpdateResult.NotModified h g = refl
 
 -- an answer of a call on one key, beside its bucket
-abbrev Listed : (Answer → Bool) → Answer × Bucket → Type 0
-Listed q r = q (r .0) ≡ true
+abbrev Holds : (Answer → Bool) → Answer × Bucket → Type 0
+Holds q r = q (r .0) ≡ true
 
 abbrev ofNode : Answer → Bool
-ofNode a = answers false false false false false nodeUpdates no no a
+ofNode a = among (Listed.onKey (kinds false false nodeUpdates no no)) a
 
 then-status : (s : BucketSettings) (k : ℕ) (o : Option Bool) (v : UpdateResult) (b : Bucket) → nodeUpdates v ≡ true → ofNode (thenStatus s k o v b .0) ≡ true
 then-status s k none v b h = h
@@ -141,7 +140,7 @@ update-node : (s : BucketSettings) (fails : Bool) (now k : ℕ) (v : Value) (o :
 update-node s fails now k v o b =
     let r = updateValue s k v b in
     let h = any-value nodeUpdates s k v b refl refl refl refl refl in
-    cases (Listed ofNode) fails (λ _. refl) (λ _. cases (Listed ofNode) (isFailed (r .0)) (λ _. h) (λ _. then-status s k o (r .0) (r .1) h))
+    cases (Holds ofNode) fails (λ _. refl) (λ _. cases (Holds ofNode) (isFailed (r .0)) (λ _. h) (λ _. then-status s k o (r .0) (r .1) h))
 
 -- insert_or_update on a held key
 updated : (v r : UpdateResult) → heldValues v ≡ true → presentUpdates r ≡ true → isFailed r ≡ false → insertResults (insertUpdates v r) ≡ true
@@ -185,14 +184,14 @@ new-insert : (s : BucketSettings) (now : ℕ) (n : Node) (b : Bucket) → holds 
 new-insert s now n b h = new-key (insert s now n b .0) (absent-not-exists s now n b h)
 
 abbrev ofInsert : Answer → Bool
-ofInsert a = answers false false false false false no insertResults no a
+ofInsert a = among (Listed.onKey (kinds false false no insertResults no)) a
 
 insert-or-update : (s : BucketSettings) (fails : Bool) (now : ℕ) (n : Node) (b : Bucket) → ofInsert (insertOrUpdateIn s fails now n b .0) ≡ true
 insert-or-update s fails now n b =
     let r = updateStatus s (n .key) (n .connected) (some (n .incoming)) b in
-    cases (Listed ofInsert) fails (λ _. refl)
-    (λ _. cases (Listed ofInsert) (holds (n .key) b)
-    (λ h. cases (Listed ofInsert) (isFailed (r .0)) (λ _. refl)
+    cases (Holds ofInsert) fails (λ _. refl)
+    (λ _. cases (Holds ofInsert) (holds (n .key) b)
+    (λ h. cases (Holds ofInsert) (isFailed (r .0)) (λ _. refl)
     (λ f. updated (updateValue s (n .key) (n .value) (r .1) .0) (r .0)
     (held-value s (n .key) (n .value) (r .1) (present-stays s (n .key) (n .connected) (some (n .incoming)) b h f))
     (held-status s (n .key) (n .connected) (some (n .incoming)) b h) f))
@@ -206,62 +205,56 @@ absent-not-held k b h = found (get k b) h
     found none h = refl
     found (some n) h = clash h refl
 
-taken : (t : Table) (q : List AppliedPending) → canAnswer Call.takeAppliedPending (takeOldest t q .answer) ≡ true
+-- what a call on one key answers, of the key's bucket and of the local key
+effect-listed : (c : KeyCall) (k : List ℕ) (t : Table) (i : ℕ) (b : Bucket) → keyArguments c .kind (kindOf (number k) b) ≡ true
+    → among (Listed.onKey (keyKinds c)) (effect c k t i b .answer) ≡ true
+effect-listed (KeyCall.updateNodeStatus st dr now) k t i b h = status-listed (t .settings .bucket) (number k) (isOne st) (optional dr) _
+effect-listed (KeyCall.updateNode v st now) k t i b h =
+    update-node (t .settings .bucket) (failsTableFilter t i (number k) (valueOf v)) now (number k) (valueOf v) (optional st) _
+effect-listed (KeyCall.insertOrUpdate v st dr now) k t i b h =
+    insert-or-update (t .settings .bucket) (failsTableFilter t i (number k) (valueOf v)) now (nodeOf k v st dr) _
+effect-listed (KeyCall.remove now) k t i b h = refl
+effect-listed (KeyCall.entry now) k t i b h = refl
+effect-listed (KeyCall.presentUpdate st dr) k t i b h = held-status (t .settings .bucket) (number k) (isOne st) (optional dr) b (present-held (number k) b h)
+effect-listed (KeyCall.pendingUpdate st dr) k t i b h = refl
+effect-listed (KeyCall.absentInsert v st dr now) k t i b h = new-insert (t .settings .bucket) now (nodeOf k v st dr) b (absent-not-held (number k) b h)
+
+own-listed : (c : KeyCall) → keyArguments c .kind EntryKind.SelfEntry ≡ true → among (Listed.onKey (keyKinds c)) (ownAnswer c) ≡ true
+own-listed (KeyCall.updateNodeStatus st dr now) h = refl
+own-listed (KeyCall.updateNode v st now) h = refl
+own-listed (KeyCall.insertOrUpdate v st dr now) h = refl
+own-listed (KeyCall.remove now) h = refl
+own-listed (KeyCall.entry now) h = refl
+own-listed (KeyCall.presentUpdate st dr) h = h
+own-listed (KeyCall.pendingUpdate st dr) h = h
+own-listed (KeyCall.absentInsert v st dr now) h = h
+
+on-key : (c : KeyCall) (k : List ℕ) (t : Table) (o : Option ℕ) → keyArguments c .kind (kindIn t (number k) o) ≡ true
+    → among (Listed.onKey (keyKinds c)) (onKey t (ownAnswer c) (effect c k t) o .answer) ≡ true
+on-key c k t none h = own-listed c h
+on-key c k t (some i) h = effect-listed c k t i (t .buckets i) h
+
+taken : (t : Table) (q : List AppliedPending) → among (kindsOf Call.takeAppliedPending) (takeOldest t q .answer) ≡ true
 taken t [] = refl
 taken t (a ∷ q) = refl
 
-acts : (c : Call) (t : Table) → kindFits c t ≡ true → canAnswer c (act c t .answer) ≡ true
+-- what an accepted call answers
+pub act-listed : (c : Call) (t : Table) → kindFits c t ≡ true → among (kindsOf c) (act c t .answer) ≡ true
 unfolding act kindFits
-acts (Call.new k timeout m tf bf) t h = refl
-acts (Call.updateNodeStatus k st dr now) t h =
-    on-key (canAnswer (Call.updateNodeStatus k st dr now)) true t _ _ (indexIn t (number k)) refl
-    (λ i. status-listed (t .settings .bucket) (number k) (isOne st) (optional dr) (applyPending (t .settings .bucket) now (t .buckets i) .0))
-acts (Call.updateNode k v st now) t h =
-    on-key ofNode true t _ _ (indexIn t (number k)) refl
-    (λ i. update-node (t .settings .bucket) (failsTableFilter t i (number k) (valueOf v)) now (number k) (valueOf v) (optional st)
-    (applyPending (t .settings .bucket) now (t .buckets i) .0))
-acts (Call.insertOrUpdate k v st dr now) t h =
-    on-key ofInsert true t _ _ (indexIn t (number k)) refl
-    (λ i. insert-or-update (t .settings .bucket) (failsTableFilter t i (number k) (valueOf v)) now (nodeOf k v st dr)
-    (applyPending (t .settings .bucket) now (t .buckets i) .0))
-acts (Call.remove k now) t h = on-key (canAnswer (Call.remove k now)) true t _ _ (indexIn t (number k)) refl (λ i. refl)
-acts (Call.entry k now) t h = on-key (canAnswer (Call.entry k now)) true t _ _ (indexIn t (number k)) refl (λ i. refl)
-acts (Call.presentUpdate k st dr) t h =
-    on-entry (canAnswer (Call.presentUpdate k st dr)) true isPresent t (number k) _ (indexIn t (number k)) refl h
-    (λ i e. held-status (t .settings .bucket) (number k) (isOne st) (optional dr) (t .buckets i) (present-held (number k) (t .buckets i) e))
-acts (Call.pendingUpdate k st dr) t h =
-    on-entry (canAnswer (Call.pendingUpdate k st dr)) true isPending t (number k) _ (indexIn t (number k)) refl h (λ i e. refl)
-acts (Call.absentInsert k v st dr now) t h =
-    on-entry (canAnswer (Call.absentInsert k v st dr now)) true isAbsent t (number k) _ (indexIn t (number k)) refl h
-    (λ i e. new-insert (t .settings .bucket) now (nodeOf k v st dr) (t .buckets i) (absent-not-held (number k) (t .buckets i) e))
-acts (Call.list l n now out) t h = refl
-acts Call.takeAppliedPending t h = taken t (t .queue)
-
-refused : (c : Call) (n : ℕ) → canAnswer c (Answer.Refused n) ≡ true
-refused (Call.new k timeout m tf bf) n = refl
-refused (Call.updateNodeStatus k st dr now) n = refl
-refused (Call.updateNode k v st now) n = refl
-refused (Call.insertOrUpdate k v st dr now) n = refl
-refused (Call.remove k now) n = refl
-refused (Call.entry k now) n = refl
-refused (Call.presentUpdate k st dr) n = refl
-refused (Call.pendingUpdate k st dr) n = refl
-refused (Call.absentInsert k v st dr now) n = refl
-refused (Call.list l m now out) n = refl
-refused Call.takeAppliedPending n = refl
+act-listed (Call.new k timeout m tf bf) t h = refl
+act-listed (Call.onKey k c) t h = on-key c k t (indexIn t (number k)) h
+act-listed (Call.list l n now out) t h = refl
+act-listed Call.takeAppliedPending t h = taken t (t .queue)
 
 -- on any storage, whatever the arguments
-step-listed : (c : Call) (s : List ℕ) → canAnswer c (stepBytes c s .answer) ≡ true
+pub step-listed : (c : Call) (s : List ℕ) → canAnswer c (stepBytes c s .answer) ≡ true
 unfolding stepBytes
 step-listed c s = go (firstFailed (allQuestions c s)) refl
   where
-    go : (o : Option ℕ) → firstFailed (allQuestions c s) ≡ o → canAnswer c (unlessRefused o c s .answer) ≡ true
-    go (some n) e = refused c n
-    go none e =
-        let q1 = passed 1 (eqb (length s) storageSize) ((2, holdsTable c s) ∷ questions c (tableOf s)) e in
-        let q2 = passed 2 (holdsTable c s) (questions c (tableOf s)) (q1 .1) in
-        acts c (tableOf s) (accepted c (tableOf s) (q2 .1) .kind)
+    go : (o : Option ℕ) → firstFailed (allQuestions c s) ≡ o → canAnswer c (unlessRefusedBytes o c s .answer) ≡ true
+    go (some n) e = refl
+    go none e = or-second (isRefused (act c (tableOf s) .answer)) _ (act-listed c (tableOf s) (accepted-bytes c s e .answers .kind))
 
 -- what the code answers
-pub listed : {c : Call} {s : List ℕ} {a : Answer} {s′ : List ℕ} → Ran c s a s′ → canAnswer c a ≡ true
+pub listed : {c : Call} {s : List ℕ} {a : Answer} {s′ out′ : List ℕ} → Ran c s a s′ out′ → canAnswer c a ≡ true
 listed {c} {s} run = ap (canAnswer c) (equation run .answer) ∙ step-listed c s

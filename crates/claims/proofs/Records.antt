@@ -1,9 +1,8 @@
 -- The records that a call adds are those that stand in the queue behind its former length: a host reads them off the storage.
 use Prim.Native.Nat.{ℕ}
-use mathlib.Core.Path.{_≡_, refl, sym, ap, _∙_}
-use mathlib.Core.List.{List, [], _∷_, _++_}
+use mathlib.Core.Path.{_≡_, refl, ap, _∙_}
+use mathlib.Core.List.{List, [], _∷_}
 use mathlib.Core.Option.{Option, none, some}
-use lib.ListN.{length, drop}
 use lib.Seq.{drop-length, drop-append-seam}
 use Rattle.model.specs.Bytes.{number}
 use Rattle.model.specs.Node.{AppliedPending}
@@ -12,12 +11,9 @@ use Rattle.model.specs.Table.{Table, Answer, Effect, indexIn}
 use Rattle.model.specs.Call.{Call}
 use Rattle.model.specs.Listing.{applyAll, applies}
 use Rattle.model.specs.Question.{firstFailed}
-use Rattle.model.specs.Step.{Outcome, onKey, takeOldest, act, questions, unlessRefused, step}
+use Rattle.model.specs.Step.{onKey, takeOldest, act, questions, unlessRefused, step}
 use Rattle.laws.proofs.Applied.{apply-all-queue}
-
--- what stands in the queue q′ behind the length of the queue q
-abbrev pub behind : (q q′ : List AppliedPending) → List AppliedPending
-behind q q′ = drop (length q) q′
+use Rattle.claims.specs.Runs.{behind}
 
 on-key : (t : Table) (self : Answer) (f : ℕ → Bucket → Effect) (o : Option ℕ) → behind (t .queue) (onKey t self f o .table .queue) ≡ onKey t self f o .records
 on-key t self f none = drop-length (t .queue)
@@ -38,14 +34,7 @@ taken t (a ∷ q) e = one-less a q
 of-act : (c : Call) (t : Table) → behind (t .queue) (act c t .table .queue) ≡ act c t .records
 unfolding act
 of-act (Call.new k timeout m tf bf) t = nothing-behind (t .queue)
-of-act (Call.updateNodeStatus k st dr now) t = on-key t _ _ (indexIn t (number k))
-of-act (Call.updateNode k v st now) t = on-key t _ _ (indexIn t (number k))
-of-act (Call.insertOrUpdate k v st dr now) t = on-key t _ _ (indexIn t (number k))
-of-act (Call.remove k now) t = on-key t _ _ (indexIn t (number k))
-of-act (Call.entry k now) t = on-key t _ _ (indexIn t (number k))
-of-act (Call.presentUpdate k st dr) t = on-key t _ _ (indexIn t (number k))
-of-act (Call.pendingUpdate k st dr) t = on-key t _ _ (indexIn t (number k))
-of-act (Call.absentInsert k v st dr now) t = on-key t _ _ (indexIn t (number k))
+of-act (Call.onKey k c) t = on-key t _ _ (indexIn t (number k))
 of-act (Call.list l n now out) t =
     ap (behind (t .queue)) (apply-all-queue now (applies l n now t) t) ∙ drop-append-seam (t .queue) (applyAll now (applies l n now t) t .1)
 of-act Call.takeAppliedPending t = taken t (t .queue) refl

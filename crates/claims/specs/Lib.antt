@@ -1,1 +1,8 @@
+-- The answers that each call can give; what demands 1 and 3 are stated with, for the code and for a host; that every call returns.
 pub mod Listed
+pub mod Ran
+pub mod Runs
+pub mod Returns
+pub mod EntryPoints
+pub mod Exports
+pub mod HostFunctions

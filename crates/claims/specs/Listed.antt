@@ -1,8 +1,9 @@
 -- The answers that each call can give where it is not refused: those that include/kbuckets.h lists, and no other.
-use mathlib.Core.Bool.{Bool, true, false}
+use mathlib.Core.Bool.{Bool, true, false, _||_}
 use Rattle.model.specs.Result.{FailureReason, BucketInsertResult, UpdateResult, InsertResult}
 use Rattle.model.specs.Table.{Answer}
-use Rattle.model.specs.Call.{Call}
+use Rattle.model.specs.Call.{Call, KeyCall}
+use Rattle.log.specs.Log.{isRefused}
 
 -- Tests of answers. In each list a Bool says whether the answer is one that the call can give.
 
@@ -63,27 +64,54 @@ absentInserts BucketInsertResult.NodeExists = false
 abbrev pub no : {A : Type 0} → A → Bool
 no a = false
 
--- a refusal, or an answer of the call's own kind
-abbrev pub answers : (new remove entry found take : Bool) → (UpdateResult → Bool) → (InsertResult → Bool) → (BucketInsertResult → Bool) → Answer → Bool
-answers a b c d e u v w (Answer.Refused n) = true
-answers a b c d e u v w Answer.New = a
-answers a b c d e u v w (Answer.Remove r) = b
-answers a b c d e u v w (Answer.Entry k) = c
-answers a b c d e u v w (Answer.Found n) = d
-answers a b c d e u v w (Answer.TakeAppliedPending r) = e
-answers a b c d e u v w (Answer.Update r) = u r
-answers a b c d e u v w (Answer.InsertOrUpdate r) = v r
-answers a b c d e u v w (Answer.Insert r) = w r
+-- which answers a call on one key gives
+pub record KeyKinds : Type 0 where
+  pub remove : Bool
+  pub entry : Bool
+  pub update : UpdateResult → Bool
+  pub insertOrUpdate : InsertResult → Bool
+  pub insert : BucketInsertResult → Bool
 
+abbrev pub kinds : (remove entry : Bool) → (UpdateResult → Bool) → (InsertResult → Bool) → (BucketInsertResult → Bool) → KeyKinds
+kinds a b u v w = record { remove = a; entry = b; update = u; insertOrUpdate = v; insert = w }
+
+-- which answers a call gives
+pub record Kinds : Type 0 where
+  pub new : Bool
+  pub found : Bool
+  pub take : Bool
+  pub on-key : KeyKinds
+
+abbrev pub among : Kinds → Answer → Bool
+among k (Answer.Refused n) = false
+among k Answer.New = k .new
+among k (Answer.Found n) = k .found
+among k (Answer.TakeAppliedPending r) = k .take
+among k (Answer.Remove r) = k .on-key .remove
+among k (Answer.Entry e) = k .on-key .entry
+among k (Answer.Update r) = k .on-key .update r
+among k (Answer.InsertOrUpdate r) = k .on-key .insertOrUpdate r
+among k (Answer.Insert r) = k .on-key .insert r
+
+abbrev pub keyKinds : KeyCall → KeyKinds
+keyKinds (KeyCall.updateNodeStatus st dr now) = kinds false false statusUpdates no no
+keyKinds (KeyCall.updateNode v st now) = kinds false false nodeUpdates no no
+keyKinds (KeyCall.insertOrUpdate v st dr now) = kinds false false no insertResults no
+keyKinds (KeyCall.remove now) = kinds true false no no no
+keyKinds (KeyCall.entry now) = kinds false true no no no
+keyKinds (KeyCall.presentUpdate st dr) = kinds false false presentUpdates no no
+keyKinds (KeyCall.pendingUpdate st dr) = kinds false false pendingUpdates no no
+keyKinds (KeyCall.absentInsert v st dr now) = kinds false false no no absentInserts
+
+abbrev pub onKey : KeyKinds → Kinds
+onKey k = record { new = false; found = false; take = false; on-key = k }
+
+abbrev pub kindsOf : Call → Kinds
+kindsOf (Call.new k timeout m tf bf) = record { new = true; found = false; take = false; on-key = kinds false false no no no }
+kindsOf (Call.onKey k c) = onKey (keyKinds c)
+kindsOf (Call.list l n now out) = record { new = false; found = true; take = false; on-key = kinds false false no no no }
+kindsOf Call.takeAppliedPending = record { new = false; found = false; take = true; on-key = kinds false false no no no }
+
+-- a refusal, or an answer of the call's own kind
 abbrev pub canAnswer : Call → Answer → Bool
-canAnswer (Call.new k timeout m tf bf) a = answers true false false false false no no no a
-canAnswer (Call.updateNodeStatus k st dr now) a = answers false false false false false statusUpdates no no a
-canAnswer (Call.updateNode k v st now) a = answers false false false false false nodeUpdates no no a
-canAnswer (Call.insertOrUpdate k v st dr now) a = answers false false false false false no insertResults no a
-canAnswer (Call.remove k now) a = answers false true false false false no no no a
-canAnswer (Call.entry k now) a = answers false false true false false no no no a
-canAnswer (Call.presentUpdate k st dr) a = answers false false false false false presentUpdates no no a
-canAnswer (Call.pendingUpdate k st dr) a = answers false false false false false pendingUpdates no no a
-canAnswer (Call.absentInsert k v st dr now) a = answers false false false false false no no absentInserts a
-canAnswer (Call.list l n now out) a = answers false false false true false no no no a
-canAnswer Call.takeAppliedPending a = answers false false false false true no no no a
+canAnswer c a = isRefused a || among (kindsOf c) a

@@ -1,4 +1,2 @@
-// Demand 3 for the code, in proofs/: for every list of the table's calls, every bucket is what the log says. Nothing here runs.
-
-// How many entry points write the storage.
-pub const ENTRY_POINTS: usize = 15;
+// Demands 1 and 3 for the code, in specs/ and proofs/: a failed check changes nothing, and for every list of the table's calls every bucket is what
+// the log says; for the entry points and for the functions that a C host calls. Nothing here runs.

@@ -1,3 +1,4 @@
 -- Laws of the codes and of an answer's bytes.
+pub mod Thin
 pub mod Put
 pub mod Apart

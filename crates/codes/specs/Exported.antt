@@ -39,12 +39,12 @@ withRoom room [] = []
 withRoom room (q ∷ qs) = (q .0, cond (eqb (q .0) 6) (q .1 && room) (q .1)) ∷ withRoom room qs
 
 -- a refusal is its number alone; all lent memory keeps its bytes
-abbrev pub unlessRefused : Option ℕ → Call → List ℕ → List ℕ → Exported
-unlessRefused (some q) c answer s = record { code = refusedCode q; storage = s; output = answer }
-unlessRefused none c answer s =
+abbrev pub unlessRefusedExport : Option ℕ → Call → List ℕ → List ℕ → Exported
+unlessRefusedExport (some q) c answer s = record { code = refusedCode q; storage = s; output = answer }
+unlessRefusedExport none c answer s =
     let o = stepBytes c s in
     record { code = answerCode (o .answer); storage = o .storage; output = splice answer 0 (answerBytes (o .answer)) }
 
 -- a call whose answer can carry a key or a record: its bytes stand at the front of `answer`
 unfoldable pub exportedWith : Call → List ℕ → List ℕ → Exported
-exportedWith c answer s = unlessRefused (firstFailed (withRoom (leb answerSize (length answer)) (allQuestions c s))) c answer s
+exportedWith c answer s = unlessRefusedExport (firstFailed (withRoom (leb answerSize (length answer)) (allQuestions c s))) c answer s

@@ -1,3 +1,4 @@
 -- What the exports return.
+pub mod Few
 pub mod Codes
 pub mod Exported

@@ -10,6 +10,9 @@ ghost use Rattle.model.specs.Layout.{flagByte, recordBytes};
 ghost use Rattle.key.specs.Key.{num};
 ghost use Rattle.bucket.specs.Calls.{insertResultOf, failureReasonOf, updateResultOf, recordsOf, appliedCodes};
 ghost use Rattle.codes.specs.Codes.{refusedCode, failedCode, updateCode, bucketInsertCode, bucketInsertBytes, appliedCode, appliedBytes, answerSize};
+
+pub mod answers;
+
 use bucket::AppliedPending;
 use bucket::FailureReason;
 use bucket::InsertResult;
@@ -107,7 +110,7 @@ pub fn put_applied(answer: &mut [u8], applied: AppliedPending) -> u32
             1
         }
         AppliedPending::Replaced(key, node) => {
-            queue::store_replaced(answer, 0, key, node);
+            header::store_replaced(answer, 0, key, node);
             1
         }
     }

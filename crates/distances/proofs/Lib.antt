@@ -2,3 +2,4 @@
 pub mod Named
 pub mod Passes
 pub mod Written
+pub mod Answers

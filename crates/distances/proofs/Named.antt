@@ -22,11 +22,11 @@ use Rattle.laws.proofs.Lists.{joined-append, all-fails, all-more, every-append}
 use Rattle.laws.proofs.Frame.{applyAll-settings}
 use Rattle.laws.proofs.Touched.{distance-of}
 use Rattle.laws.proofs.Keep.{applyPending-well-formed}
-use Rattle.laws.proofs.TableBytes.{fits-back}
+use Rattle.laws.proofs.TableBytes.{well-formed-at}
 use Rattle.laws.proofs.Applied.{apply-again, apply-all-buckets, applyAll-append}
 use Rattle.key.specs.declared.BucketIndex.{BucketIndex}
 use Rattle.key.specs.Answers.{bucketIndexOf}
-use Rattle.asked.specs.Answers.{Ready}
+use Rattle.on_key.specs.Answers.{Ready}
 use Rattle.visit.specs.declared.Given.{Given}
 use Rattle.visit.specs.Passes.{GivenAt}
 use Rattle.distances.specs.Passes.{standsBefore, recordsAt, heldAt, Yields, nextTable, tableAt}
@@ -79,7 +79,7 @@ module _ (s : List ℕ) (now i : ℕ) (h : Bytes s) (r : Ready s i) {g : Given} 
   pub gives-record : (g .records ≡ 0 → ⊥) → Yields now (tableOf s) (some i) g
   gives-record n =
       let t : Table = tableOf s in
-      let w = applyPending-well-formed (t .settings) i now (t .buckets i) (fits-back s h (r .size) (r .formed) .well-formed i) .formed in
+      let w = applyPending-well-formed (t .settings) i now (t .buckets i) (well-formed-at s h (r .size) i (r .below) (r .bucket)) .formed in
       record {
         records = y .records;
         held = y .count ∙ ap (λ (b : Bool). cond (not b) (numEntries (applied now t i)) 0) (sym (ne-eqb (length (recordsAt now t (some i))) 0 (λ e. n (y .records ∙ e))));

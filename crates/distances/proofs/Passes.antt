@@ -23,7 +23,7 @@ use Rattle.model.specs.Fits.{Fits}
 use Rattle.laws.proofs.Tests.{split}
 use Rattle.laws.proofs.Applied.{apply-all-queue}
 use Rattle.laws.proofs.TableBytes.{length-bytesOf, bytes-bytesOf, table-there, formed-there, table-back, fits-back}
-use Rattle.asked.specs.Answers.{Timely}
+use Rattle.on_key.specs.Answers.{Timely}
 use Rattle.visit.specs.declared.Given.{Given}
 use Rattle.visit.specs.Passes.{visitOne}
 use Rattle.visit.proofs.Passes.{visit-fits}

@@ -16,51 +16,51 @@ use Rattle.model.specs.Listing.{indexAt, indices, bucketsAt}
 use Rattle.laws.proofs.Lists.{joined-append}
 use Rattle.laws.proofs.Join.{take-append}
 use Rattle.laws.proofs.Parts.{splice-nil, splice-next}
-use Rattle.found.specs.declared.Shape.{Shape}
-use Rattle.found.specs.Shape.{itemsBy, sizeBy, shownBy}
-use Rattle.found.proofs.Items.{length-items, items-append}
-use Rattle.distances.specs.Passes.{listed}
+use Rattle.items.specs.declared.Shape.{Shape}
+use Rattle.items.specs.Shape.{itemsBy, sizeBy, shownBy}
+use Rattle.items.proofs.Items.{length-items, items-append}
+use Rattle.distances.specs.Passes.{listedNodes}
 
 module _ (x : Shape) where
   module _ (t : Table) where
     abbrev shown : ℕ → List Node
     shown i = shownBy x (t .buckets i)
 
-    pub listed-nothing : (m d : ℕ) → indexAt d ≡ none → listed x t m (d ∷ []) ≡ []
-    unfolding listed joined
+    pub listed-nothing : (m d : ℕ) → indexAt d ≡ none → listedNodes x t m (d ∷ []) ≡ []
+    unfolding listedNodes joined
     listed-nothing m d e = ap (λ (o : Option ℕ). take m (joined shown (indices o ++ []))) e ∙ take-nil m
 
-    pub listed-one : (m d i : ℕ) → indexAt d ≡ some i → listed x t m (d ∷ []) ≡ take m (shown i)
-    unfolding listed joined
+    pub listed-one : (m d i : ℕ) → indexAt d ≡ some i → listedNodes x t m (d ∷ []) ≡ take m (shown i)
+    unfolding listedNodes joined
     listed-one m d i e = ap (λ (o : Option ℕ). take m (joined shown (indices o ++ []))) e ∙ ap (take m) (append-nil (shown i))
 
     -- what is written at one distance
 
     pub put-nothing : (m d : ℕ) → indexAt d ≡ none → (k : ℕ) (o : List ℕ)
-        → (k ≡ k + length (listed x t m (d ∷ []))) × (o ≡ splice o (k * sizeBy x) (itemsBy x (listed x t m (d ∷ []))))
+        → (k ≡ k + length (listedNodes x t m (d ∷ []))) × (o ≡ splice o (k * sizeBy x) (itemsBy x (listedNodes x t m (d ∷ []))))
     unfolding joined
     put-nothing m d e k o =
         let f = listed-nothing m d e in
         (omega (arith, ap length f), sym (ap (λ (ns : List Node). splice o (k * sizeBy x) (itemsBy x ns)) f ∙ splice-nil o (k * sizeBy x)))
 
     pub put-bucket-is : (m d i : ℕ) → indexAt d ≡ some i → (k : ℕ) (o : List ℕ) {r : ℕ} {u : List ℕ} → r ≡ k + length (take m (shown i)) → u ≡ splice o (k * sizeBy x) (itemsBy x (take m (shown i)))
-        → (r ≡ k + length (listed x t m (d ∷ []))) × (u ≡ splice o (k * sizeBy x) (itemsBy x (listed x t m (d ∷ []))))
+        → (r ≡ k + length (listedNodes x t m (d ∷ []))) × (u ≡ splice o (k * sizeBy x) (itemsBy x (listedNodes x t m (d ∷ []))))
     put-bucket-is m d i e k o a b =
         let f = listed-one m d i e in
         (a ∙ ap (λ (ns : List Node). k + length ns) (sym f), b ∙ ap (λ (ns : List Node). splice o (k * sizeBy x) (itemsBy x ns)) (sym f))
 
     module _ (n : ℕ) (ds : List ℕ) where
-      pub listed-none : listed x t n (take 0 ds) ≡ []
-      unfolding listed joined
+      pub listed-none : listedNodes x t n (take 0 ds) ≡ []
+      unfolding listedNodes joined
       listed-none = take-nil n
 
-      pub length-listed : (l : List ℕ) → length (listed x t n l) ≤ n
-      unfolding listed
+      pub length-listed : (l : List ℕ) → length (listedNodes x t n l) ≤ n
+      unfolding listedNodes
       length-listed l = omega (arith, length-take n (joined shown (bucketsAt l)))
 
       listed-next : (p : ℕ) → p < length ds
-          → listed x t n (take (p + 1) ds) ≡ listed x t n (take p ds) ++ listed x t (n - length (listed x t n (take p ds))) (getD ds p 0 ∷ [])
-      unfolding listed
+          → listedNodes x t n (take (p + 1) ds) ≡ listedNodes x t n (take p ds) ++ listedNodes x t (n - length (listedNodes x t n (take p ds))) (getD ds p 0 ∷ [])
+      unfolding listedNodes
       listed-next p h =
           let d : ℕ = getD ds p 0 in
           let a : List Node = joined shown (bucketsAt (take p ds)) in
@@ -76,8 +76,8 @@ module _ (x : Shape) where
       pub record Writing (o : List ℕ) (k p : ℕ) (out : List ℕ) : Type 0 where
         pub within : p ≤ length ds
         pub same-room : length out ≡ length o
-        pub count : k ≡ length (listed x t n (take p ds))
-        pub there : out ≡ splice o 0 (itemsBy x (listed x t n (take p ds)))
+        pub count : k ≡ length (listedNodes x t n (take p ds))
+        pub there : out ≡ splice o 0 (itemsBy x (listedNodes x t n (take p ds)))
 
       pub writing-starts : (o : List ℕ) → Writing o 0 0 o
       unfolding joined
@@ -93,19 +93,19 @@ module _ (x : Shape) where
         pub count-most : k ≤ n
         count-most = omega (arith, w .count, length-listed (take p ds))
 
-        pub writing-ends : length ds ≤ p → (k ≡ length (listed x t n ds)) × (out ≡ splice o 0 (itemsBy x (listed x t n ds)))
+        pub writing-ends : length ds ≤ p → (k ≡ length (listedNodes x t n ds)) × (out ≡ splice o 0 (itemsBy x (listedNodes x t n ds)))
         writing-ends h =
             let e : take p ds ≡ ds = take-all p ds h in
-            (w .count ∙ ap (λ (l : List ℕ). length (listed x t n l)) e, w .there ∙ ap (λ (l : List ℕ). splice o 0 (itemsBy x (listed x t n l))) e)
+            (w .count ∙ ap (λ (l : List ℕ). length (listedNodes x t n l)) e, w .there ∙ ap (λ (l : List ℕ). splice o 0 (itemsBy x (listedNodes x t n l))) e)
 
         pub writing-next : {k′ : ℕ} {out′ : List ℕ} → p < length ds → n * sizeBy x ≤ length o → length out′ ≡ length out
-            → k′ ≡ k + length (listed x t (n - k) (getD ds p 0 ∷ [])) → out′ ≡ splice out (k * sizeBy x) (itemsBy x (listed x t (n - k) (getD ds p 0 ∷ [])))
+            → k′ ≡ k + length (listedNodes x t (n - k) (getD ds p 0 ∷ [])) → out′ ≡ splice out (k * sizeBy x) (itemsBy x (listedNodes x t (n - k) (getD ds p 0 ∷ [])))
             → Writing o k′ (p + 1) out′
         writing-next {k′} {out′} h f l e g =
-            let a : List Node = listed x t n (take p ds) in
-            let b : List Node = listed x t (n - k) (getD ds p 0 ∷ []) in
+            let a : List Node = listedNodes x t n (take p ds) in
+            let b : List Node = listedNodes x t (n - k) (getD ds p 0 ∷ []) in
             let z : ℕ = sizeBy x in
-            let both : listed x t n (take (p + 1) ds) ≡ a ++ b = listed-next p h ∙ ap (λ (m : ℕ). a ++ listed x t (n - m) (getD ds p 0 ∷ [])) (sym (w .count)) in
+            let both : listedNodes x t n (take (p + 1) ds) ≡ a ++ b = listed-next p h ∙ ap (λ (m : ℕ). a ++ listedNodes x t (n - m) (getD ds p 0 ∷ [])) (sym (w .count)) in
             let m : k + length b ≤ n = omega (arith, w .count, length-append a b, ap length both, length-listed (take (p + 1) ds)) in
             let c : length (itemsBy x a) ≡ k * z = length-items x a ∙ ap (λ (j : ℕ). j * z) (sym (w .count)) in
             let r : k * z + length (itemsBy x b) ≤ length o = omega (arith, length-items x b, add-mul k (length b) z, mul-le-mul-right z m) in

@@ -15,8 +15,8 @@ use Rattle.model.specs.Formed.{formed}
 use Rattle.model.specs.Listing.{applyAll, applied, appliedPass, bucketsAt}
 use Rattle.visit.specs.declared.Given.{Given}
 use Rattle.visit.specs.Passes.{visitOne}
-use Rattle.found.specs.declared.Shape.{Shape}
-use Rattle.found.specs.Shape.{shownBy}
+use Rattle.items.specs.declared.Shape.{Shape}
+use Rattle.items.specs.Shape.{shownBy}
 
 -- the distance d stands among the first p
 unfoldable pub standsBefore : List ℕ → ℕ → ℕ → Bool
@@ -59,5 +59,5 @@ pub record Holds (s : List ℕ) : Type 0 where
   pub formed : formed s ≡ Bool.true
 
 -- the first n nodes of the buckets named
-unfoldable pub listed : Shape → Table → ℕ → List ℕ → List Node
-listed x t n ds = take n (joined (λ i. shownBy x (t .buckets i)) (bucketsAt ds))
+unfoldable pub listedNodes : Shape → Table → ℕ → List ℕ → List Node
+listedNodes x t n ds = take n (joined (λ i. shownBy x (t .buckets i)) (bucketsAt ds))

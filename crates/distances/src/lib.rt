@@ -1,195 +1,94 @@
-// Internal: the passes of nodes_by_distances (kbucket.rs). A dry run counts the records that the applying pass would give, for question 8;
-// the applying pass applies the due pendings in the storage; then the nodes are written.
+// nodes_by_distances (kbucket.rs): the nodes of the buckets at the distances given.
 ghost use mathlib.Core.Path.{_≡_};
-ghost use mathlib.Core.List.{[], _∷_};
-ghost use mathlib.Core.Option.{some};
-ghost use Prim.Native.Nat.{_+_, _-_, _*_, _≤_, _<_};
-ghost use lib.ListN.{length, getD};
-ghost use Rattle.model.specs.Bytes.{splice};
-ghost use Rattle.model.specs.Table.{maxRecords};
-ghost use Rattle.model.specs.Listing.{indexAt};
-ghost use Rattle.model.specs.Question.{maxCount};
-ghost use Rattle.model.specs.Layout.{tableOf, bytesOf};
-ghost use Rattle.key.specs.Answers.{bucketIndexOf};
-ghost use Rattle.asked.specs.Answers.{Ready, Timely};
-ghost use Rattle.found.specs.Shape.{itemsBy, sizeBy};
-ghost use Rattle.distances.specs.Passes.{standsBefore, Yields, nextTable, tableAt, distancePass, Holds, listed};
-use found::Shape;
-use key::BucketIndex;
-use visit::Given;
+ghost use Rattle.model.specs.Call.{Call, Listing};
+ghost use Rattle.model.specs.Listing.{atLeastOne};
+ghost use Rattle.model.specs.StepBytes.{stepBytes};
+ghost use Rattle.on_key.specs.Answers.{refusal};
+ghost use Rattle.items.specs.Lists.{listAnswer, Lists};
+ghost use Rattle.distances.specs.Early.{failedEarly};
 
-// The largest log2 distance, that of the last bucket.
-const MAX_DISTANCE: u64 = 256;
+pub mod pass;
 
-// The index of the bucket at a distance from 1 to 256; nothing at any other.
-fn index_at(d: u64) -> BucketIndex
-    ensures { λ r. ⌜ bucketIndexOf r ≡ indexAt d ⌝ }
+use items::ListAnswer;
+use items::Shape;
+use key::Key;
+use storage::Layout;
+
+// n, or 1 where it is 0.
+fn at_least_one(n: usize) -> usize
+    ensures { λ r. ⌜ r ≡ atLeastOne n ⌝ }
 {
-    if d == 0 {
-        return BucketIndex::Nothing;
+    if n == 0 {
+        return 1;
     }
-    if MAX_DISTANCE < d {
-        return BucketIndex::Nothing;
-    }
-    BucketIndex::At((d - 1) as usize)
+    n
 }
 
-// The distance d stands before place p of the list.
-fn stands_before(distances: &[u64], p: usize, d: u64) -> bool
-    requires { ⌜ p ≤ length (now distances) ⌝ }
-    ensures { λ r. ⌜ r ≡ standsBefore (now (distances .entry)) p d ⌝ }
+// The shape of whole nodes.
+fn node_shape() -> Shape
+    ensures { λ r. ⌜ r .form ≡ 0 ⌝ }
 {
-    let mut j: usize = 0;
-    while j < p {
-        if distances[j] == d {
-            return true;
-        }
-        j += 1;
-    }
-    false
-}
-
-// What bucket i gives; the nodes that it holds are counted only where it gives a record.
-fn given_in(s: &[u8], i: usize, time: u64) -> Given
-    requires { ⌜ Ready (now s) i ⌝ }
-    requires { ⌜ Timely (now s) time ⌝ }
-    ensures { λ r. ⌜ Yields time (tableOf (now (s .entry))) (some i) r ⌝ }
-{
-    let g = visit::given_at(s, i, time);
-    if g.records == 0 {
-        return Given {
-            count: 0,
-            records: 0,
-        };
-    }
-    g
-}
-
-// What the bucket at place p of the list gives, those before it being visited. A bucket named before has given its record already.
-fn given_at(s: &[u8], distances: &[u64], p: usize, time: u64) -> Given
-    requires { ⌜ Holds (now s) ⌝ }
-    requires { ⌜ Timely (now s) time ⌝ }
-    requires { ⌜ p < length (now distances) ⌝ }
-    ensures { λ r. ⌜ Yields time (tableAt time (now (distances .entry)) p (tableOf (now (s .entry)))) (indexAt (getD (now (distances .entry)) p 0)) r ⌝ }
-{
-    let d = distances[p];
-    let index = index_at(d);
-    match index {
-        BucketIndex::Nothing => Given {
-            count: 0,
-            records: 0,
-        },
-        BucketIndex::At(i) => {
-            let g = given_in(s, i, time);
-            if g.records == 0 {
-                return g;
-            }
-            if stands_before(distances, p, d) {
-                return Given {
-                    count: 0,
-                    records: 0,
-                };
-            }
-            g
-        }
+    let target = Key {
+        w0: 0,
+        w1: 0,
+        w2: 0,
+        w3: 0,
+    };
+    Shape {
+        form: 0,
+        target,
+        predicate: 0,
+        a: 0,
+        b: 0,
+        c: 0,
+        slot: 0,
     }
 }
 
-// Internal: how many records the applying pass would give. Nothing is written.
-pub fn count_records(s: &[u8], distances: &[u64], time: u64, n: usize) -> usize
-    requires { ⌜ Holds (now s) ⌝ }
-    requires { ⌜ Timely (now s) time ⌝ }
-    requires { ⌜ n ≤ maxCount ⌝ }
-    ensures { λ r. ⌜ r ≡ length (distancePass time n 0 (now (distances .entry)) (tableOf (now (s .entry))) .1) ⌝ }
+// The first failed question of 1, 2, 5 and 6, or 0. room: the bytes of output.
+fn asked_early(s: &[u8], time: u64, n: usize, room: usize) -> u8
+    ensures { λ r. ⌜ failedEarly time n room (now (s .entry)) ≡ refusal r ⌝ }
 {
-    let mut records: usize = 0;
-    let mut seen: usize = 0;
-    let mut p: usize = 0;
-    while p < distances.len() {
-        let g = given_at(s, distances, p, time);
-        records += g.records;
-        seen += g.count;
-        if (g.records != 0) & (n <= seen) {
-            return records;
-        }
-        p += 1;
+    let q = on_key::asked_storage(s);
+    if q != 0 {
+        return q;
     }
-    records
+    if 0xFFFF_FFFF_FFFF_FFFF - header::pending_timeout(s) < time {
+        return 5;
+    }
+    if items::MAX_COUNT < n {
+        return 6;
+    }
+    if room < at_least_one(n) * Layout::NODE {
+        return 6;
+    }
+    0
 }
 
-// Applies the due pending of the bucket at distance d in the storage, and answers what it gives.
-fn apply_one(s: &mut [u8], d: u64, time: u64) -> Given
-    requires { ⌜ Holds (now s) ⌝ }
-    requires { ⌜ Timely (now s) time ⌝ }
-    requires { ⌜ length (nextTable time (tableOf (now s)) (indexAt d) .queue) ≤ maxRecords ⌝ }
-    ensures { λ r. ⌜ Yields time (tableOf (now (s .entry))) (indexAt d) r ⌝ }
-    ensures { λ _. ⌜ now (s .exit) ≡ bytesOf (nextTable time (tableOf (now (s .entry))) (indexAt d)) ⌝ }
+// The nodes of the buckets at the distances, in the order given, up to n, or one where n is 0: each bucket in stored order, written to
+// `out` as the bytes of a node. Distances outside 1 to 256 are dropped. Due pendings are applied first, up to the bucket whose record
+// makes n. Refused by questions 1, 2, 5, 6 and 8.
+pub fn nodes_by_distances(
+    s: &mut [u8],
+    distances: &[u64],
+    time: u64,
+    n: usize,
+    out: &mut [u8],
+) -> ListAnswer
+    ensures { λ r. ⌜ Lists (listAnswer r) (now (s .exit)) (now (out .exit)) (stepBytes (Call.list (Listing.nodesByDistances (now (distances .entry))) n time (now (out .entry))) (now (s .entry))) ⌝ }
 {
-    let index = index_at(d);
-    match index {
-        BucketIndex::Nothing => Given {
-            count: 0,
-            records: 0,
-        },
-        BucketIndex::At(i) => {
-            let g = given_in(s, i, time);
-            visit::apply_in(s, i, time);
-            g
-        }
+    let room = out.len();
+    let q = asked_early(s, time, n, room);
+    if q != 0 {
+        return ListAnswer::Refused(q);
     }
-}
-
-// Internal: the applying pass over the storage.
-pub fn apply_pass(s: &mut [u8], distances: &[u64], time: u64, n: usize)
-    requires { ⌜ Holds (now s) ⌝ }
-    requires { ⌜ Timely (now s) time ⌝ }
-    requires { ⌜ n ≤ maxCount ⌝ }
-    requires { ⌜ length (distancePass time n 0 (now distances) (tableOf (now s)) .0 .queue) ≤ maxRecords ⌝ }
-    ensures { λ _. ⌜ now (s .exit) ≡ bytesOf (distancePass time n 0 (now (distances .entry)) (tableOf (now (s .entry))) .0) ⌝ }
-{
-    let mut seen: usize = 0;
-    let mut p: usize = 0;
-    while p < distances.len() {
-        let g = apply_one(s, distances[p], time);
-        seen += g.count;
-        if (g.records != 0) & (n <= seen) {
-            return;
-        }
-        p += 1;
+    let records = crate::pass::count_records(s, distances, time, n);
+    if Layout::MAX_RECORDS - header::record_count(s) < records {
+        return ListAnswer::Refused(8);
     }
-}
-
-// Writes the nodes of the bucket at distance d behind the k that are there, up to n; answers how many are there then.
-fn put_one(s: &[u8], d: u64, shape: Shape, out: &mut [u8], k: usize, n: usize) -> usize
-    requires { ⌜ Holds (now s) ⌝ }
-    requires { ⌜ shape .form ≤ 3 ⌝ }
-    requires { ⌜ k ≤ n ⌝ }
-    requires { ⌜ n ≤ maxCount ⌝ }
-    requires { ⌜ n * sizeBy shape ≤ length (now out) ⌝ }
-    ensures { λ r. ⌜ r ≡ k + length (listed shape (tableOf (now (s .entry))) (n - k) (d ∷ [])) ⌝ }
-    ensures { λ _. ⌜ now (out .exit) ≡ splice (now (out .entry)) (k * sizeBy shape) (itemsBy shape (listed shape (tableOf (now (s .entry))) (n - k) (d ∷ []))) ⌝ }
-{
-    let index = index_at(d);
-    match index {
-        BucketIndex::Nothing => k,
-        BucketIndex::At(i) => found::put_bucket(s, i, shape, out, k, n),
-    }
-}
-
-// Internal: writes the first n nodes of the buckets at the distances; answers how many there are.
-pub fn put_all(s: &[u8], distances: &[u64], shape: Shape, out: &mut [u8], n: usize) -> usize
-    requires { ⌜ Holds (now s) ⌝ }
-    requires { ⌜ shape .form ≤ 3 ⌝ }
-    requires { ⌜ n ≤ maxCount ⌝ }
-    requires { ⌜ n * sizeBy shape ≤ length (now out) ⌝ }
-    ensures { λ r. ⌜ r ≡ length (listed shape (tableOf (now (s .entry))) n (now (distances .entry))) ⌝ }
-    ensures { λ _. ⌜ now (out .exit) ≡ splice (now (out .entry)) 0 (itemsBy shape (listed shape (tableOf (now (s .entry))) n (now (distances .entry)))) ⌝ }
-{
-    let mut k: usize = 0;
-    let mut p: usize = 0;
-    while p < distances.len() {
-        k = put_one(s, distances[p], shape, out, k, n);
-        p += 1;
-    }
-    k
+    crate::pass::apply_pass(s, distances, time, n);
+    let shape = node_shape();
+    let most = at_least_one(n);
+    let count = crate::pass::put_all(s, distances, shape, out, most);
+    ListAnswer::Found(count)
 }

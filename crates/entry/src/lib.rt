@@ -1,15 +1,14 @@
 // The entry of a key (entry.rs): its kind and status, and the actions on it, which name the key again and apply no pending.
 ghost use mathlib.Core.Path.{_≡_};
-ghost use mathlib.Core.Bool.{true, cond};
+ghost use mathlib.Core.Bool.{true};
 ghost use Rattle.model.specs.Table.{kindOf};
-ghost use Rattle.model.specs.Call.{Call};
+ghost use Rattle.model.specs.Call.{Call, KeyCall};
 ghost use Rattle.model.specs.Question.{isPresent, isPending, isAbsent};
 ghost use Rattle.model.specs.StepBytes.{stepBytes};
 ghost use Rattle.key.specs.Key.{num};
 ghost use Rattle.node.specs.Node.{argumentOf};
 ghost use Rattle.bucket.specs.Bucket.{bucketOf, Sound};
-ghost use Rattle.bucket.specs.Calls.{recordsOf, appliedCodes};
-ghost use Rattle.asked.specs.Answers.{Answers, updateAnswer, Ready, roomFor, rewritten};
+ghost use Rattle.on_key.specs.Answers.{Answers, updateAnswer};
 ghost use Rattle.entry.specs.Kind as kind;
 use bucket::AppliedPending;
 use bucket::InsertAnswer;
@@ -17,11 +16,11 @@ use bucket::KBucket;
 use bucket::Pending;
 use bucket::UpdateAnswer;
 use bucket::UpdateResult;
-use key::BucketIndex;
 use key::Key;
 use node::Node;
 use node::NodeStatus;
 use node::Value;
+use on_key::Start;
 
 // The kind of a key's entry, with its status.
 pub enum EntryKind {
@@ -63,43 +62,24 @@ pub fn kind_of(b: KBucket, key: Key) -> EntryKind
     }
 }
 
-// Internal: question 8; where it passes, the record goes into the queue and bucket i is stored.
-pub fn write_if_room(s: &mut [u8], i: usize, applied: AppliedPending, b: KBucket) -> bool
-    requires { ⌜ Ready (now s) i ⌝ }
-    requires { ⌜ appliedCodes applied ≡ true ⌝ }
-    requires { ⌜ Sound b ⌝ }
-    ensures { λ r. ⌜ r ≡ roomFor (now (s .entry)) (recordsOf applied) ⌝ }
-    ensures { λ r. ⌜ now (s .exit) ≡ cond r (rewritten (now (s .entry)) i (bucketOf b) (recordsOf applied)) (now (s .entry)) ⌝ }
-{
-    if !asked::has_room(s, applied) {
-        return false;
-    }
-    asked::write_back(s, i, applied, b);
-    true
-}
-
 // The kind and status of the key, after a due pending was applied.
 pub fn entry(s: &mut [u8], key: &[u8], time: u64) -> EntryAnswer
-    ensures { λ r. ⌜ Answers (kind.entryAnswer r) (now (s .exit)) (stepBytes (Call.entry (now (key .entry)) time) (now (s .entry))) ⌝ }
+    ensures { λ r. ⌜ Answers (kind.entryAnswer r) (now (s .exit)) (stepBytes (Call.onKey (now (key .entry)) (KeyCall.entry time)) (now (s .entry))) ⌝ }
     ensures { λ r. ⌜ kind.entryCodes r ≡ true ⌝ }
 {
-    let q = asked::asked_at(s, key, true, time);
-    if q != 0 {
-        return EntryAnswer::Refused(q);
-    }
-    let k = asked::key_of(key);
-    let index = asked::index_of(s, k);
-    match index {
-        BucketIndex::Nothing => {
+    let start = on_key::begin_at(s, key, true, time);
+    match start {
+        Start::Refused(q) => EntryAnswer::Refused(q),
+        Start::Local => {
             let own = EntryKind::SelfEntry;
             EntryAnswer::Answered(own)
         }
-        BucketIndex::At(i) => {
-            let a = asked::apply_at(s, i, time);
+        Start::At(k, i) => {
+            let a = on_key::apply_at(s, i, time);
             let applied = a.applied;
             let b = a.bucket;
             let found = kind_of(b, k);
-            if !write_if_room(s, i, applied, b) {
+            if !on_key::finish(s, i, applied, b) {
                 return EntryAnswer::Refused(8);
             }
             EntryAnswer::Answered(found)
@@ -145,18 +125,14 @@ pub fn is_absent(found: EntryKind) -> bool
 
 // Present: sets the status of the node; direction 2 is none given.
 pub fn present_update(s: &mut [u8], key: &[u8], state: u8, direction: u8) -> UpdateAnswer
-    ensures { λ r. ⌜ Answers (updateAnswer r) (now (s .exit)) (stepBytes (Call.presentUpdate (now (key .entry)) state direction) (now (s .entry))) ⌝ }
+    ensures { λ r. ⌜ Answers (updateAnswer r) (now (s .exit)) (stepBytes (Call.onKey (now (key .entry)) (KeyCall.presentUpdate state direction)) (now (s .entry))) ⌝ }
 {
     let codes = (state <= 1) & (direction <= 2);
-    let q = asked::asked(s, key, codes);
-    if q != 0 {
-        return UpdateAnswer::Refused(q);
-    }
-    let k = asked::key_of(key);
-    let index = asked::index_of(s, k);
-    match index {
-        BucketIndex::Nothing => UpdateAnswer::Refused(7),
-        BucketIndex::At(i) => {
+    let start = on_key::begin(s, key, codes);
+    match start {
+        Start::Refused(q) => UpdateAnswer::Refused(q),
+        Start::Local => UpdateAnswer::Refused(7),
+        Start::At(k, i) => {
             let b = buckets::load_bucket(s, i);
             let found = kind_of(b, k);
             if !is_present(found) {
@@ -166,7 +142,9 @@ pub fn present_update(s: &mut [u8], key: &[u8], state: u8, direction: u8) -> Upd
             let left = updated.bucket;
             let result = updated.result;
             let nothing = AppliedPending::Nothing;
-            asked::write_back(s, i, nothing, left);
+            if !on_key::finish(s, i, nothing, left) {
+                return UpdateAnswer::Refused(8);
+            }
             UpdateAnswer::Answered(result)
         }
     }
@@ -174,18 +152,14 @@ pub fn present_update(s: &mut [u8], key: &[u8], state: u8, direction: u8) -> Upd
 
 // Pending: sets the status of the pending.
 pub fn pending_update(s: &mut [u8], key: &[u8], state: u8, direction: u8) -> UpdateAnswer
-    ensures { λ r. ⌜ Answers (updateAnswer r) (now (s .exit)) (stepBytes (Call.pendingUpdate (now (key .entry)) state direction) (now (s .entry))) ⌝ }
+    ensures { λ r. ⌜ Answers (updateAnswer r) (now (s .exit)) (stepBytes (Call.onKey (now (key .entry)) (KeyCall.pendingUpdate state direction)) (now (s .entry))) ⌝ }
 {
     let codes = (state <= 1) & (direction <= 1);
-    let q = asked::asked(s, key, codes);
-    if q != 0 {
-        return UpdateAnswer::Refused(q);
-    }
-    let k = asked::key_of(key);
-    let index = asked::index_of(s, k);
-    match index {
-        BucketIndex::Nothing => UpdateAnswer::Refused(7),
-        BucketIndex::At(i) => {
+    let start = on_key::begin(s, key, codes);
+    match start {
+        Start::Refused(q) => UpdateAnswer::Refused(q),
+        Start::Local => UpdateAnswer::Refused(7),
+        Start::At(k, i) => {
             let b = buckets::load_bucket(s, i);
             let found = kind_of(b, k);
             if !is_pending(found) {
@@ -194,7 +168,9 @@ pub fn pending_update(s: &mut [u8], key: &[u8], state: u8, direction: u8) -> Upd
             let changed = b.update_pending_sound(state, direction);
             let result = UpdateResult::UpdatedPending;
             let nothing = AppliedPending::Nothing;
-            asked::write_back(s, i, nothing, changed);
+            if !on_key::finish(s, i, nothing, changed) {
+                return UpdateAnswer::Refused(8);
+            }
             UpdateAnswer::Answered(result)
         }
     }
@@ -209,18 +185,14 @@ pub fn absent_insert(
     direction: u8,
     time: u64,
 ) -> InsertAnswer
-    ensures { λ r. ⌜ Answers (kind.insertAnswer r) (now (s .exit)) (stepBytes (Call.absentInsert (now (key .entry)) (argumentOf value) state direction time) (now (s .entry))) ⌝ }
+    ensures { λ r. ⌜ Answers (kind.insertAnswer r) (now (s .exit)) (stepBytes (Call.onKey (now (key .entry)) (KeyCall.absentInsert (argumentOf value) state direction time)) (now (s .entry))) ⌝ }
 {
     let codes = value.in_range() & ((state <= 1) & (direction <= 1));
-    let q = asked::asked_at(s, key, codes, time);
-    if q != 0 {
-        return InsertAnswer::Refused(q);
-    }
-    let k = asked::key_of(key);
-    let index = asked::index_of(s, k);
-    match index {
-        BucketIndex::Nothing => InsertAnswer::Refused(7),
-        BucketIndex::At(i) => {
+    let start = on_key::begin_at(s, key, codes, time);
+    match start {
+        Start::Refused(q) => InsertAnswer::Refused(q),
+        Start::Local => InsertAnswer::Refused(7),
+        Start::At(k, i) => {
             let b = buckets::load_bucket(s, i);
             let found = kind_of(b, k);
             if !is_absent(found) {
@@ -236,7 +208,9 @@ pub fn absent_insert(
             let filled = inserted.bucket;
             let result = inserted.result;
             let nothing = AppliedPending::Nothing;
-            asked::write_back(s, i, nothing, filled);
+            if !on_key::finish(s, i, nothing, filled) {
+                return InsertAnswer::Refused(8);
+            }
             InsertAnswer::Answered(result)
         }
     }

@@ -1,11 +1,21 @@
 // The static library: every entry point under a C name, on numbers and lent bytes. include/kbuckets.h declares them.
+ghost use mathlib.Core.Path.{_≡_};
 ghost use mathlib.Core.List.{[]};
-ghost use Rattle.model.specs.Call.{Listing, Call};
+ghost use Rattle.model.specs.Call.{Listing, Call, KeyCall};
 ghost use Rattle.codes.specs.Exported.{Leaves, Writes, exported, exportedWith};
 ghost use Rattle.bucket_calls.specs.Calls.{BucketCall, bucketStep, bucketNew};
+ghost use Rattle.kbuckets.specs.Version.{version};
 use codes::Answer;
 use node::NodeStatus;
 use node::Value;
+
+// 0x00MMmmpp: major, minor, patch.
+#[no_mangle]
+pub extern "C" fn kbuckets_version() -> u32
+    ensures { λ r. ⌜ r ≡ version ⌝ }
+{
+    0x0000_0200
+}
 
 // The table.
 
@@ -28,7 +38,7 @@ pub extern "C" fn kbuckets_new(
         table_filter,
         bucket_filter,
     );
-    answers::new_code(answer)
+    codes::answers::new_code(answer)
 }
 
 #[no_mangle]
@@ -39,10 +49,10 @@ pub extern "C" fn kbuckets_update_node_status(
     direction: u8,
     time: u64,
 ) -> u32
-    ensures { λ r. ⌜ Leaves r (now (storage .exit)) (exported (Call.updateNodeStatus (now (key .entry)) state direction time) (now (storage .entry))) ⌝ }
+    ensures { λ r. ⌜ Leaves r (now (storage .exit)) (exported (Call.onKey (now (key .entry)) (KeyCall.updateNodeStatus state direction time)) (now (storage .entry))) ⌝ }
 {
     let answer = table::update_node_status(storage, key, state, direction, time);
-    answers::update_code(answer)
+    codes::answers::update_code(answer)
 }
 
 #[no_mangle]
@@ -58,7 +68,7 @@ pub extern "C" fn kbuckets_update_node(
     state: u8,
     time: u64,
 ) -> u32
-    ensures { λ r. ⌜ Leaves r (now (storage .exit)) (exported (Call.updateNode (now (key .entry)) (record { flag = flag; a = a; b = b; c = c; d = d; slot = slot }) state time) (now (storage .entry))) ⌝ }
+    ensures { λ r. ⌜ Leaves r (now (storage .exit)) (exported (Call.onKey (now (key .entry)) (KeyCall.updateNode (record { flag = flag; a = a; b = b; c = c; d = d; slot = slot }) state time)) (now (storage .entry))) ⌝ }
 {
     let value = Value {
         flag,
@@ -69,7 +79,7 @@ pub extern "C" fn kbuckets_update_node(
         slot,
     };
     let answer = update::update_node(storage, key, value, state, time);
-    answers::update_code(answer)
+    codes::answers::update_code(answer)
 }
 
 #[no_mangle]
@@ -87,7 +97,7 @@ pub extern "C" fn kbuckets_insert_or_update(
     time: u64,
     answer: &mut [u8],
 ) -> u32
-    ensures { λ r. ⌜ Writes r (now (storage .exit)) (now (answer .exit)) (exportedWith (Call.insertOrUpdate (now (key .entry)) (record { flag = flag; a = a; b = b; c = c; d = d; slot = slot }) state direction time) (now (answer .entry)) (now (storage .entry))) ⌝ }
+    ensures { λ r. ⌜ Writes r (now (storage .exit)) (now (answer .exit)) (exportedWith (Call.onKey (now (key .entry)) (KeyCall.insertOrUpdate (record { flag = flag; a = a; b = b; c = c; d = d; slot = slot }) state direction time)) (now (answer .entry)) (now (storage .entry))) ⌝ }
 {
     let value = Value {
         flag,
@@ -98,26 +108,26 @@ pub extern "C" fn kbuckets_insert_or_update(
         slot,
     };
     if answer.len() < Answer::BYTES {
-        return answers::short_node(storage, key, value, state, direction, time);
+        return codes::answers::short_node(storage, key, value, state, direction, time);
     }
     let updated = update::insert_or_update(storage, key, value, state, direction, time);
-    answers::put_updated(answer, updated)
+    codes::answers::put_updated(answer, updated)
 }
 
 #[no_mangle]
 pub extern "C" fn kbuckets_remove(storage: &mut [u8], key: &[u8], time: u64) -> u32
-    ensures { λ r. ⌜ Leaves r (now (storage .exit)) (exported (Call.remove (now (key .entry)) time) (now (storage .entry))) ⌝ }
+    ensures { λ r. ⌜ Leaves r (now (storage .exit)) (exported (Call.onKey (now (key .entry)) (KeyCall.remove time)) (now (storage .entry))) ⌝ }
 {
     let answer = table::remove(storage, key, time);
-    answers::remove_code(answer)
+    codes::answers::remove_code(answer)
 }
 
 #[no_mangle]
 pub extern "C" fn kbuckets_entry(storage: &mut [u8], key: &[u8], time: u64) -> u32
-    ensures { λ r. ⌜ Leaves r (now (storage .exit)) (exported (Call.entry (now (key .entry)) time) (now (storage .entry))) ⌝ }
+    ensures { λ r. ⌜ Leaves r (now (storage .exit)) (exported (Call.onKey (now (key .entry)) (KeyCall.entry time)) (now (storage .entry))) ⌝ }
 {
     let answer = entry::entry(storage, key, time);
-    answers::entry_code(answer)
+    codes::answers::entry_code(answer)
 }
 
 #[no_mangle]
@@ -127,10 +137,10 @@ pub extern "C" fn kbuckets_present_update(
     state: u8,
     direction: u8,
 ) -> u32
-    ensures { λ r. ⌜ Leaves r (now (storage .exit)) (exported (Call.presentUpdate (now (key .entry)) state direction) (now (storage .entry))) ⌝ }
+    ensures { λ r. ⌜ Leaves r (now (storage .exit)) (exported (Call.onKey (now (key .entry)) (KeyCall.presentUpdate state direction)) (now (storage .entry))) ⌝ }
 {
     let answer = entry::present_update(storage, key, state, direction);
-    answers::update_code(answer)
+    codes::answers::update_code(answer)
 }
 
 #[no_mangle]
@@ -140,10 +150,10 @@ pub extern "C" fn kbuckets_pending_update(
     state: u8,
     direction: u8,
 ) -> u32
-    ensures { λ r. ⌜ Leaves r (now (storage .exit)) (exported (Call.pendingUpdate (now (key .entry)) state direction) (now (storage .entry))) ⌝ }
+    ensures { λ r. ⌜ Leaves r (now (storage .exit)) (exported (Call.onKey (now (key .entry)) (KeyCall.pendingUpdate state direction)) (now (storage .entry))) ⌝ }
 {
     let answer = entry::pending_update(storage, key, state, direction);
-    answers::update_code(answer)
+    codes::answers::update_code(answer)
 }
 
 #[no_mangle]
@@ -161,7 +171,7 @@ pub extern "C" fn kbuckets_absent_insert(
     time: u64,
     answer: &mut [u8],
 ) -> u32
-    ensures { λ r. ⌜ Writes r (now (storage .exit)) (now (answer .exit)) (exportedWith (Call.absentInsert (now (key .entry)) (record { flag = flag; a = a; b = b; c = c; d = d; slot = slot }) state direction time) (now (answer .entry)) (now (storage .entry))) ⌝ }
+    ensures { λ r. ⌜ Writes r (now (storage .exit)) (now (answer .exit)) (exportedWith (Call.onKey (now (key .entry)) (KeyCall.absentInsert (record { flag = flag; a = a; b = b; c = c; d = d; slot = slot }) state direction time)) (now (answer .entry)) (now (storage .entry))) ⌝ }
 {
     let value = Value {
         flag,
@@ -172,10 +182,10 @@ pub extern "C" fn kbuckets_absent_insert(
         slot,
     };
     if answer.len() < Answer::BYTES {
-        return answers::short_node(storage, key, value, state, direction, time);
+        return codes::answers::short_node(storage, key, value, state, direction, time);
     }
     let inserted = entry::absent_insert(storage, key, value, state, direction, time);
-    answers::put_inserted(answer, inserted)
+    codes::answers::put_inserted(answer, inserted)
 }
 
 #[no_mangle]
@@ -183,7 +193,7 @@ pub extern "C" fn kbuckets_iter(storage: &mut [u8], n: usize, time: u64, output:
     ensures { λ r. ⌜ Writes r (now (storage .exit)) (now (output .exit)) (exported (Call.list Listing.iter n time (now (output .entry))) (now (storage .entry))) ⌝ }
 {
     let answer = listing::iter(storage, time, n, output);
-    answers::list_code(answer)
+    codes::answers::list_code(answer)
 }
 
 #[no_mangle]
@@ -196,8 +206,8 @@ pub extern "C" fn kbuckets_nodes_by_distances(
 ) -> u32
     ensures { λ r. ⌜ Writes r (now (storage .exit)) (now (output .exit)) (exported (Call.list (Listing.nodesByDistances (now (distances .entry))) n time (now (output .entry))) (now (storage .entry))) ⌝ }
 {
-    let answer = by_distances::nodes_by_distances(storage, distances, time, n, output);
-    answers::list_code(answer)
+    let answer = distances::nodes_by_distances(storage, distances, time, n, output);
+    codes::answers::list_code(answer)
 }
 
 #[no_mangle]
@@ -211,7 +221,7 @@ pub extern "C" fn kbuckets_closest_keys(
     ensures { λ r. ⌜ Writes r (now (storage .exit)) (now (output .exit)) (exported (Call.list (Listing.closestKeys (now (target .entry))) n time (now (output .entry))) (now (storage .entry))) ⌝ }
 {
     let answer = listing::closest_keys(storage, target, time, n, output);
-    answers::list_code(answer)
+    codes::answers::list_code(answer)
 }
 
 #[no_mangle]
@@ -225,7 +235,7 @@ pub extern "C" fn kbuckets_closest_values(
     ensures { λ r. ⌜ Writes r (now (storage .exit)) (now (output .exit)) (exported (Call.list (Listing.closestValues (now (target .entry))) n time (now (output .entry))) (now (storage .entry))) ⌝ }
 {
     let answer = listing::closest_values(storage, target, time, n, output);
-    answers::list_code(answer)
+    codes::answers::list_code(answer)
 }
 
 #[no_mangle]
@@ -255,7 +265,7 @@ pub extern "C" fn kbuckets_closest_values_predicate(
         n,
         output,
     );
-    answers::list_code(answer)
+    codes::answers::list_code(answer)
 }
 
 #[no_mangle]
@@ -263,10 +273,10 @@ pub extern "C" fn kbuckets_take_applied_pending(storage: &mut [u8], answer: &mut
     ensures { λ r. ⌜ Writes r (now (storage .exit)) (now (answer .exit)) (exportedWith (Call.takeAppliedPending) (now (answer .entry)) (now (storage .entry))) ⌝ }
 {
     if answer.len() < Answer::BYTES {
-        return answers::short_storage(storage);
+        return codes::answers::short_storage(storage);
     }
     let taken = table::take_applied_pending(storage);
-    answers::put_taken(answer, taken)
+    codes::answers::put_taken(answer, taken)
 }
 
 // A bucket by itself.

@@ -22,14 +22,7 @@ Untouched i = All (λ (j : ℕ). same i j ≡ false)
 
 abbrev pub isNew : Call → Bool
 isNew (Call.new k timeout m tf bf) = true
-isNew (Call.updateNodeStatus k st dr now) = false
-isNew (Call.updateNode k v st now) = false
-isNew (Call.insertOrUpdate k v st dr now) = false
-isNew (Call.remove k now) = false
-isNew (Call.entry k now) = false
-isNew (Call.presentUpdate k st dr) = false
-isNew (Call.pendingUpdate k st dr) = false
-isNew (Call.absentInsert k v st dr now) = false
+isNew (Call.onKey k c) = false
 isNew (Call.list l n now out) = false
 isNew Call.takeAppliedPending = false
 
@@ -57,13 +50,6 @@ takeOldest-buckets t (a ∷ q) = refl
 pub act-frame : (c : Call) (t : Table) (i : ℕ) → isNew c ≡ false → Untouched i (touched c t) → act c t .table .buckets i ≡ t .buckets i
 unfolding act
 act-frame (Call.new k timeout m tf bf) t i n h = clash refl n
-act-frame (Call.updateNodeStatus k st dr now) t i n h = onKey-other t _ _ (indexIn t (number k)) i h
-act-frame (Call.updateNode k v st now) t i n h = onKey-other t _ _ (indexIn t (number k)) i h
-act-frame (Call.insertOrUpdate k v st dr now) t i n h = onKey-other t _ _ (indexIn t (number k)) i h
-act-frame (Call.remove k now) t i n h = onKey-other t _ _ (indexIn t (number k)) i h
-act-frame (Call.entry k now) t i n h = onKey-other t _ _ (indexIn t (number k)) i h
-act-frame (Call.presentUpdate k st dr) t i n h = onKey-other t _ _ (indexIn t (number k)) i h
-act-frame (Call.pendingUpdate k st dr) t i n h = onKey-other t _ _ (indexIn t (number k)) i h
-act-frame (Call.absentInsert k v st dr now) t i n h = onKey-other t _ _ (indexIn t (number k)) i h
+act-frame (Call.onKey k c) t i n h = onKey-other t _ _ (indexIn t (number k)) i h
 act-frame (Call.list l n now out) t i m h = applyAll-other now i (applies l n now t) t h
 act-frame Call.takeAppliedPending t i n h = ap (λ (bs : ℕ → Bucket). bs i) (takeOldest-buckets t (t .queue))

@@ -15,16 +15,17 @@ use Rattle.model.specs.Bytes.{number, Bytes}
 use Rattle.model.specs.Key.{distance, log2Distance, lessOne, bucketIndex}
 use Rattle.model.specs.Value.{Value}
 use Rattle.model.specs.Node.{Node, AppliedPending}
-use Rattle.model.specs.Result.{FailureReason, UpdateResult, InsertResult, isFailed}
+use Rattle.model.specs.Result.{UpdateResult, isFailed}
 use Rattle.model.specs.Bucket.{Bucket, BucketSettings, maxNodesPerBucket, emptyBucket, holds, insert, applyPending, updateStatus, updateValue, updatePending, remove}
-use Rattle.model.specs.Table.{Settings, Table, EntryKind, Answer, Effect, numBuckets, maxRecords, emptyTable, afterApplying, asStored, failsTableFilter, thenStatus, updateNodeIn, thenValue, insertOrUpdateIn, kindOf, write, indexIn}
+use Rattle.model.specs.Table.{Settings, Table, Answer, Effect, numBuckets, maxRecords, emptyTable, failsTableFilter, thenStatus, updateNodeIn, thenValue, insertOrUpdateIn, write, indexIn}
 use Rattle.model.specs.Sizes.{keySize, timeSize}
-use Rattle.model.specs.Call.{ValueArgument, Call, isOne, optional, valueOf}
+use Rattle.model.specs.Call.{ValueArgument, Call, KeyCall, isOne, optional, valueOf}
 use Rattle.model.specs.Listing.{applyAll, applies}
-use Rattle.model.specs.Question.{firstFailed, keysFit, codesInRange, clockFits, outputFits, kindFits}
-use Rattle.model.specs.Step.{Outcome, unchanged, onKey, nodeOf, settingsOf, takeOldest, act, queueFits, questions, unlessRefused, step}
+use Rattle.model.specs.Question.{firstFailed, keysFit, codesInRange, clockFits}
+use Rattle.model.specs.Step.{Outcome, unchanged, onKey, nodeOf, effect, settingsOf, takeOldest, act, queueFits, questions, unlessRefused, step}
 use Rattle.model.specs.Fits.{All, Opt, WellFormed, FitsAddress, FitsValue, FitsNode, FitsDeadline, FitsRecord, FitsBucket, FitsSettings, Fits, FitsArgument, FitsCall}
 use Rattle.laws.proofs.Tests.{same-true, clash, cases, and-left}
+use Rattle.laws.proofs.Questions.{accepted}
 use Rattle.laws.proofs.KeepEach.{insert-each, applyPending-each, updateStatus-each, updateValue-each, updatePending-each, remove-each}
 use Rattle.laws.proofs.Keep.{empty-well-formed, insert-well-formed, applyPending-well-formed, updateStatus-well-formed, updateValue-well-formed, updatePending-well-formed, remove-well-formed, empty-fits, records-fit, withStatus-fits, withValue-fits}
 use Rattle.laws.proofs.All.{all-append}
@@ -158,27 +159,20 @@ module _ (s : Settings) (i : ℕ) where
       (status-at (n .key) (n .connected) (some (n .incoming)) b h))
       (λ _. insert-at now n b f e d h))
 
--- a call on one key: f keeps the key's bucket, after a due pending is applied, or as it is stored
+-- a call on one key, by what it does to the key's bucket
+abbrev FitsEffect : Settings → ℕ → Effect → Type 0
+FitsEffect s i e = FitsAt s i (e .bucket) × All FitsRecord (e .records)
+
 onKey-fits : (t : Table) (self : Answer) (f : ℕ → Bucket → Effect) (o : Option ℕ) → ((i : ℕ) → o ≡ some i → i < numBuckets) → FitsEndless t
-    → ((i : ℕ) → o ≡ some i → FitsAt (t .settings) i (f i (t .buckets i) .bucket) × All FitsRecord (f i (t .buckets i) .records))
-    → FitsEndless (onKey t self f o .table)
+    → ((i : ℕ) → o ≡ some i → FitsEffect (t .settings) i (f i (t .buckets i))) → FitsEndless (onKey t self f o .table)
 onKey-fits t self f none l h g = h
 onKey-fits t self f (some i) l h g =
     write-fits t i (f i (t .buckets i) .bucket) (f i (t .buckets i) .records) h (g i refl .0) (λ p. absurd (let q = l i refl in omega arith)) (g i refl .1)
 
-module _ (t : Table) (self : Answer) (k : ℕ) (h : FitsEndless t) (f : ℕ → Bucket → Answer × Bucket) (g : (i : ℕ) (b : Bucket) → indexIn t k ≡ some i → FitsAt (t .settings) i b → FitsAt (t .settings) i (f i b .1)) where
-  applying-fits : (now : ℕ) → FitsEndless (onKey t self (λ i. afterApplying (t .settings .bucket) now (f i)) (indexIn t k) .table)
-  applying-fits now =
-      onKey-fits t self (λ i. afterApplying (t .settings .bucket) now (f i)) (indexIn t k) (λ i e. bucketIndex-below (t .settings .localKey) k i e) h
-      (λ i e. (
-        g i _ e (apply-at (t .settings) i now (t .buckets i) (record { fits = h .buckets i; formed = h .well-formed i })),
-        records-fit (t .settings .bucket) now (t .buckets i) (h .buckets i),
-      ))
-
-  stored-fits : FitsEndless (onKey t self (λ i. asStored (f i)) (indexIn t k) .table)
-  stored-fits =
-      onKey-fits t self (λ i. asStored (f i)) (indexIn t k) (λ i e. bucketIndex-below (t .settings .localKey) k i e) h
-      (λ i e. (g i (t .buckets i) e (record { fits = h .buckets i; formed = h .well-formed i }), tt))
+-- a due pending is applied first
+after-applying : {c : Bucket} (s : Settings) (i now : ℕ) (b : Bucket) → FitsAt s i b → (FitsAt s i (applyPending (s .bucket) now b .0) → FitsAt s i c)
+    → FitsAt s i c × All FitsRecord (applyPending (s .bucket) now b .1)
+after-applying s i now b h g = (g (apply-at s i now b h), records-fit (s .bucket) now b (h .fits))
 
 takeOldest-fits : (t : Table) (q : List AppliedPending) → All FitsRecord q → FitsEndless t → FitsEndless (takeOldest t q .table)
 takeOldest-fits t [] r h = h
@@ -201,72 +195,37 @@ new-settings-fit k timeout m tf bf c e r =
       maxIncoming = leb-true m maxNodesPerBucket (and-left (leb m maxNodesPerBucket) (leb tf 1 && leb bf 1) r);
     }
 
+effect-fits : (c : KeyCall) (k : List ℕ) (t : Table) (i : ℕ) (b : Bucket) → FitsCall (Call.onKey k c) → keysFit (Call.onKey k c) ≡ true
+    → clockFits (Call.onKey k c) t ≡ true → indexIn t (number k) ≡ some i → FitsAt (t .settings) i b → FitsEffect (t .settings) i (effect c k t i b)
+unfolding keysFit clockFits
+effect-fits (KeyCall.updateNodeStatus st dr now) k t i b c e d q h =
+    after-applying (t .settings) i now b h (λ w. status-at (t .settings) i (number k) (isOne st) (optional dr) _ w)
+effect-fits (KeyCall.updateNode v st now) k t i b c e d q h =
+    after-applying (t .settings) i now b h (λ w. updateNodeIn-at (t .settings) i (failsTableFilter t i (number k) (valueOf v)) now (number k) (valueOf v) (optional st) _ (value-fits v (c .1)) w)
+effect-fits (KeyCall.insertOrUpdate v st dr now) k t i b c e d q h =
+    after-applying (t .settings) i now b h
+    (λ w. insertOrUpdateIn-at (t .settings) i (failsTableFilter t i (number k) (valueOf v)) now (nodeOf k v st dr) _
+    (node-fits k v st dr (c .0) (c .1) (and-left (eqb (length k) keySize) true e)) q
+    (deadline-fits now (t .settings .bucket .pendingTimeout) d) w)
+effect-fits (KeyCall.remove now) k t i b c e d q h = after-applying (t .settings) i now b h (λ w. remove-at (t .settings) i now (number k) _ w)
+effect-fits (KeyCall.entry now) k t i b c e d q h = after-applying (t .settings) i now b h (λ w. w)
+effect-fits (KeyCall.presentUpdate st dr) k t i b c e d q h = (status-at (t .settings) i (number k) (isOne st) (optional dr) b h, tt)
+effect-fits (KeyCall.pendingUpdate st dr) k t i b c e d q h = (pending-at (t .settings) i (isOne st) (isOne dr) b h, tt)
+effect-fits (KeyCall.absentInsert v st dr now) k t i b c e d q h = (
+  insert-at (t .settings) i now (nodeOf k v st dr) b (node-fits k v st dr (c .0) (c .1) (and-left (eqb (length k) keySize) true e)) q
+      (deadline-fits now (t .settings .bucket .pendingTimeout) d) h,
+  tt,
+)
+
 -- the call's work, with an endless queue
 pub act-fits : (c : Call) (t : Table) → FitsCall c → keysFit c ≡ true → codesInRange c ≡ true → clockFits c t ≡ true → FitsEndless t → FitsEndless (act c t .table)
-unfolding act keysFit clockFits
+unfolding act
 act-fits (Call.new k timeout m tf bf) t c e r d h = new-endless (settingsOf (number k) timeout m tf bf) (new-settings-fit k timeout m tf bf c e r)
-act-fits (Call.updateNodeStatus k st dr now) t c e r d h =
-    let s : BucketSettings = t .settings .bucket in
-    applying-fits t (Answer.Update UpdateResult.NotModified) (number k) h
-    (λ i b. (Answer.Update (updateStatus s (number k) (isOne st) (optional dr) b .0), updateStatus s (number k) (isOne st) (optional dr) b .1))
-    (λ i b q w. status-at (t .settings) i (number k) (isOne st) (optional dr) b w) now
-act-fits (Call.updateNode k v st now) t c e r d h =
-    let s : BucketSettings = t .settings .bucket in
-    applying-fits t (Answer.Update UpdateResult.NotModified) (number k) h
-    (λ i. updateNodeIn s (failsTableFilter t i (number k) (valueOf v)) now (number k) (valueOf v) (optional st))
-    (λ i b q w. updateNodeIn-at (t .settings) i (failsTableFilter t i (number k) (valueOf v)) now (number k) (valueOf v) (optional st) b (value-fits v (c .1)) w) now
-act-fits (Call.insertOrUpdate k v st dr now) t c e r d h =
-    let s : BucketSettings = t .settings .bucket in
-    applying-fits t (Answer.InsertOrUpdate (InsertResult.Failed FailureReason.InvalidSelfUpdate)) (number k) h
-    (λ i. insertOrUpdateIn s (failsTableFilter t i (number k) (valueOf v)) now (nodeOf k v st dr))
-    (λ i b q w. insertOrUpdateIn-at (t .settings) i (failsTableFilter t i (number k) (valueOf v)) now (nodeOf k v st dr) b
-    (node-fits k v st dr (c .0) (c .1) (and-left (eqb (length k) keySize) true e)) q (deadline-fits now (t .settings .bucket .pendingTimeout) d) w) now
-act-fits (Call.remove k now) t c e r d h =
-    let s : BucketSettings = t .settings .bucket in
-    applying-fits t (Answer.Remove false) (number k) h (λ i b. (Answer.Remove (remove s now (number k) b .0), remove s now (number k) b .1))
-    (λ i b q w. remove-at (t .settings) i now (number k) b w) now
-act-fits (Call.entry k now) t c e r d h =
-    applying-fits t (Answer.Entry EntryKind.SelfEntry) (number k) h (λ i b. (Answer.Entry (kindOf (number k) b), b)) (λ i b q w. w) now
-act-fits (Call.presentUpdate k st dr) t c e r d h =
-    let s : BucketSettings = t .settings .bucket in
-    stored-fits t (Answer.Refused 7) (number k) h
-    (λ i b. (Answer.Update (updateStatus s (number k) (isOne st) (optional dr) b .0), updateStatus s (number k) (isOne st) (optional dr) b .1))
-    (λ i b q w. status-at (t .settings) i (number k) (isOne st) (optional dr) b w)
-act-fits (Call.pendingUpdate k st dr) t c e r d h =
-    stored-fits t (Answer.Refused 7) (number k) h (λ i b. (Answer.Update UpdateResult.UpdatedPending, updatePending (isOne st) (isOne dr) b))
-    (λ i b q w. pending-at (t .settings) i (isOne st) (isOne dr) b w)
-act-fits (Call.absentInsert k v st dr now) t c e r d h =
-    let s : BucketSettings = t .settings .bucket in
-    stored-fits t (Answer.Refused 7) (number k) h
-    (λ i b. (Answer.Insert (insert s now (nodeOf k v st dr) b .0), insert s now (nodeOf k v st dr) b .1))
-    (λ i b q w. insert-at (t .settings) i now (nodeOf k v st dr) b
-    (node-fits k v st dr (c .0) (c .1) (and-left (eqb (length k) keySize) true e)) q (deadline-fits now (t .settings .bucket .pendingTimeout) d) w)
+act-fits (Call.onKey k x) t c e r d h =
+    onKey-fits t _ _ (indexIn t (number k)) (bucketIndex-below (t .settings .localKey) (number k)) h
+    (λ i q. effect-fits x k t i (t .buckets i) c e d q (record { fits = h .buckets i; formed = h .well-formed i }))
 act-fits (Call.list l n now out) t c e r d h = applyAll-fits now (applies l n now t) t h
 act-fits Call.takeAppliedPending t c e r d h = takeOldest-fits t (t .queue) (h .records) h
-
--- a question passed, and those after it
-pub passed : (n : ℕ) (q : Bool) (qs : List (ℕ × Bool)) → firstFailed ((n, q) ∷ qs) ≡ none → (q ≡ true) × (firstFailed qs ≡ none)
-passed n true qs e = (refl, e)
-passed n false qs e = clash refl (ap isSome e)
-
--- what the questions say of an accepted call
-pub record Accepted (c : Call) (t : Table) : Type 0 where
-  pub keys : keysFit c ≡ true
-  pub codes : codesInRange c ≡ true
-  pub clock : clockFits c t ≡ true
-  pub output : outputFits c ≡ true
-  pub kind : kindFits c t ≡ true
-  pub queue : queueFits c t ≡ true
-
-pub accepted : (c : Call) (t : Table) → firstFailed (questions c t) ≡ none → Accepted c t
-accepted c t e =
-    let q3 = passed 3 (keysFit c) ((4, codesInRange c) ∷ (5, clockFits c t) ∷ (6, outputFits c) ∷ (7, kindFits c t) ∷ (8, queueFits c t) ∷ []) e in
-    let q4 = passed 4 (codesInRange c) ((5, clockFits c t) ∷ (6, outputFits c) ∷ (7, kindFits c t) ∷ (8, queueFits c t) ∷ []) (q3 .1) in
-    let q5 = passed 5 (clockFits c t) ((6, outputFits c) ∷ (7, kindFits c t) ∷ (8, queueFits c t) ∷ []) (q4 .1) in
-    let q6 = passed 6 (outputFits c) ((7, kindFits c t) ∷ (8, queueFits c t) ∷ []) (q5 .1) in
-    let q7 = passed 7 (kindFits c t) ((8, queueFits c t) ∷ []) (q6 .1) in
-    let q8 = passed 8 (queueFits c t) [] (q7 .1) in
-    record { keys = q3 .0; codes = q4 .0; clock = q5 .0; output = q6 .0; kind = q7 .0; queue = q8 .0 }
 
 queue-within : (c : Call) (t : Table) → queueFits c t ≡ true → length (act c t .table .queue) ≤ maxRecords
 unfolding queueFits

@@ -12,6 +12,7 @@ pub mod Xor
 pub mod Index
 pub mod Sort
 pub mod Visits
+pub mod Nearest
 pub mod Listing
 pub mod Applied
 pub mod KeepLists
@@ -24,6 +25,7 @@ pub mod NodeFormed
 pub mod BucketBytes
 pub mod BucketFormed
 pub mod BucketBack
+pub mod Questions
 pub mod KeepStep
 pub mod Frame
 pub mod HeaderBytes

@@ -11,7 +11,7 @@ use Rattle.model.specs.Node.{Node}
 use Rattle.model.specs.Bucket.{Bucket, nodes, numEntries}
 use Rattle.model.specs.Table.{Table}
 use Rattle.model.specs.Call.{Listing, PredicateArgument}
-use Rattle.model.specs.Listing.{applied, visited, order, applies, byDistance, shown, most, found}
+use Rattle.model.specs.Listing.{applied, visited, visitOrder, applies, byDistance, shown, most, found}
 use Rattle.model.specs.Question.{maxCount}
 use Rattle.laws.proofs.Join.{take-append}
 use Rattle.laws.proofs.Sort.{length-sort}
@@ -38,7 +38,7 @@ pub iter-reads : (n now : ℕ) (t : Table)
     → found Listing.iter n now t ≡ take n (joined (shown Listing.iter n now t) (applies Listing.iter n now t))
 unfolding found
 iter-reads n now t =
-    sym (visited-enough (shown Listing.iter n now t) (λ i. numEntries (applied now t i)) (λ i. sym (length-nodes (applied now t i))) n (order Listing.iter t))
+    sym (visited-enough (shown Listing.iter n now t) (λ i. numEntries (applied now t i)) (λ i. sym (length-nodes (applied now t i))) n (visitOrder Listing.iter t))
 
 closest-reads : (x : List ℕ) (n now : ℕ) (t : Table) (is : List ℕ)
     → take n (joined (λ i. byDistance x (applied now t i)) is)
@@ -48,17 +48,17 @@ closest-reads x n now t is =
 
 pub keys-reads : (x : List ℕ) (n now : ℕ) (t : Table) → (let l = Listing.closestKeys x in found l n now t ≡ take n (joined (shown l n now t) (applies l n now t)))
 unfolding found
-keys-reads x n now t = closest-reads x n now t (order (Listing.closestKeys x) t)
+keys-reads x n now t = closest-reads x n now t (visitOrder (Listing.closestKeys x) t)
 
 pub values-reads : (x : List ℕ) (n now : ℕ) (t : Table)
     → (let l = Listing.closestValues x in found l n now t ≡ take n (joined (shown l n now t) (applies l n now t)))
 unfolding found
-values-reads x n now t = closest-reads x n now t (order (Listing.closestValues x) t)
+values-reads x n now t = closest-reads x n now t (visitOrder (Listing.closestValues x) t)
 
 pub predicate-reads : (x : List ℕ) (p : PredicateArgument) (n now : ℕ) (t : Table)
     → (let l = Listing.closestValuesPredicate x p in found l n now t ≡ take n (joined (shown l n now t) (applies l n now t)))
 unfolding found
-predicate-reads x p n now t = closest-reads x n now t (order (Listing.closestValuesPredicate x p) t)
+predicate-reads x p n now t = closest-reads x n now t (visitOrder (Listing.closestValuesPredicate x p) t)
 
 -- a count that is allowed stays so
 pub most-few : (l : Listing) (n : ℕ) → n ≤ maxCount → most l n ≤ maxCount

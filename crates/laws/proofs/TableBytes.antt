@@ -1,23 +1,23 @@
 -- The table's bytes: a table that fits is read again from its bytes, which are formed; formed bytes are those of the table that is read
 -- of them, which fits.
 use mathlib.Core.Path.{_≡_, refl, sym, ap, _∙_, fun-ext}
-use mathlib.Core.Bool.{Bool, true}
+use mathlib.Core.Bool.{true}
 use mathlib.Core.List.{List}
 use mathlib.Core.Option.{Option, none, some}
 use mathlib.Core.Logic.{⊎-elim}
 use Prim.Native.Nat.{ℕ, _*_, _≤_, _<_}
 use native.Mathlib.Omega.{arith}
-use lib.ListN.{length, getD, length-append}
+use lib.ListN.{length, length-append}
 use Rattle.model.specs.Base.{joined, tabulate, allBelow}
 use Rattle.model.specs.Bytes.{part, Bytes}
 use Rattle.model.specs.Key.{bucketIndex}
 use Rattle.model.specs.Node.{Node, PendingNode}
 use Rattle.model.specs.Bucket.{Bucket, emptyBucket, nodes}
 use Rattle.model.specs.Table.{Table, numBuckets}
-use Rattle.model.specs.Sizes.{maxIncomingAt, headerSize, bucketSize, bucketAt, storageSize}
+use Rattle.model.specs.Sizes.{headerSize, bucketSize, bucketAt, storageSize}
 use Rattle.model.specs.Layout.{headerBytes, bucketBytes, bytesOf, bucketIn, settingsIn, bucketPart, tableOf}
-use Rattle.model.specs.Formed.{keyIn, isAt, headerFormed, bucketFormed, formed}
-use Rattle.model.specs.Fits.{All, FormedBucket, Fits}
+use Rattle.model.specs.Formed.{keyIn, isAt, headerFormed, bucketFormedAt, formed}
+use Rattle.model.specs.Fits.{All, FormedBucket, WellFormed, FitsBucket, Fits}
 use Rattle.laws.proofs.Tests.{same-self, same-true, clash, and-left, and-right}
 use Rattle.laws.proofs.Lists.{lt-or-le, all-gives, all-if, length-tabulate, getD-tabulate, length-joined}
 use Rattle.laws.proofs.Parts.{part-all, part-append, part-right, part-joined, part-past, length-part, joined-slots, slot-before}
@@ -120,43 +120,49 @@ bytes-are t s l e h =
 
 -- what question 2 tells of the header and of each bucket
 module _ (s : List ℕ) (f : formed s ≡ true) where
-  abbrev test : ℕ → Bool
-  test i = bucketFormed (λ k. isAt (bucketIndex (keyIn s) k) i) (getD s maxIncomingAt 0) (bucketPart s i)
-
   pub header-passes : headerFormed s ≡ true
   unfolding formed
-  header-passes = and-left (headerFormed s) (allBelow numBuckets test) f
+  header-passes = and-left (headerFormed s) (allBelow numBuckets (bucketFormedAt s)) f
 
-  pub bucket-passes : (i : ℕ) → i < numBuckets → test i ≡ true
+  pub bucket-passes : (i : ℕ) → i < numBuckets → bucketFormedAt s i ≡ true
   unfolding formed
-  bucket-passes i m = all-gives numBuckets test i m (and-right (headerFormed s) (allBelow numBuckets test) f)
+  bucket-passes i m = all-gives numBuckets (bucketFormedAt s) i m (and-right (headerFormed s) (allBelow numBuckets (bucketFormedAt s)) f)
 
-module _ (s : List ℕ) (h : Bytes s) (l : length s ≡ storageSize) (f : formed s ≡ true) where
+module _ (s : List ℕ) (h : Bytes s) (l : length s ≡ storageSize) where
   part-length : (i : ℕ) → i < numBuckets → length (bucketPart s i) ≡ bucketSize
   part-length i m = length-part s (bucketAt i) bucketSize (omega (arith, slot-before i numBuckets bucketSize m))
 
   part-bytes : (i : ℕ) → Bytes (bucketPart s i)
   part-bytes i = Bytes-part s (bucketAt i) bucketSize h
 
-  pub table-back : bytesOf (tableOf s) ≡ s
-  unfolding tableOf
-  table-back =
-      sym (bytes-are (tableOf s) s l (sym (header-back s (omega arith) h (header-passes s f)))
-      (λ i m. sym (bucket-back (bucketPart s i) (part-length i m) (part-bytes i) _ _ (bucket-passes s f i m))))
+  -- a bucket that passes question 2
+  module _ (i : ℕ) (m : i < numBuckets) (p : bucketFormedAt s i ≡ true) where
+    pub fits-at : FitsBucket (tableOf s .buckets i)
+    unfolding tableOf
+    fits-at = bucket-fits (bucketPart s i) (part-length i m) (part-bytes i) _ _ p
+
+    pub well-formed-at : WellFormed (tableOf s .settings) i (tableOf s .buckets i)
+    unfolding tableOf settingsIn
+    well-formed-at = formed-map _ _ _ _ (λ k e. index-at (bucketIndex (keyIn s) k) i e) (bucket-good (bucketPart s i) (part-length i m) (part-bytes i) _ _ p)
 
   empty-past : (i : ℕ) → numBuckets ≤ i → tableOf s .buckets i ≡ emptyBucket
   unfolding tableOf
   empty-past i m = ap bucketIn (part-past s (bucketAt i) bucketSize (omega arith)) ∙ bucket-none
 
-  pub fits-back : Fits (tableOf s)
-  unfolding tableOf settingsIn
-  fits-back =
+  pub table-back : formed s ≡ true → bytesOf (tableOf s) ≡ s
+  unfolding tableOf
+  table-back f =
+      sym (bytes-are (tableOf s) s l (sym (header-back s (omega arith) h (header-passes s f)))
+      (λ i m. sym (bucket-back (bucketPart s i) (part-length i m) (part-bytes i) _ _ (bucket-passes s f i m))))
+
+  pub fits-back : formed s ≡ true → Fits (tableOf s)
+  fits-back f =
       record {
         settings = settings-fit s (omega arith) h (header-passes s f);
-        buckets = λ i. ⊎-elim (λ m. bucket-fits (bucketPart s i) (part-length i m) (part-bytes i) _ _ (bucket-passes s f i m)) (λ m. rw (empty-past i m) empty-fits) (lt-or-le i numBuckets);
+        buckets = λ i. ⊎-elim (λ m. fits-at i m (bucket-passes s f i m)) (λ m. rw (empty-past i m) empty-fits) (lt-or-le i numBuckets);
         well-formed =
             λ i. ⊎-elim
-            (λ m. formed-map _ _ _ _ (λ k e. index-at (bucketIndex (keyIn s) k) i e) (bucket-good (bucketPart s i) (part-length i m) (part-bytes i) _ _ (bucket-passes s f i m)))
+            (λ m. well-formed-at i m (bucket-passes s f i m))
             (λ m. rw (empty-past i m) (empty-well-formed (tableOf s .settings) i))
             (lt-or-le i numBuckets);
         past = empty-past;

@@ -7,7 +7,7 @@ use mathlib.Core.List.{List, _∷_}
 use mathlib.Core.Option.{Option, none, some}
 use lib.ListN.{length}
 use lib.Dec.{eqb}
-use borrow.Author.Tests.{eq-eqb, eqb-true}
+use borrow.Author.Tests.{eq-eqb}
 use Rattle.model.specs.Table.{Table, Answer}
 use Rattle.model.specs.Sizes.{storageSize}
 use Rattle.model.specs.Call.{Call}
@@ -15,10 +15,11 @@ use Rattle.model.specs.Question.{firstFailed, arguments}
 use Rattle.model.specs.Step.{Outcome, act, questions, step}
 use Rattle.model.specs.Layout.{bytesOf, tableOf}
 use Rattle.model.specs.Formed.{formed}
-use Rattle.model.specs.StepBytes.{BytesOutcome, allQuestions, touched, restore, unlessRefused, stepBytes}
+use Rattle.model.specs.StepBytes.{BytesOutcome, allQuestions, touched, restore, unlessRefusedBytes, stepBytes}
 use Rattle.model.specs.Fits.{Fits, FitsCall}
 use Rattle.laws.proofs.Tests.{clash, split, or-second}
-use Rattle.laws.proofs.KeepStep.{step-accepted, step-refused, step-fits, new-fits, passed}
+use Rattle.laws.proofs.Questions.{accepted-bytes}
+use Rattle.laws.proofs.KeepStep.{step-accepted, step-refused, step-fits, new-fits}
 use Rattle.laws.proofs.Frame.{isNew, act-frame}
 use Rattle.laws.proofs.Touched.{touched-below}
 use Rattle.laws.proofs.TableBytes.{length-bytesOf, table-there, formed-there}
@@ -36,14 +37,7 @@ first-two a b qs p q = rw (p, q)
 -- the storage that an accepted call leaves
 new-storage : (c : Call) (t t′ : Table) (s : List ℕ) → length s ≡ storageSize → Fits t′ → isNew c ≡ true → restore s (touched c t) t′ ≡ bytesOf t′
 new-storage (Call.new k timeout m tf bf) t t′ s l g n = restore-all s l t′ g
-new-storage (Call.updateNodeStatus k st dr now) t t′ s l g n = clash n refl
-new-storage (Call.updateNode k v st now) t t′ s l g n = clash n refl
-new-storage (Call.insertOrUpdate k v st dr now) t t′ s l g n = clash n refl
-new-storage (Call.remove k now) t t′ s l g n = clash n refl
-new-storage (Call.entry k now) t t′ s l g n = clash n refl
-new-storage (Call.presentUpdate k st dr) t t′ s l g n = clash n refl
-new-storage (Call.pendingUpdate k st dr) t t′ s l g n = clash n refl
-new-storage (Call.absentInsert k v st dr now) t t′ s l g n = clash n refl
+new-storage (Call.onKey k c) t t′ s l g n = clash n refl
 new-storage (Call.list l n now out) t t′ s e g m = clash m refl
 new-storage Call.takeAppliedPending t t′ s l g n = clash n refl
 
@@ -56,7 +50,7 @@ act-storage c t f g =
 pub step-bytes : (c : Call) (t : Table) → FitsCall c → Fits t → Same (stepBytes c (bytesOf t)) (step c t)
 unfolding stepBytes step
 step-bytes c t h f =
-    subst⁻¹ (λ (o : Option ℕ). Same (unlessRefused o c (bytesOf t)) (step c t)) e (answered (firstFailed (questions c t)) refl)
+    subst⁻¹ (λ (o : Option ℕ). Same (unlessRefusedBytes o c (bytesOf t)) (step c t)) e (answered (firstFailed (questions c t)) refl)
   where
     e : firstFailed (allQuestions c (bytesOf t)) ≡ firstFailed (questions c t)
     e =
@@ -65,13 +59,13 @@ step-bytes c t h f =
         (or-second (not (arguments c .table)) (formed (bytesOf t)) (formed-there t f))
         ∙ ap (λ (x : Table). firstFailed (questions c x)) (table-there t f)
 
-    answered : (o : Option ℕ) → firstFailed (questions c t) ≡ o → Same (unlessRefused o c (bytesOf t)) (step c t)
+    answered : (o : Option ℕ) → firstFailed (questions c t) ≡ o → Same (unlessRefusedBytes o c (bytesOf t)) (step c t)
     answered (some n) q =
-        subst⁻¹ (λ (p : Outcome). Same (unlessRefused (some n) c (bytesOf t)) p) (step-refused c t n q)
+        subst⁻¹ (λ (p : Outcome). Same (unlessRefusedBytes (some n) c (bytesOf t)) p) (step-refused c t n q)
         (record { answer = refl; storage = refl; records = refl })
     answered none q =
         let g : Fits (act c t .table) = subst (λ (p : Outcome). Fits (p .table)) (step-accepted c t q) (step-fits c t h f) in
-        subst⁻¹ (λ (p : Outcome). Same (unlessRefused none c (bytesOf t)) p) (step-accepted c t q)
+        subst⁻¹ (λ (p : Outcome). Same (unlessRefusedBytes none c (bytesOf t)) p) (step-accepted c t q)
         (record {
           answer = ap (λ (x : Table). act c x .answer) (table-there t f);
           storage = ap (λ (x : Table). restore (bytesOf t) (touched c x) (act c x .table)) (table-there t f) ∙ act-storage c t f g;
@@ -84,7 +78,7 @@ module _ (k : List ℕ) (timeout m tf bf : ℕ) (s : List ℕ) (h : FitsCall (Ca
   made = Call.new k timeout m tf bf
 
   -- question 1, and the others of a table that does not matter
-  accepted-new : (o : Option ℕ) → firstFailed (allQuestions made s) ≡ o → unlessRefused o made s .answer ≡ Answer.New → firstFailed (allQuestions made s) ≡ none
+  accepted-new : (o : Option ℕ) → firstFailed (allQuestions made s) ≡ o → unlessRefusedBytes o made s .answer ≡ Answer.New → firstFailed (allQuestions made s) ≡ none
   accepted-new none e a = e
   accepted-new (some n) e a = absurd (refused-new n a)
     where
@@ -95,12 +89,11 @@ module _ (k : List ℕ) (timeout m tf bf : ℕ) (s : List ℕ) (h : FitsCall (Ca
   unfolding stepBytes
   new-bytes a =
       let e : firstFailed (allQuestions made s) ≡ none = accepted-new (firstFailed (allQuestions made s)) refl a in
-      let q1 = passed 1 (eqb (length s) storageSize) ((2, true) ∷ questions made (tableOf s)) e in
-      let q2 = passed 2 true (questions made (tableOf s)) (q1 .1) in
-      let q : firstFailed (questions made (tableOf s)) ≡ none = q2 .1 in
+      let p = accepted-bytes made s e in
+      let q : firstFailed (questions made (tableOf s)) ≡ none = p .passes in
       let g : Fits (act made (tableOf s) .table) = subst (λ (p : Outcome). Fits (p .table)) (step-accepted made (tableOf s) q) (new-fits k timeout m tf bf (tableOf s) h q) in (
-        subst⁻¹ (λ (o : Option ℕ). Same (unlessRefused o made s) (step made (tableOf s))) e
-            (subst⁻¹ (λ (p : Outcome). Same (unlessRefused none made s) p) (step-accepted made (tableOf s) q)
-            (record { answer = refl; storage = restore-all s (eqb-true (length s) storageSize (q1 .0)) (act made (tableOf s) .table) g; records = refl })),
+        subst⁻¹ (λ (o : Option ℕ). Same (unlessRefusedBytes o made s) (step made (tableOf s))) e
+            (subst⁻¹ (λ (p : Outcome). Same (unlessRefusedBytes none made s) p) (step-accepted made (tableOf s) q)
+            (record { answer = refl; storage = restore-all s (p .size) (act made (tableOf s) .table) g; records = refl })),
         q,
       )

@@ -77,13 +77,6 @@ key-below k t = index-below (indexIn t (number k)) (λ i e. bucketIndex-below (t
 
 pub touched-below : (c : Call) (t : Table) → Below (touched c t)
 touched-below (Call.new k timeout m tf bf) t = all-tabulate (λ (i : ℕ). i < numBuckets) numBuckets (λ i. i) (λ i m. m)
-touched-below (Call.updateNodeStatus k st dr now) t = key-below k t
-touched-below (Call.updateNode k v st now) t = key-below k t
-touched-below (Call.insertOrUpdate k v st dr now) t = key-below k t
-touched-below (Call.remove k now) t = key-below k t
-touched-below (Call.entry k now) t = key-below k t
-touched-below (Call.presentUpdate k st dr) t = key-below k t
-touched-below (Call.pendingUpdate k st dr) t = key-below k t
-touched-below (Call.absentInsert k v st dr now) t = key-below k t
+touched-below (Call.onKey k c) t = key-below k t
 touched-below (Call.list l n now out) t = applies-below l n now t
 touched-below Call.takeAppliedPending t = tt

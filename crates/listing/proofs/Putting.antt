@@ -13,9 +13,9 @@ use Rattle.model.specs.Table.{Table, numBuckets}
 use Rattle.model.specs.Fits.{All}
 use Rattle.laws.proofs.Join.{take-joined}
 use Rattle.laws.proofs.Parts.{splice-nil, length-splice, splice-next}
-use Rattle.found.specs.declared.Shape.{Shape}
-use Rattle.found.specs.Shape.{itemsBy, sizeBy, shownBy}
-use Rattle.found.proofs.Items.{length-items, items-append}
+use Rattle.items.specs.declared.Shape.{Shape}
+use Rattle.items.specs.Shape.{itemsBy, sizeBy, shownBy}
+use Rattle.items.proofs.Items.{length-items, items-append}
 use Rattle.listing.specs.Listed.{firstNodes, Put}
 
 -- k nodes are put, and the others come from the buckets that remain

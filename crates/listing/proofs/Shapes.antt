@@ -16,7 +16,7 @@ use Rattle.model.specs.Table.{Table}
 use Rattle.model.specs.Sizes.{keySize}
 use Rattle.model.specs.Visit.{visits}
 use Rattle.model.specs.Call.{Listing}
-use Rattle.model.specs.Listing.{applied, visited, item, order, applies, shown, most}
+use Rattle.model.specs.Listing.{applied, visited, item, visitOrder, applies, shown, most}
 use Rattle.model.specs.Question.{targets, listingCodes, entrySize}
 use Rattle.laws.proofs.Tests.{cases}
 use Rattle.laws.proofs.Sort.{length-sort}
@@ -24,9 +24,9 @@ use Rattle.laws.proofs.BucketBytes.{length-nodes}
 use Rattle.key.specs.Key.{num}
 use Rattle.visit.specs.Passes.{held, Visitable}
 use Rattle.visit.proofs.Visitable.{visitable-visits, visitable-in-turn}
-use Rattle.found.specs.declared.Shape.{Shape}
-use Rattle.found.specs.Shape.{itemBy, sizeBy, shownBy}
-use Rattle.listing.specs.Listed.{listingBy, orderBy, TargetOf}
+use Rattle.items.specs.declared.Shape.{Shape}
+use Rattle.items.specs.Shape.{itemBy, sizeBy, shownBy}
+use Rattle.listing.specs.Listed.{listingBy, visitOrderBy, TargetOf}
 
 -- what it is asked
 pub record Asks (x : Shape) (target : List ℕ) (n : ℕ) (l : Listing) : Type 0 where
@@ -37,8 +37,8 @@ pub record Asks (x : Shape) (target : List ℕ) (n : ℕ) (l : Listing) : Type 0
 
 -- what it visits and gives
 pub record Gives (x : Shape) (t : Table) (n now : ℕ) (l : Listing) : Type 0 where
-  pub order : order l t ≡ orderBy x t
-  pub applies : applies l n now t ≡ visited (held now t) n (orderBy x t)
+  pub order : visitOrder l t ≡ visitOrderBy x t
+  pub applies : applies l n now t ≡ visited (held now t) n (visitOrderBy x t)
   pub shown : (i : ℕ) → shown l n now t i ≡ shownBy x (applied now t i)
   pub item : (m : Node) → item l m ≡ itemBy x m
   pub most : most l n ≡ n
@@ -61,7 +61,7 @@ module _ (x : Shape) (target : List ℕ) (a : TargetOf x target) where
       (λ g. record { keys = and-true (eqb (length target) keySize); codes = refl; most = refl; size = rw (e, f, g) })))
 
   pub gives : length target ≡ keySize → (t : Table) (n now : ℕ) → Gives x t n now (listingBy x target)
-  unfolding orderBy shownBy itemBy
+  unfolding visitOrderBy shownBy itemBy
   gives h t n now =
       let p : number target ≡ num (x .target) = sym (a .aim h) in
       cases (Gives x t n now) (eqb (x .form) 0)
@@ -74,8 +74,8 @@ module _ (x : Shape) (target : List ℕ) (a : TargetOf x target) where
       (λ g. record { order = rw (e, p); applies = rw (e, p); shown = λ i. rw (e, p); item = λ m. rw (e, f, g); most = refl })
       (λ g. record { order = rw (e, p); applies = rw (e, p); shown = λ i. rw (e, p); item = λ m. rw (e, f, g); most = refl })))
 
-pub visitable-by : (x : Shape) (t : Table) → Visitable (orderBy x t)
-unfolding orderBy
+pub visitable-by : (x : Shape) (t : Table) → Visitable (visitOrderBy x t)
+unfolding visitOrderBy
 visitable-by x t =
     cases Visitable (eqb (x .form) 0) (λ _. visitable-in-turn) (λ _. visitable-visits (distance (t .settings .localKey) (num (x .target))))
 

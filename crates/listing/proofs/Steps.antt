@@ -11,11 +11,10 @@ use borrow.Author.Tests.{eqb-true, leb-true, le-leb, lt-leb}
 use Rattle.model.specs.Base.{same, every, joined}
 use Rattle.model.specs.Bytes.{Bytes}
 use Rattle.model.specs.Node.{Node, AppliedPending}
-use Rattle.model.specs.Bucket.{numEntries}
 use Rattle.model.specs.Table.{Table, Answer, numBuckets, maxRecords}
 use Rattle.model.specs.Sizes.{keySize, storageSize}
 use Rattle.model.specs.Call.{Listing, Call}
-use Rattle.model.specs.Listing.{Item, item, applyAll, applied, visited, applies, order, shown, most, found}
+use Rattle.model.specs.Listing.{Item, item, applyAll, applied, visited, applies, visitOrder, shown, most, found}
 use Rattle.model.specs.Question.{maxCount, firstFailed, listingCodes, entrySize, deadlineFits, keysFit, codesInRange, clockFits, outputFits, kindFits}
 use Rattle.model.specs.Step.{act, queueFits}
 use Rattle.model.specs.Layout.{bytesOf, tableOf}
@@ -27,17 +26,18 @@ use Rattle.laws.proofs.All.{all-map}
 use Rattle.laws.proofs.Join.{take-append, joined-same}
 use Rattle.laws.proofs.Applied.{apply-all-keeps, apply-all-buckets, apply-all-queue}
 use Rattle.laws.proofs.Frame.{applyAll-other}
-use Rattle.laws.proofs.KeepStep.{passed, endless, with-queue, applyAll-fits}
+use Rattle.laws.proofs.KeepStep.{endless, with-queue, applyAll-fits}
 use Rattle.laws.proofs.TableBytes.{length-bytesOf, table-there, formed-there, table-back, fits-back}
 use Rattle.laws.proofs.Restore.{restore-is}
-use Rattle.asked.specs.Answers.{firstFive, failedOfFive}
-use Rattle.asked.proofs.Questions.{front-fails, front-passes, passed-five, PassedFive}
+use Rattle.on_key.specs.Answers.{firstFive, failedOfFive}
+use Rattle.laws.proofs.Questions.{passed, front-fails, front-passes, front-none}
+use Rattle.on_key.proofs.Questions.{passed-five, PassedFive}
 use Rattle.visit.specs.Passes.{held, visitOne, visitAll}
 use Rattle.laws.proofs.Touched.{all-visited}
-use Rattle.found.specs.declared.Shape.{Shape}
-use Rattle.found.specs.Shape.{itemBy, sizeBy, shownBy}
-use Rattle.found.specs.Lists.{Lists}
-use Rattle.listing.specs.Listed.{listingBy, orderBy, TargetOf, roomBy, failedOfSix, firstNodes, Put, listed}
+use Rattle.items.specs.declared.Shape.{Shape}
+use Rattle.items.specs.Shape.{itemBy, sizeBy, shownBy}
+use Rattle.items.specs.Lists.{Lists}
+use Rattle.listing.specs.Listed.{listingBy, visitOrderBy, TargetOf, roomBy, failedOfSix, firstNodes, Put, listOutcome}
 use Rattle.listing.proofs.Shapes.{Asks, Gives, asks, gives, visitable-by, length-shown}
 
 -- the buckets visited are those that were applied, so that the items may be read from the table that is left
@@ -88,8 +88,8 @@ module _ (x : Shape) (now n : ℕ) (is out s : List ℕ) where
       let k : length (tableOf s .queue) ≤ maxRecords = fits-back s h l f .queue in
       omega (arith, queue-length)
 
-  pub listed-refused : maxRecords < length (left .queue) → Lists (Answer.Refused 8) s out (listed x now n is out s)
-  unfolding listed
+  pub listed-refused : maxRecords < length (left .queue) → Lists (Answer.Refused 8) s out (listOutcome x now n is out s)
+  unfolding listOutcome
   listed-refused h = let q = lt-leb (length (left .queue)) maxRecords h in record { answer = rw q; storage = rw q; output = rw q }
 
   module _ (h : Bytes s) (l : length s ≡ storageSize) (f : formed s ≡ true) (q : length (left .queue) ≤ maxRecords) where
@@ -104,8 +104,8 @@ module _ (x : Shape) (now n : ℕ) (is out s : List ℕ) where
     left-formed = formed-there left left-fits
 
     pub listed-found : (r : ℕ) (s′ out′ : List ℕ) → s′ ≡ bytesOf left → Put x (firstNodes n x (tableOf s′) is) r out out′
-        → Lists (Answer.Found r) s′ out′ (listed x now n is out s)
-    unfolding listed
+        → Lists (Answer.Found r) s′ out′ (listOutcome x now n is out s)
+    unfolding listOutcome
     listed-found r s′ out′ e p =
         let k = le-leb (length (left .queue)) maxRecords q in
         let there : tableOf s′ ≡ left = ap tableOf e ∙ table-there left left-fits in
@@ -116,12 +116,6 @@ module _ (x : Shape) (now n : ℕ) (is out s : List ℕ) where
         }
 
 -- the first six questions, in turn
-
-front-none : (xs ys : List (ℕ × Bool)) → firstFailed (xs ++ ys) ≡ none → firstFailed xs ≡ none
-front-none [] ys e = refl
-front-none (q ∷ xs) ys e =
-    let p = passed (q .0) (q .1) (xs ++ ys) e in
-    ap (λ (b : Bool). cond b (firstFailed xs) (some (q .0))) (p .0) ∙ front-none xs ys (p .1)
 
 module _ (x : Shape) (target : List ℕ) (now n len : ℕ) (s : List ℕ) where
   abbrev first : List (ℕ × Bool)
@@ -148,7 +142,7 @@ module _ (x : Shape) (target : List ℕ) (a : TargetOf x target) (now n : ℕ) (
   c = Call.list (listingBy x target) n now out
 
   abbrev is : List ℕ
-  is = orderBy x t
+  is = visitOrderBy x t
 
   abbrev six : List (ℕ × Bool)
   six = firstFive target (leb (x .predicate) 3) (some now) s ++ ((6, roomBy x n (length out)) ∷ [])
@@ -243,8 +237,8 @@ module _ (x : Shape) (target : List ℕ) (a : TargetOf x target) (now n : ℕ) (
         ∙ ap (λ (r : List ℕ). restore r js u) (sym (table-back s h (five .size) (five .formed)))
         ∙ restore-is t u f g js (all-visited (λ (i : ℕ). i < numBuckets) (held now t) n is (visitable-by x t .below)) (λ i _ o. sym (applyAll-other now i js t o))
 
-    answered : Bytes s → {r : Answer} {s′ out′ : List ℕ} → Lists r s′ out′ (listed x now n is out s) → Lists r s′ out′ (stepBytes c s)
-    unfolding stepBytes act listed
+    answered : Bytes s → {r : Answer} {s′ out′ : List ℕ} → Lists r s′ out′ (listOutcome x now n is out s) → Lists r s′ out′ (stepBytes c s)
+    unfolding stepBytes act listOutcome
     answered h {r} {s′} {out′} w =
         split (leb (length (visitAll now n is t .0 .queue)) maxRecords)
         (λ q.
@@ -259,5 +253,5 @@ module _ (x : Shape) (target : List ℕ) (a : TargetOf x target) (now n : ℕ) (
         record { answer = w .answer ∙ (rw (q, f)); storage = w .storage ∙ (rw (q, f)); output = w .output ∙ (rw (q, f)) })
 
     -- the visit of its buckets is the listing
-    pub listed-is : Bytes s → {r : Answer} {s′ out′ : List ℕ} (js : List ℕ) → js ≡ is → Lists r s′ out′ (listed x now n js out s) → Lists r s′ out′ (stepBytes c s)
-    listed-is h {r} {s′} {out′} js e w = answered h (subst (λ (ks : List ℕ). Lists r s′ out′ (listed x now n ks out s)) e w)
+    pub listed-is : Bytes s → {r : Answer} {s′ out′ : List ℕ} (js : List ℕ) → js ≡ is → Lists r s′ out′ (listOutcome x now n js out s) → Lists r s′ out′ (stepBytes c s)
+    listed-is h {r} {s′} {out′} js e w = answered h (subst (λ (ks : List ℕ). Lists r s′ out′ (listOutcome x now n ks out s)) e w)

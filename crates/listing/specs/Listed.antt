@@ -18,10 +18,10 @@ use Rattle.model.specs.Question.{firstFailed, maxCount}
 use Rattle.model.specs.Layout.{tableOf, bytesOf}
 use Rattle.model.specs.StepBytes.{BytesOutcome, written}
 use Rattle.key.specs.Key.{num}
-use Rattle.asked.specs.Answers.{firstFive}
+use Rattle.on_key.specs.Answers.{firstFive}
 use Rattle.visit.specs.Passes.{visitAll}
-use Rattle.found.specs.declared.Shape.{Shape}
-use Rattle.found.specs.Shape.{predicateOf, itemBy, sizeBy, shownBy}
+use Rattle.items.specs.declared.Shape.{Shape}
+use Rattle.items.specs.Shape.{predicateOf, itemBy, sizeBy, shownBy}
 
 abbrev pub listingBy : Shape → List ℕ → Listing
 listingBy x target =
@@ -30,8 +30,8 @@ listingBy x target =
     (cond (eqb (x .form) 2) (Listing.closestValues target) (Listing.closestValuesPredicate target (predicateOf x))))
 
 -- the order of its buckets
-unfoldable pub orderBy : Shape → Table → List ℕ
-orderBy x t = cond (eqb (x .form) 0) (tabulate numBuckets (λ i. i)) (visits (distance (t .settings .localKey) (num (x .target))))
+unfoldable pub visitOrderBy : Shape → Table → List ℕ
+visitOrderBy x t = cond (eqb (x .form) 0) (tabulate numBuckets (λ i. i)) (visits (distance (t .settings .localKey) (num (x .target))))
 
 -- a shape and the bytes of its target; `iter` has neither target nor predicate and is handed ones that fail no question
 pub record TargetOf (x : Shape) (target : List ℕ) : Type 0 where
@@ -58,8 +58,8 @@ pub record Put (x : Shape) (ns : List Node) (r : ℕ) (before after : List ℕ) 
   pub output : after ≡ written (map (itemBy x) ns) before
 
 -- the visit of the buckets: question 8, then the storage with their due pendings applied and the items of the nodes found in it
-unfoldable pub listed : Shape → ℕ → ℕ → List ℕ → List ℕ → List ℕ → BytesOutcome
-listed x now n is out s =
+unfoldable pub listOutcome : Shape → ℕ → ℕ → List ℕ → List ℕ → List ℕ → BytesOutcome
+listOutcome x now n is out s =
     let r = visitAll now n is (tableOf s) in
     let ns = firstNodes n x (r .0) is in
     cond (leb (length (r .0 .queue)) maxRecords)

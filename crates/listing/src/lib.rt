@@ -13,13 +13,13 @@ ghost use Rattle.model.specs.Formed.{formed};
 ghost use Rattle.model.specs.StepBytes.{stepBytes};
 ghost use Rattle.key.specs.Key.{num};
 ghost use Rattle.key.specs.Visits.{remaining};
-ghost use Rattle.asked.specs.Answers.{Timely, refusal};
+ghost use Rattle.on_key.specs.Answers.{Timely, refusal};
 ghost use Rattle.visit.specs.Passes.{Visitable};
-ghost use Rattle.found.specs.Shape.{sizeBy};
-ghost use Rattle.found.specs.Lists.{Lists, listAnswer};
-ghost use Rattle.listing.specs.Listed.{listingBy, orderBy, TargetOf, failedOfSix, firstNodes, Put, listed};
-use found::ListAnswer;
-use found::Shape;
+ghost use Rattle.items.specs.Shape.{sizeBy};
+ghost use Rattle.items.specs.Lists.{Lists, listAnswer};
+ghost use Rattle.listing.specs.Listed.{listingBy, visitOrderBy, TargetOf, failedOfSix, firstNodes, Put, listOutcome};
+use items::ListAnswer;
+use items::Shape;
 use key::BucketIndex;
 use key::ClosestBucketsIter;
 use key::Key;
@@ -30,7 +30,7 @@ fn has_output(n: usize, size: usize, len: usize) -> bool
     requires { ⌜ size ≤ 64 ⌝ }
     ensures { λ r. ⌜ r ≡ (leb n maxCount && leb (n * size) len) ⌝ }
 {
-    if found::MAX_COUNT < n {
+    if items::MAX_COUNT < n {
         return false;
     }
     n * size <= len
@@ -40,11 +40,11 @@ fn has_output(n: usize, size: usize, len: usize) -> bool
 fn asked_list(s: &[u8], target: &[u8], shape: Shape, time: u64, n: usize, len: usize) -> u8
     ensures { λ r. ⌜ failedOfSix shape (now (target .entry)) time n len (now (s .entry)) ≡ refusal r ⌝ }
 {
-    let q = asked::asked_at(s, target, shape.predicate <= 3, time);
+    let q = on_key::asked_at(s, target, shape.predicate <= 3, time);
     if q != 0 {
         return q;
     }
-    let size = found::item_size(shape);
+    let size = items::item_size(shape);
     if !has_output(n, size, len) {
         return 6;
     }
@@ -63,18 +63,18 @@ fn target_of(target: &[u8]) -> Key
             w3: 0,
         };
     }
-    asked::key_of(target)
+    on_key::key_of(target)
 }
 
 // The buckets in the order of the listing.
 fn visit_of(s: &[u8], shape: Shape) -> ClosestBucketsIter
     requires { ⌜ length (now s) ≡ storageSize ⌝ }
-    ensures { λ r. ⌜ remaining r ≡ orderBy shape (tableOf (now (s .entry))) ⌝ }
+    ensures { λ r. ⌜ remaining r ≡ visitOrderBy shape (tableOf (now (s .entry))) ⌝ }
 {
     if shape.form == 0 {
         return visit::in_turn();
     }
-    let local = queue::local_key(s);
+    let local = header::local_key(s);
     let target = shape.target;
     ClosestBucketsIter::new(local.distance(target))
 }
@@ -98,7 +98,7 @@ fn put_all(s: &[u8], visit: ClosestBucketsIter, shape: Shape, out: &mut [u8], n:
                 return k;
             }
             BucketIndex::At(i) => {
-                k = found::put_bucket(s, i, shape, out, k, n);
+                k = items::put_bucket(s, i, shape, out, k, n);
             }
         }
     }
@@ -119,9 +119,9 @@ fn list_visited(
     requires { ⌜ Visitable (remaining visit) ⌝ }
     requires { ⌜ shape .form ≤ 3 ⌝ }
     requires { ⌜ (n ≤ maxCount) × (n * sizeBy shape ≤ length (now out)) ⌝ }
-    ensures { λ r. ⌜ Lists (listAnswer r) (now (s .exit)) (now (out .exit)) (listed shape time n (remaining visit) (now (out .entry)) (now (s .entry))) ⌝ }
+    ensures { λ r. ⌜ Lists (listAnswer r) (now (s .exit)) (now (out .exit)) (listOutcome shape time n (remaining visit) (now (out .entry)) (now (s .entry))) ⌝ }
 {
-    let queued = queue::record_count(s);
+    let queued = header::record_count(s);
     let records = visit::count_records(s, visit, time, n);
     if Layout::MAX_RECORDS - queued < records {
         return ListAnswer::Refused(8);

@@ -12,7 +12,7 @@ use Rattle.model.specs.Value.{Value}
 use Rattle.model.specs.Node.{Node, AppliedPending}
 use Rattle.model.specs.Result.{InsertResult, isInserted, isFailed}
 use Rattle.model.specs.Table.{Settings, Answer}
-use Rattle.model.specs.Call.{Call, isOne, optional, valueOf}
+use Rattle.model.specs.Call.{Call, KeyCall, isOne, optional, valueOf}
 use Rattle.model.specs.Step.{settingsOf}
 use Rattle.model.specs.Formed.{isAt}
 
@@ -22,93 +22,82 @@ pub record Entry : Type 0 where
   pub answer : Answer
   pub records : List AppliedPending
 
+-- What the log reads of an answer: that the call was refused; any Failed answer; remove answering true; Inserted.
+pub record Verdict : Type 0 where
+  pub refused : Bool
+  pub failed : Bool
+  pub removed : Bool
+  pub inserted : Bool
+
+abbrev pub says : (refused failed removed inserted : Bool) → Verdict
+says r f m i = record { refused = r; failed = f; removed = m; inserted = i }
+
+abbrev pub insertVerdict : InsertResult → Verdict
+insertVerdict InsertResult.Inserted = says false false false true
+insertVerdict (InsertResult.Pending k) = says false false false false
+insertVerdict (InsertResult.StatusUpdated p) = says false false false false
+insertVerdict InsertResult.ValueUpdated = says false false false false
+insertVerdict (InsertResult.Updated p) = says false false false false
+insertVerdict InsertResult.UpdatedPending = says false false false false
+insertVerdict (InsertResult.Failed r) = says false true false false
+
+abbrev pub verdict : Answer → Verdict
+verdict (Answer.Refused n) = says true false false false
+verdict Answer.New = says false false false false
+verdict (Answer.Update r) = says false (isFailed r) false false
+verdict (Answer.InsertOrUpdate r) = says false (insertVerdict r .failed) false (insertVerdict r .inserted)
+verdict (Answer.Insert r) = says false false false (isInserted r)
+verdict (Answer.Remove r) = says false false r false
+verdict (Answer.Entry k) = says false false false false
+verdict (Answer.Found n) = says false false false false
+verdict (Answer.TakeAppliedPending r) = says false false false false
+
 abbrev pub isRefused : Answer → Bool
-isRefused (Answer.Refused n) = true
-isRefused Answer.New = false
-isRefused (Answer.Update r) = false
-isRefused (Answer.InsertOrUpdate r) = false
-isRefused (Answer.Insert r) = false
-isRefused (Answer.Remove r) = false
-isRefused (Answer.Entry k) = false
-isRefused (Answer.Found n) = false
-isRefused (Answer.TakeAppliedPending r) = false
+isRefused a = verdict a .refused
 
-abbrev pub failedInsert : InsertResult → Bool
-failedInsert InsertResult.Inserted = false
-failedInsert (InsertResult.Pending k) = false
-failedInsert (InsertResult.StatusUpdated p) = false
-failedInsert InsertResult.ValueUpdated = false
-failedInsert (InsertResult.Updated p) = false
-failedInsert InsertResult.UpdatedPending = false
-failedInsert (InsertResult.Failed r) = true
-
--- any Failed answer
 abbrev pub answersFailed : Answer → Bool
-answersFailed (Answer.Refused n) = false
-answersFailed Answer.New = false
-answersFailed (Answer.Update r) = isFailed r
-answersFailed (Answer.InsertOrUpdate r) = failedInsert r
-answersFailed (Answer.Insert r) = false
-answersFailed (Answer.Remove r) = false
-answersFailed (Answer.Entry k) = false
-answersFailed (Answer.Found n) = false
-answersFailed (Answer.TakeAppliedPending r) = false
+answersFailed a = verdict a .failed
 
--- remove answering true
 abbrev pub answersRemoved : Answer → Bool
-answersRemoved (Answer.Refused n) = false
-answersRemoved Answer.New = false
-answersRemoved (Answer.Update r) = false
-answersRemoved (Answer.InsertOrUpdate r) = false
-answersRemoved (Answer.Insert r) = false
-answersRemoved (Answer.Remove r) = r
-answersRemoved (Answer.Entry k) = false
-answersRemoved (Answer.Found n) = false
-answersRemoved (Answer.TakeAppliedPending r) = false
+answersRemoved a = verdict a .removed
 
-abbrev pub insertedNow : InsertResult → Bool
-insertedNow InsertResult.Inserted = true
-insertedNow (InsertResult.Pending k) = false
-insertedNow (InsertResult.StatusUpdated p) = false
-insertedNow InsertResult.ValueUpdated = false
-insertedNow (InsertResult.Updated p) = false
-insertedNow InsertResult.UpdatedPending = false
-insertedNow (InsertResult.Failed r) = false
-
--- Inserted
 abbrev pub answersInserted : Answer → Bool
-answersInserted (Answer.Refused n) = false
-answersInserted Answer.New = false
-answersInserted (Answer.Update r) = false
-answersInserted (Answer.InsertOrUpdate r) = insertedNow r
-answersInserted (Answer.Insert r) = isInserted r
-answersInserted (Answer.Remove r) = false
-answersInserted (Answer.Entry k) = false
-answersInserted (Answer.Found n) = false
-answersInserted (Answer.TakeAppliedPending r) = false
+answersInserted a = verdict a .inserted
 
 -- Departure: any Failed answer for the key; remove answering true.
 abbrev pub departs : Answer → Bool
 departs a = answersFailed a || answersRemoved a
 
--- What a call has to do with the log: it names a key, does or does not have a status step, and gives a state, a direction, a value;
--- or it is `new`; or it names no key.
+-- What a call that names a key has: a status step or none, and the state, the direction and the value that it gives.
+pub record Naming : Type 0 where
+  pub statusStep : Bool
+  pub connected : Option Bool
+  pub incoming : Option Bool
+  pub value : Option Value
+
+-- What a call has to do with the log: it names a key; or it is `new`; or it names no key.
 pub data Role : Type 0 where
-  names : (key : ℕ) (statusStep : Bool) (connected incoming : Option Bool) (value : Option Value) → Role
+  names : (key : ℕ) → Naming → Role
   empties : Settings → Role
   silent : Role
 
+abbrev pub gives : (statusStep : Bool) (connected incoming : Option Bool) (value : Option Value) → Naming
+gives step u d v = record { statusStep = step; connected = u; incoming = d; value = v }
+
 -- A status step belongs to every insert_or_update, update_node_status and Present update, and to update_node given a state.
+abbrev pub naming : KeyCall → Naming
+naming (KeyCall.updateNodeStatus st dr now) = gives true (some (isOne st)) (optional dr) none
+naming (KeyCall.updateNode v st now) = gives (isSome (optional st)) (optional st) none (some (valueOf v))
+naming (KeyCall.insertOrUpdate v st dr now) = gives true (some (isOne st)) (some (isOne dr)) (some (valueOf v))
+naming (KeyCall.remove now) = gives false none none none
+naming (KeyCall.entry now) = gives false none none none
+naming (KeyCall.presentUpdate st dr) = gives true (some (isOne st)) (optional dr) none
+naming (KeyCall.pendingUpdate st dr) = gives false (some (isOne st)) (some (isOne dr)) none
+naming (KeyCall.absentInsert v st dr now) = gives false (some (isOne st)) (some (isOne dr)) (some (valueOf v))
+
 abbrev pub role : Call → Role
 role (Call.new k timeout m tf bf) = Role.empties (settingsOf (number k) timeout m tf bf)
-role (Call.updateNodeStatus k st dr now) = Role.names (number k) true (some (isOne st)) (optional dr) none
-role (Call.updateNode k v st now) = Role.names (number k) (isSome (optional st)) (optional st) none (some (valueOf v))
-role (Call.insertOrUpdate k v st dr now) = Role.names (number k) true (some (isOne st)) (some (isOne dr)) (some (valueOf v))
-role (Call.remove k now) = Role.names (number k) false none none none
-role (Call.entry k now) = Role.names (number k) false none none none
-role (Call.presentUpdate k st dr) = Role.names (number k) true (some (isOne st)) (optional dr) none
-role (Call.pendingUpdate k st dr) = Role.names (number k) false (some (isOne st)) (some (isOne dr)) none
-role (Call.absentInsert k v st dr now) = Role.names (number k) false (some (isOne st)) (some (isOne dr)) (some (valueOf v))
+role (Call.onKey k c) = Role.names (number k) (naming c)
 role (Call.list l n now out) = Role.silent
 role Call.takeAppliedPending = Role.silent
 
@@ -135,8 +124,8 @@ recordEvents (r ∷ rs) es = recordEvents rs (Event.placement (r .inserted) ∷ 
 -- Then come the call's own. Placement: Inserted; on a held key (held after the records: docs/DECISIONS.md, 10), a status step in a call
 -- that does not answer Failed.
 abbrev pub ownEvents : Role → Answer → List Event → List Event
-ownEvents (Role.names k step u d v) a es =
-    cond (departs a) (Event.departure k ∷ es) (cond (answersInserted a || (step && heldNow k es)) (Event.placement k ∷ es) es)
+ownEvents (Role.names k n) a es =
+    cond (departs a) (Event.departure k ∷ es) (cond (answersInserted a || (n .statusStep && heldNow k es)) (Event.placement k ∷ es) es)
 ownEvents (Role.empties s) a es = []
 ownEvents Role.silent a es = es
 
@@ -147,19 +136,19 @@ events (e ∷ h) = cond (isRefused (e .answer)) (events h) (ownEvents (role (e .
 
 -- The last given in a call that names the key and is neither refused nor answered Failed. `pick` takes the state, the direction or
 -- the value of what a call gives.
-abbrev pub nowGiven : {A : Type 0} → (Option Bool → Option Bool → Option Value → Option A) → A → Role → Answer → ℕ → A → A
-nowGiven pick first (Role.names k step u d v) a x before = cond (answersFailed a) before (cond (same x k) (given (pick u d v) before) before)
+abbrev pub nowGiven : {A : Type 0} → (Naming → Option A) → A → Role → Answer → ℕ → A → A
+nowGiven pick first (Role.names k n) a x before = cond (answersFailed a) before (cond (same x k) (given (pick n) before) before)
 nowGiven pick first (Role.empties s) a x before = first
 nowGiven pick first Role.silent a x before = before
 
-abbrev pub lastGiven : {A : Type 0} → (Option Bool → Option Bool → Option Value → Option A) → A → ℕ → List Entry → A
+abbrev pub lastGiven : {A : Type 0} → (Naming → Option A) → A → ℕ → List Entry → A
 lastGiven pick first x [] = first
 lastGiven pick first x (e ∷ h) =
     cond (isRefused (e .answer)) (lastGiven pick first x h) (nowGiven pick first (role (e .call)) (e .answer) x (lastGiven pick first x h))
 
 -- The settings are those given to the last accepted `new`.
 abbrev pub nowSettings : Role → Settings → Settings
-nowSettings (Role.names k step u d v) before = before
+nowSettings (Role.names k n) before = before
 nowSettings (Role.empties s) before = s
 nowSettings Role.silent before = before
 
@@ -172,10 +161,10 @@ without k [] = []
 without k (x ∷ xs) = cond (same x k) (without k xs) (x ∷ without k xs)
 
 -- The held keys in the order of their last placements (crates/theorem, Literal: this list and no other).
-abbrev pub order : List Event → List ℕ
-order [] = []
-order (Event.placement k ∷ es) = without k (order es) ++ (k ∷ [])
-order (Event.departure k ∷ es) = without k (order es)
+abbrev pub heldOrder : List Event → List ℕ
+heldOrder [] = []
+heldOrder (Event.placement k ∷ es) = without k (heldOrder es) ++ (k ∷ [])
+heldOrder (Event.departure k ∷ es) = without k (heldOrder es)
 
 -- when the key's last placement was
 abbrev pub lastPlacement : ℕ → List Event → ℕ
@@ -201,10 +190,10 @@ abbrev pub logOf : List Entry → Log
 logOf h =
     record {
       settings = lastSettings noSettings h;
-      held = order (events h);
-      connected = λ k. lastGiven (λ u d v. u) false k h;
-      incoming = λ k. lastGiven (λ u d v. d) false k h;
-      value = λ k. lastGiven (λ u d v. v) noValue k h;
+      held = heldOrder (events h);
+      connected = λ k. lastGiven (λ n. n .connected) false k h;
+      incoming = λ k. lastGiven (λ n. n .incoming) false k h;
+      value = λ k. lastGiven (λ n. n .value) noValue k h;
     }
 
 -- what the log says of a key

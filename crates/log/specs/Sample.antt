@@ -10,7 +10,7 @@ use Rattle.model.specs.Result.{FailureReason, BucketInsertResult, UpdateResult,
 use Rattle.model.specs.Bucket.{nodes}
 use Rattle.model.specs.Table.{Table, Answer}
 use Rattle.model.specs.Sizes.{nodeSize}
-use Rattle.model.specs.Call.{Listing, Call}
+use Rattle.model.specs.Call.{Listing, Call, KeyCall}
 use Rattle.model.specs.Step.{nodeOf}
 use Rattle.model.specs.Numbers.{sameNumbers, nodeNumbers, settingsNumbers, answerNumbers}
 use Rattle.model.specs.Rows.{noTable, key, plain, from}
@@ -19,7 +19,7 @@ use Rattle.log.specs.Claim.{tableAfter, entries}
 
 -- a new node at time 0, whose slot is its key
 abbrev inserted : (state : ℕ) → ℕ → Call × Answer
-inserted st k = (Call.insertOrUpdate (key k) (plain k) st 0 0, Answer.InsertOrUpdate InsertResult.Inserted)
+inserted st k = (Call.onKey (key k) (KeyCall.insertOrUpdate (plain k) st 0 0), Answer.InsertOrUpdate InsertResult.Inserted)
 
 -- Calls and what they answer. At most one connected incoming node, bucket filter on, timeout 60,000.
 unfoldable pub sample : List (Call × Answer)
@@ -28,31 +28,31 @@ sample =
     -- bucket 5 is filled with disconnected nodes
     ∷ (from (inserted 0) 32 16
     -- 48 is pending, due at 60,100; a second call on it fails, and what it gives does not count
-    ++ ((Call.insertOrUpdate (key 48) (plain 48) 1 0 100, Answer.InsertOrUpdate (InsertResult.Pending 32))
-    ∷ (Call.insertOrUpdate (key 48) (plain 7) 1 0 101, Answer.InsertOrUpdate (InsertResult.Failed FailureReason.BucketFull))
+    ++ ((Call.onKey (key 48) (KeyCall.insertOrUpdate (plain 48) 1 0 100), Answer.InsertOrUpdate (InsertResult.Pending 32))
+    ∷ (Call.onKey (key 48) (KeyCall.insertOrUpdate (plain 7) 1 0 101), Answer.InsertOrUpdate (InsertResult.Failed FailureReason.BucketFull))
     -- refused: insert_or_update must be given a direction
-    ∷ (Call.insertOrUpdate (key 34) (plain 7) 0 2 102, Answer.Refused 4)
+    ∷ (Call.onKey (key 34) (KeyCall.insertOrUpdate (plain 7) 0 2 102), Answer.Refused 4)
     -- 33 moves behind 47; 35 keeps its place and gets another slot
-    ∷ (Call.updateNodeStatus (key 33) 0 2 103, Answer.Update UpdateResult.NotModified)
-    ∷ (Call.updateNode (key 35) (plain 9) 2 104, Answer.Update UpdateResult.Updated)
+    ∷ (Call.onKey (key 33) (KeyCall.updateNodeStatus 0 2 103), Answer.Update UpdateResult.NotModified)
+    ∷ (Call.onKey (key 35) (KeyCall.updateNode (plain 9) 2 104), Answer.Update UpdateResult.Updated)
     -- 48 is applied and evicts 32, which was held when the call came; 32 is pending then
-    ∷ (Call.insertOrUpdate (key 32) (plain 32) 1 0 60100, Answer.InsertOrUpdate (InsertResult.Pending 34))
+    ∷ (Call.onKey (key 32) (KeyCall.insertOrUpdate (plain 32) 1 0 60100), Answer.InsertOrUpdate (InsertResult.Pending 34))
     -- 36 connects, incoming; 37 would be one too many and is taken out; 38 is removed
-    ∷ (Call.updateNodeStatus (key 36) 1 1 60101, Answer.Update UpdateResult.UpdatedAndPromoted)
-    ∷ (Call.updateNodeStatus (key 37) 1 1 60102, Answer.Update (UpdateResult.Failed FailureReason.TooManyIncoming))
-    ∷ (Call.remove (key 38) 60103, Answer.Remove true)
+    ∷ (Call.onKey (key 36) (KeyCall.updateNodeStatus 1 1 60101), Answer.Update UpdateResult.UpdatedAndPromoted)
+    ∷ (Call.onKey (key 37) (KeyCall.updateNodeStatus 1 1 60102), Answer.Update (UpdateResult.Failed FailureReason.TooManyIncoming))
+    ∷ (Call.onKey (key 38) (KeyCall.remove 60103), Answer.Remove true)
     -- the pending 32 gets another status; a listing applies it, with no eviction
-    ∷ (Call.pendingUpdate (key 32) 0 1, Answer.Update UpdateResult.UpdatedPending)
+    ∷ (Call.onKey (key 32) (KeyCall.pendingUpdate 0 1), Answer.Update UpdateResult.UpdatedPending)
     ∷ (Call.list Listing.iter 2 120100 (zeros (2 * nodeSize)), Answer.Found 2)
     -- 37 comes again
-    ∷ (Call.absentInsert (key 37) (plain 3) 1 0 120100, Answer.Insert BucketInsertResult.Inserted)
+    ∷ (Call.onKey (key 37) (KeyCall.absentInsert (plain 3) 1 0 120100), Answer.Insert BucketInsertResult.Inserted)
     -- 49 is pending; the call that applies it moves 48 behind it
-    ∷ (Call.insertOrUpdate (key 49) (plain 49) 1 0 120101, Answer.InsertOrUpdate (InsertResult.Pending 34))
-    ∷ (Call.updateNodeStatus (key 48) 1 2 180101, Answer.Update UpdateResult.NotModified)
+    ∷ (Call.onKey (key 49) (KeyCall.insertOrUpdate (plain 49) 1 0 120101), Answer.InsertOrUpdate (InsertResult.Pending 34))
+    ∷ (Call.onKey (key 48) (KeyCall.updateNodeStatus 1 2 180101), Answer.Update UpdateResult.NotModified)
     -- two nodes of bucket 6; the first is set connected again and moves
     ∷ inserted 1 64
     ∷ inserted 1 65
-    ∷ (Call.presentUpdate (key 64) 1 2, Answer.Update UpdateResult.NotModified)
+    ∷ (Call.onKey (key 64) (KeyCall.presentUpdate 1 2), Answer.Update UpdateResult.NotModified)
     ∷ (Call.takeAppliedPending, Answer.TakeAppliedPending (some (record { inserted = 48; evicted = some (nodeOf (key 32) (plain 32) 0 0) })))
     -- a further new, with other settings and another local key; then 32 is of bucket 5 again
     ∷ (Call.new (key 1) 0 16 1 0, Answer.New)

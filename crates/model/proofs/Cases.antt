@@ -16,10 +16,15 @@ use Rattle.model.specs.Question.{keysFit, codesInRange, clockFits, outpu
 use Rattle.model.specs.Step.{act, queueFits, step}
 use Rattle.model.specs.Layout.{valueBytes, nodeBytes, recordBytes, bucketBytes, headerBytes, itemBytes, valueIn, nodeIn, recordIn, nodesIn, bucketIn, settingsIn, tableOf}
 use Rattle.model.specs.Formed.{areZero, nodeCodes, notHeld, pendingFormed, bucketFormed, recordFormed, headerFormed, formed}
+use Rattle.model.specs.Nearest.{nearest}
 use Rattle.model.specs.StepBytes.{restore, stepBytes}
 use Rattle.model.specs.Rows.{holds}
-use Rattle.model.specs.Cases.{cases}
+use Rattle.model.specs.Cases.{cases, questionCases}
 
 pub cases-hold : every holds cases ≡ true
-unfolding leadingZeros same joined tabulate allBelow number bytes part splice log2Distance bucketIndex testBit sameNet sameValue counts ipFilterFails firstConnectedPos isFull failsBucketFilter isMaxIncoming insert applyDue applyPending reinsert updateStatus updateValue updatePending remove heldNodes failsTableFilter insertBy sortBy setsDown clearsUp visits visited indexAt found keysFit codesInRange clockFits outputFits kindFits act queueFits step valueBytes nodeBytes recordBytes bucketBytes headerBytes itemBytes valueIn nodeIn recordIn nodesIn bucketIn settingsIn tableOf areZero nodeCodes notHeld pendingFormed bucketFormed recordFormed headerFormed formed restore stepBytes cases
+unfolding leadingZeros same joined tabulate allBelow number bytes part splice log2Distance bucketIndex testBit sameNet sameValue counts ipFilterFails firstConnectedPos isFull failsBucketFilter isMaxIncoming insert applyDue applyPending reinsert updateStatus updateValue updatePending remove heldNodes failsTableFilter insertBy sortBy setsDown clearsUp visits visited indexAt found keysFit codesInRange clockFits outputFits kindFits act queueFits step valueBytes nodeBytes recordBytes bucketBytes headerBytes itemBytes valueIn nodeIn recordIn nodesIn bucketIn settingsIn tableOf areZero nodeCodes notHeld pendingFormed bucketFormed recordFormed headerFormed formed nearest restore stepBytes cases
 cases-hold = refl
+
+pub questions-hold : every holds questionCases ≡ true
+unfolding leadingZeros same joined tabulate allBelow number bytes part splice log2Distance bucketIndex testBit sameNet sameValue counts ipFilterFails firstConnectedPos isFull failsBucketFilter isMaxIncoming insert applyDue applyPending reinsert updateStatus updateValue updatePending remove heldNodes failsTableFilter insertBy sortBy setsDown clearsUp visits visited indexAt found keysFit codesInRange clockFits outputFits kindFits act queueFits step valueBytes nodeBytes recordBytes bucketBytes headerBytes itemBytes valueIn nodeIn recordIn nodesIn bucketIn settingsIn tableOf areZero nodeCodes notHeld pendingFormed bucketFormed recordFormed headerFormed formed nearest restore stepBytes questionCases
+questions-hold = refl

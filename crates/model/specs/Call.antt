@@ -32,17 +32,21 @@ pub data Listing : Type 0 where
   closestValues : (target : List ℕ) → Listing
   closestValuesPredicate : (target : List ℕ) (predicate : PredicateArgument) → Listing
 
+-- a call on one key, but for the key
+pub data KeyCall : Type 0 where
+  updateNodeStatus : (state direction now : ℕ) → KeyCall
+  updateNode : (value : ValueArgument) (state now : ℕ) → KeyCall
+  insertOrUpdate : (value : ValueArgument) (state direction now : ℕ) → KeyCall
+  remove : (now : ℕ) → KeyCall
+  entry : (now : ℕ) → KeyCall
+  presentUpdate : (state direction : ℕ) → KeyCall
+  pendingUpdate : (state direction : ℕ) → KeyCall
+  absentInsert : (value : ValueArgument) (state direction now : ℕ) → KeyCall
+
 -- `list` is any of the five listings; n is its count
 pub data Call : Type 0 where
   new : (localKey : List ℕ) (pendingTimeout maxIncoming tableFilter bucketFilter : ℕ) → Call
-  updateNodeStatus : (key : List ℕ) (state direction now : ℕ) → Call
-  updateNode : (key : List ℕ) (value : ValueArgument) (state now : ℕ) → Call
-  insertOrUpdate : (key : List ℕ) (value : ValueArgument) (state direction now : ℕ) → Call
-  remove : (key : List ℕ) (now : ℕ) → Call
-  entry : (key : List ℕ) (now : ℕ) → Call
-  presentUpdate : (key : List ℕ) (state direction : ℕ) → Call
-  pendingUpdate : (key : List ℕ) (state direction : ℕ) → Call
-  absentInsert : (key : List ℕ) (value : ValueArgument) (state direction now : ℕ) → Call
+  onKey : (key : List ℕ) (call : KeyCall) → Call
   list : (listing : Listing) (n now : ℕ) (output : List ℕ) → Call
   takeAppliedPending : Call
 

@@ -14,7 +14,7 @@ use Rattle.model.specs.Node.{Node, PendingNode, AppliedPending}
 use Rattle.model.specs.Bucket.{Bucket, maxNodesPerBucket, emptyBucket, nodes, numEntries, holds, incomingNodes}
 use Rattle.model.specs.Table.{Settings, Table, numBuckets, maxRecords}
 use Rattle.model.specs.Sizes.{keySize, timeSize, slotSize}
-use Rattle.model.specs.Call.{ValueArgument, Listing, Call}
+use Rattle.model.specs.Call.{ValueArgument, Listing, Call, KeyCall}
 
 -- every element has a property
 abbrev pub All : {A : Type 0} → (A → Type 0) → List A → Type 0
@@ -112,15 +112,18 @@ FitsListing (Listing.closestKeys x) = Bytes x
 FitsListing (Listing.closestValues x) = Bytes x
 FitsListing (Listing.closestValuesPredicate x p) = Bytes x
 
+abbrev pub FitsKeyCall : KeyCall → Type 0
+FitsKeyCall (KeyCall.updateNodeStatus st dr now) = Unit {0}
+FitsKeyCall (KeyCall.updateNode v st now) = FitsArgument v
+FitsKeyCall (KeyCall.insertOrUpdate v st dr now) = FitsArgument v
+FitsKeyCall (KeyCall.remove now) = Unit {0}
+FitsKeyCall (KeyCall.entry now) = Unit {0}
+FitsKeyCall (KeyCall.presentUpdate st dr) = Unit {0}
+FitsKeyCall (KeyCall.pendingUpdate st dr) = Unit {0}
+FitsKeyCall (KeyCall.absentInsert v st dr now) = FitsArgument v
+
 abbrev pub FitsCall : Call → Type 0
 FitsCall (Call.new k timeout m tf bf) = Bytes k × (timeout < 256 ^ timeSize)
-FitsCall (Call.updateNodeStatus k st dr now) = Bytes k
-FitsCall (Call.updateNode k v st now) = Bytes k × FitsArgument v
-FitsCall (Call.insertOrUpdate k v st dr now) = Bytes k × FitsArgument v
-FitsCall (Call.remove k now) = Bytes k
-FitsCall (Call.entry k now) = Bytes k
-FitsCall (Call.presentUpdate k st dr) = Bytes k
-FitsCall (Call.pendingUpdate k st dr) = Bytes k
-FitsCall (Call.absentInsert k v st dr now) = Bytes k × FitsArgument v
+FitsCall (Call.onKey k c) = Bytes k × FitsKeyCall c
 FitsCall (Call.list l n now out) = FitsListing l
 FitsCall Call.takeAppliedPending = Unit {0}

@@ -77,7 +77,9 @@ abbrev pub isAt : Option ℕ → ℕ → Bool
 isAt none i = false
 isAt (some j) i = same j i
 
+-- bucket i of the storage
+abbrev pub bucketFormedAt : List ℕ → ℕ → Bool
+bucketFormedAt s i = bucketFormed (λ k. isAt (bucketIndex (keyIn s) k) i) (getD s maxIncomingAt 0) (bucketPart s i)
+
 unfoldable pub formed : List ℕ → Bool
-formed s =
-    headerFormed s
-    && allBelow numBuckets (λ i. bucketFormed (λ k. isAt (bucketIndex (keyIn s) k) i) (getD s maxIncomingAt 0) (bucketPart s i))
+formed s = headerFormed s && allBelow numBuckets (λ i. bucketFormedAt s i)

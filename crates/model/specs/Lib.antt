@@ -17,6 +17,7 @@ pub mod Question
 pub mod Step
 pub mod Layout
 pub mod Formed
+pub mod Nearest
 pub mod StepBytes
 pub mod Fits
 pub mod Numbers

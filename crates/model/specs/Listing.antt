@@ -71,20 +71,20 @@ appliedPass now n seen (i ∷ is) t =
     i ∷ cond (yielded && leb n seen′) [] (appliedPass now n seen′ is (write t i (a .0) (a .1)))
 
 -- the order of the buckets
-abbrev pub order : Listing → Table → List ℕ
-order Listing.iter t = tabulate numBuckets (λ i. i)
-order (Listing.nodesByDistances ds) t = bucketsAt ds
-order (Listing.closestKeys x) t = visits (distance (t .settings .localKey) (number x))
-order (Listing.closestValues x) t = visits (distance (t .settings .localKey) (number x))
-order (Listing.closestValuesPredicate x p) t = visits (distance (t .settings .localKey) (number x))
+abbrev pub visitOrder : Listing → Table → List ℕ
+visitOrder Listing.iter t = tabulate numBuckets (λ i. i)
+visitOrder (Listing.nodesByDistances ds) t = bucketsAt ds
+visitOrder (Listing.closestKeys x) t = visits (distance (t .settings .localKey) (number x))
+visitOrder (Listing.closestValues x) t = visits (distance (t .settings .localKey) (number x))
+visitOrder (Listing.closestValuesPredicate x p) t = visits (distance (t .settings .localKey) (number x))
 
 -- the buckets whose due pending is applied, in turn
 abbrev pub applies : Listing → ℕ → ℕ → Table → List ℕ
-applies Listing.iter n now t = visited (λ i. numEntries (applied now t i)) n (order Listing.iter t)
+applies Listing.iter n now t = visited (λ i. numEntries (applied now t i)) n (visitOrder Listing.iter t)
 applies (Listing.nodesByDistances ds) n now t = appliedPass now n 0 (bucketsAt ds) t
-applies (Listing.closestKeys x) n now t = visited (λ i. numEntries (applied now t i)) n (order (Listing.closestKeys x) t)
-applies (Listing.closestValues x) n now t = visited (λ i. numEntries (applied now t i)) n (order (Listing.closestValues x) t)
-applies (Listing.closestValuesPredicate x p) n now t = visited (λ i. numEntries (applied now t i)) n (order (Listing.closestValuesPredicate x p) t)
+applies (Listing.closestKeys x) n now t = visited (λ i. numEntries (applied now t i)) n (visitOrder (Listing.closestKeys x) t)
+applies (Listing.closestValues x) n now t = visited (λ i. numEntries (applied now t i)) n (visitOrder (Listing.closestValues x) t)
+applies (Listing.closestValuesPredicate x p) n now t = visited (λ i. numEntries (applied now t i)) n (visitOrder (Listing.closestValuesPredicate x p) t)
 
 -- how far a node is from x
 abbrev pub distanceTo : ℕ → Node → ℕ
@@ -117,4 +117,4 @@ most (Listing.closestValuesPredicate x p) n = n
 -- the nodes listed: the buckets in their order, cut at n; buckets past those applied add nothing, since these already give n.
 -- Proved of all but nodes_by_distances: crates/laws, Listing, iter-reads and the three behind it.
 unfoldable pub found : Listing → ℕ → ℕ → Table → List Node
-found l n now t = take (most l n) (joined (shown l n now t) (order l t))
+found l n now t = take (most l n) (joined (shown l n now t) (visitOrder l t))

@@ -11,7 +11,7 @@ use Rattle.model.specs.Bytes.{number}
 use Rattle.model.specs.Bucket.{maxNodesPerBucket}
 use Rattle.model.specs.Table.{Table, EntryKind, kindIn, indexIn}
 use Rattle.model.specs.Sizes.{keySize, valueSize, nodeSize}
-use Rattle.model.specs.Call.{ValueArgument, Listing, Call}
+use Rattle.model.specs.Call.{ValueArgument, Listing, Call, KeyCall}
 use Rattle.model.specs.Listing.{most}
 
 -- the number of the first question that fails
@@ -97,18 +97,28 @@ abbrev pub onOneKey : List ℕ → Bool → Option ℕ → (EntryKind → Bool) 
 onOneKey k codes now kind =
     record { table = true; keys = k ∷ []; codes = codes; now = now; room = true; kind = λ t. kind (kindOfKey k t); output = [] }
 
--- 01, question 4: state and direction 0 or 1, 2 for "not given" where the Rust has Option; filters 0 or 1; max_incoming 0 to 16
+-- the same in a call on one key
+pub record KeyArguments : Type 0 where
+  pub codes : Bool
+  pub now : Option ℕ
+  pub kind : EntryKind → Bool
+
+-- 01, question 4: state and direction 0 or 1, 2 for "not given" where the Rust has Option
+abbrev pub keyArguments : KeyCall → KeyArguments
+keyArguments (KeyCall.updateNodeStatus st dr now) = record { codes = leb st 1 && leb dr 2; now = some now; kind = anyKind }
+keyArguments (KeyCall.updateNode v st now) = record { codes = valueInRange v && leb st 2; now = some now; kind = anyKind }
+keyArguments (KeyCall.insertOrUpdate v st dr now) = record { codes = valueInRange v && (leb st 1 && leb dr 1); now = some now; kind = anyKind }
+keyArguments (KeyCall.remove now) = record { codes = true; now = some now; kind = anyKind }
+keyArguments (KeyCall.entry now) = record { codes = true; now = some now; kind = anyKind }
+keyArguments (KeyCall.presentUpdate st dr) = record { codes = leb st 1 && leb dr 2; now = none; kind = isPresent }
+keyArguments (KeyCall.pendingUpdate st dr) = record { codes = leb st 1 && leb dr 1; now = none; kind = isPending }
+keyArguments (KeyCall.absentInsert v st dr now) = record { codes = valueInRange v && (leb st 1 && leb dr 1); now = some now; kind = isAbsent }
+
+-- 01, question 4: filters 0 or 1; max_incoming 0 to 16
 abbrev pub arguments : Call → Arguments
 arguments (Call.new k timeout m tf bf) =
     record { table = false; keys = k ∷ []; codes = leb m maxNodesPerBucket && (leb tf 1 && leb bf 1); now = none; room = true; kind = λ t. true; output = [] }
-arguments (Call.updateNodeStatus k st dr now) = onOneKey k (leb st 1 && leb dr 2) (some now) anyKind
-arguments (Call.updateNode k v st now) = onOneKey k (valueInRange v && leb st 2) (some now) anyKind
-arguments (Call.insertOrUpdate k v st dr now) = onOneKey k (valueInRange v && (leb st 1 && leb dr 1)) (some now) anyKind
-arguments (Call.remove k now) = onOneKey k true (some now) anyKind
-arguments (Call.entry k now) = onOneKey k true (some now) anyKind
-arguments (Call.presentUpdate k st dr) = onOneKey k (leb st 1 && leb dr 2) none isPresent
-arguments (Call.pendingUpdate k st dr) = onOneKey k (leb st 1 && leb dr 1) none isPending
-arguments (Call.absentInsert k v st dr now) = onOneKey k (valueInRange v && (leb st 1 && leb dr 1)) (some now) isAbsent
+arguments (Call.onKey k c) = onOneKey k (keyArguments c .codes) (keyArguments c .now) (keyArguments c .kind)
 arguments (Call.list l n now out) =
     record {
       table = true;

@@ -1,7 +1,7 @@
 -- One call on a table: what it answers, the table that it leaves, the records that it adds, and what a listing gives.
 use Prim.Native.Nat.{ℕ}
 use mathlib.Core.Bool.{Bool, false}
-use mathlib.Core.List.{List, [], _∷_, map}
+use mathlib.Core.List.{List, [], _∷_, _++_, map}
 use mathlib.Core.Option.{Option, none, some}
 use lib.ListN.{length}
 use lib.Dec.{leb}
@@ -9,8 +9,8 @@ use Rattle.model.specs.Bytes.{number}
 use Rattle.model.specs.Node.{Node, AppliedPending}
 use Rattle.model.specs.Result.{FailureReason, UpdateResult, InsertResult}
 use Rattle.model.specs.Bucket.{Bucket, insert, updateStatus, updatePending, remove}
-use Rattle.model.specs.Table.{Settings, Table, EntryKind, Answer, Effect, maxRecords, emptyTable, afterApplying, asStored, failsTableFilter, updateNodeIn, insertOrUpdateIn, kindOf, write, indexIn}
-use Rattle.model.specs.Call.{ValueArgument, Call, isOne, optional, valueOf}
+use Rattle.model.specs.Table.{Settings, Table, EntryKind, Answer, Effect, maxRecords, emptyTable, afterApplying, asStored, failsTableFilter, updateNodeIn, insertOrUpdateIn, kindOf, withQueue, write, indexIn}
+use Rattle.model.specs.Call.{ValueArgument, Call, KeyCall, isOne, optional, valueOf}
 use Rattle.model.specs.Listing.{Item, item, applyAll, applies, found}
 use Rattle.model.specs.Question.{firstFailed, keysFit, codesInRange, clockFits, outputFits, kindFits}
 
@@ -25,8 +25,7 @@ pub record Outcome : Type 0 where
 abbrev pub unchanged : Answer → Table → Outcome
 unchanged a t = record { answer = a; table = t; records = []; items = [] }
 
--- A call on one key. 01, kbucket.rs, the local key: NotModified for updates, InvalidSelfUpdate for an insert, false for remove, SelfEntry
--- for entry (`self`); an entry action on it has failed question 7.
+-- A call on one key, with what it answers for the local key (`self`) and what it does to the key's bucket.
 abbrev pub onKey : Table → Answer → (ℕ → Bucket → Effect) → Option ℕ → Outcome
 onKey t self f none = unchanged self t
 onKey t self f (some i) =
@@ -36,6 +35,39 @@ onKey t self f (some i) =
 abbrev pub nodeOf : List ℕ → ValueArgument → ℕ → ℕ → Node
 nodeOf k v state direction = record { key = number k; value = valueOf v; connected = isOne state; incoming = isOne direction }
 
+-- 01, kbucket.rs, the local key: NotModified for updates, InvalidSelfUpdate for an insert, false for remove, SelfEntry for entry; an entry
+-- action on it has failed question 7.
+abbrev pub ownAnswer : KeyCall → Answer
+ownAnswer (KeyCall.updateNodeStatus st dr now) = Answer.Update UpdateResult.NotModified
+ownAnswer (KeyCall.updateNode v st now) = Answer.Update UpdateResult.NotModified
+ownAnswer (KeyCall.insertOrUpdate v st dr now) = Answer.InsertOrUpdate (InsertResult.Failed FailureReason.InvalidSelfUpdate)
+ownAnswer (KeyCall.remove now) = Answer.Remove false
+ownAnswer (KeyCall.entry now) = Answer.Entry EntryKind.SelfEntry
+ownAnswer (KeyCall.presentUpdate st dr) = Answer.Refused 7
+ownAnswer (KeyCall.pendingUpdate st dr) = Answer.Refused 7
+ownAnswer (KeyCall.absentInsert v st dr now) = Answer.Refused 7
+
+-- what a call does to its key's bucket, of index i
+abbrev pub effect : KeyCall → (key : List ℕ) → Table → ℕ → Bucket → Effect
+effect (KeyCall.updateNodeStatus st dr now) k t i =
+    let s = t .settings .bucket in
+    afterApplying s now (λ b. let r = updateStatus s (number k) (isOne st) (optional dr) b in (Answer.Update (r .0), r .1))
+effect (KeyCall.updateNode v st now) k t i =
+    let s = t .settings .bucket in
+    afterApplying s now (updateNodeIn s (failsTableFilter t i (number k) (valueOf v)) now (number k) (valueOf v) (optional st))
+effect (KeyCall.insertOrUpdate v st dr now) k t i =
+    let s = t .settings .bucket in
+    afterApplying s now (insertOrUpdateIn s (failsTableFilter t i (number k) (valueOf v)) now (nodeOf k v st dr))
+effect (KeyCall.remove now) k t i =
+    let s = t .settings .bucket in
+    afterApplying s now (λ b. let r = remove s now (number k) b in (Answer.Remove (r .0), r .1))
+effect (KeyCall.entry now) k t i = afterApplying (t .settings .bucket) now (λ b. (Answer.Entry (kindOf (number k) b), b))
+effect (KeyCall.presentUpdate st dr) k t i =
+    asStored (λ b. let r = updateStatus (t .settings .bucket) (number k) (isOne st) (optional dr) b in (Answer.Update (r .0), r .1))
+effect (KeyCall.pendingUpdate st dr) k t i = asStored (λ b. (Answer.Update UpdateResult.UpdatedPending, updatePending (isOne st) (isOne dr) b))
+effect (KeyCall.absentInsert v st dr now) k t i =
+    asStored (λ b. let r = insert (t .settings .bucket) now (nodeOf k v st dr) b in (Answer.Insert (r .0), r .1))
+
 -- the settings of a new table
 abbrev pub settingsOf : (localKey pendingTimeout maxIncoming tableFilter bucketFilter : ℕ) → Settings
 settingsOf k timeout m tf bf =
@@ -44,44 +76,12 @@ settingsOf k timeout m tf bf =
 -- 01, Queue: first in, first out
 abbrev pub takeOldest : Table → List AppliedPending → Outcome
 takeOldest t [] = unchanged (Answer.TakeAppliedPending none) t
-takeOldest t (a ∷ rest) = unchanged (Answer.TakeAppliedPending (some a)) (record { settings = t .settings; buckets = t .buckets; queue = rest })
+takeOldest t (a ∷ rest) = unchanged (Answer.TakeAppliedPending (some a)) (withQueue rest t)
 
 -- the call's work, with an endless queue
 unfoldable pub act : Call → Table → Outcome
 act (Call.new k timeout m tf bf) t = unchanged Answer.New (emptyTable (settingsOf (number k) timeout m tf bf))
-act (Call.updateNodeStatus k st dr now) t =
-    let s = t .settings .bucket in
-    onKey t (Answer.Update UpdateResult.NotModified)
-    (λ i. afterApplying s now (λ b. let r = updateStatus s (number k) (isOne st) (optional dr) b in (Answer.Update (r .0), r .1)))
-    (indexIn t (number k))
-act (Call.updateNode k v st now) t =
-    let s = t .settings .bucket in
-    onKey t (Answer.Update UpdateResult.NotModified)
-    (λ i. afterApplying s now (updateNodeIn s (failsTableFilter t i (number k) (valueOf v)) now (number k) (valueOf v) (optional st)))
-    (indexIn t (number k))
-act (Call.insertOrUpdate k v st dr now) t =
-    let s = t .settings .bucket in
-    onKey t (Answer.InsertOrUpdate (InsertResult.Failed FailureReason.InvalidSelfUpdate))
-    (λ i. afterApplying s now (insertOrUpdateIn s (failsTableFilter t i (number k) (valueOf v)) now (nodeOf k v st dr)))
-    (indexIn t (number k))
-act (Call.remove k now) t =
-    let s = t .settings .bucket in
-    onKey t (Answer.Remove false) (λ i. afterApplying s now (λ b. let r = remove s now (number k) b in (Answer.Remove (r .0), r .1)))
-    (indexIn t (number k))
-act (Call.entry k now) t =
-    onKey t (Answer.Entry EntryKind.SelfEntry) (λ i. afterApplying (t .settings .bucket) now (λ b. (Answer.Entry (kindOf (number k) b), b)))
-    (indexIn t (number k))
-act (Call.presentUpdate k st dr) t =
-    onKey t (Answer.Refused 7)
-    (λ i. asStored (λ b. let r = updateStatus (t .settings .bucket) (number k) (isOne st) (optional dr) b in (Answer.Update (r .0), r .1)))
-    (indexIn t (number k))
-act (Call.pendingUpdate k st dr) t =
-    onKey t (Answer.Refused 7) (λ i. asStored (λ b. (Answer.Update UpdateResult.UpdatedPending, updatePending (isOne st) (isOne dr) b)))
-    (indexIn t (number k))
-act (Call.absentInsert k v st dr now) t =
-    onKey t (Answer.Refused 7)
-    (λ i. asStored (λ b. let r = insert (t .settings .bucket) now (nodeOf k v st dr) b in (Answer.Insert (r .0), r .1)))
-    (indexIn t (number k))
+act (Call.onKey k c) t = onKey t (ownAnswer c) (effect c k t) (indexIn t (number k))
 act (Call.list l n now out) t =
     let r = applyAll now (applies l n now t) t in
     let ns = found l n now t in
@@ -92,10 +92,17 @@ act Call.takeAppliedPending t = takeOldest t (t .queue)
 unfoldable pub queueFits : Call → Table → Bool
 queueFits c t = leb (length (act c t .table .queue)) maxRecords
 
+-- 01, questions 3 to 6: of the call and the settings
+abbrev pub early : Call → Table → List (ℕ × Bool)
+early c t = (3, keysFit c) ∷ (4, codesInRange c) ∷ (5, clockFits c t) ∷ (6, outputFits c) ∷ []
+
+-- 01, questions 7 and 8: of the buckets and the queue
+abbrev pub late : Call → Table → List (ℕ × Bool)
+late c t = (7, kindFits c t) ∷ (8, queueFits c t) ∷ []
+
 -- 01, questions 3 to 8, in turn
 abbrev pub questions : Call → Table → List (ℕ × Bool)
-questions c t =
-    (3, keysFit c) ∷ (4, codesInRange c) ∷ (5, clockFits c t) ∷ (6, outputFits c) ∷ (7, kindFits c t) ∷ (8, queueFits c t) ∷ []
+questions c t = early c t ++ late c t
 
 -- a refusal is its number alone
 abbrev pub unlessRefused : Option ℕ → Call → Table → Outcome

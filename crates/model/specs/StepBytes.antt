@@ -45,14 +45,7 @@ bucketOfKey k t = indices (indexIn t (number k))
 -- the buckets that a call writes back, changed or not; what the table filter only reads is not among them
 abbrev pub touched : Call → Table → List ℕ
 touched (Call.new k timeout m tf bf) t = tabulate numBuckets (λ i. i)
-touched (Call.updateNodeStatus k st dr now) t = bucketOfKey k t
-touched (Call.updateNode k v st now) t = bucketOfKey k t
-touched (Call.insertOrUpdate k v st dr now) t = bucketOfKey k t
-touched (Call.remove k now) t = bucketOfKey k t
-touched (Call.entry k now) t = bucketOfKey k t
-touched (Call.presentUpdate k st dr) t = bucketOfKey k t
-touched (Call.pendingUpdate k st dr) t = bucketOfKey k t
-touched (Call.absentInsert k v st dr now) t = bucketOfKey k t
+touched (Call.onKey k c) t = bucketOfKey k t
 touched (Call.list l n now out) t = applies l n now t
 touched Call.takeAppliedPending t = []
 
@@ -62,9 +55,9 @@ restore s [] t = splice s 0 (headerBytes t)
 restore s (i ∷ is) t = splice (restore s is t) (bucketAt i) (bucketBytes (t .buckets i))
 
 -- a refusal is its number alone; all lent memory keeps its bytes
-abbrev pub unlessRefused : Option ℕ → Call → List ℕ → BytesOutcome
-unlessRefused (some n) c s = record { answer = Answer.Refused n; storage = s; output = outputOf c; records = [] }
-unlessRefused none c s =
+abbrev pub unlessRefusedBytes : Option ℕ → Call → List ℕ → BytesOutcome
+unlessRefusedBytes (some n) c s = record { answer = Answer.Refused n; storage = s; output = outputOf c; records = [] }
+unlessRefusedBytes none c s =
     let o = act c (tableOf s) in
     record {
       answer = o .answer;
@@ -74,4 +67,4 @@ unlessRefused none c s =
     }
 
 unfoldable pub stepBytes : Call → List ℕ → BytesOutcome
-stepBytes c s = unlessRefused (firstFailed (allQuestions c s)) c s
+stepBytes c s = unlessRefusedBytes (firstFailed (allQuestions c s)) c s

@@ -179,6 +179,10 @@ insertOrUpdateIn s fails now n b =
     (let r = updateStatus s (n .key) (n .connected) (some (n .incoming)) b in thenValue s (n .key) (n .value) (r .0) (r .1))
     (let r = insert s now n b in (Answer.InsertOrUpdate (inserts (r .0)), r .1)))
 
+-- the table with another queue
+abbrev pub withQueue : List AppliedPending → Table → Table
+withQueue q t = record { settings = t .settings; buckets = t .buckets; queue = q }
+
 -- the table with another bucket i and further records
 abbrev pub write : Table → ℕ → Bucket → List AppliedPending → Table
 write t i b rs = record { settings = t .settings; buckets = at i b (t .buckets); queue = t .queue ++ rs }

@@ -1,4 +1,4 @@
-// The routing table of document 01 as definitions, in specs/, and facts of them, computed in proofs/. Their laws are crate laws. Nothing here runs.
+// The routing table of document 01 as definitions, in specs/, and facts of them, computed in proofs/. Their laws are crate laws. Only the two sizes are used by code.
 
 // How many buckets a table has (kbucket.rs, NUM_BUCKETS).
 pub const NUM_BUCKETS: usize = 256;

@@ -12,7 +12,7 @@ use Rattle.model.specs.Base.{first}
 use Rattle.model.specs.Bytes.{Bytes, splice, number}
 use Rattle.model.specs.Node.{AppliedPending}
 use Rattle.model.specs.Bucket.{maxNodesPerBucket}
-use Rattle.model.specs.Table.{Table, Answer, emptyTable, maxRecords}
+use Rattle.model.specs.Table.{Table, Answer, emptyTable, maxRecords, withQueue}
 use Rattle.model.specs.Sizes.{keySize, storageSize}
 use Rattle.model.specs.Call.{Call}
 use Rattle.model.specs.Question.{firstFailed, keysFit, codesInRange, clockFits, outputFits, kindFits}
@@ -23,10 +23,10 @@ use Rattle.model.specs.Fits.{FitsCall}
 use Rattle.laws.proofs.TableBytes.{fits-back}
 use Rattle.laws.proofs.KeepStep.{new-settings-fit, new-endless, with-queue}
 use Rattle.laws.proofs.Restore.{restore-all}
-use Rattle.queue.specs.Queue.{withQueue}
-use Rattle.asked.specs.Answers.{Answers, firstTwo, failedOfTwo}
-use Rattle.asked.proofs.Questions.{front-fails, front-passes, passed-two}
-use Rattle.asked.proofs.OneKey.{refused-bytes, accepted-bytes}
+use Rattle.on_key.specs.Answers.{Answers, firstTwo, failedOfTwo}
+use Rattle.laws.proofs.Questions.{front-fails, front-passes}
+use Rattle.on_key.proofs.Questions.{passed-two}
+use Rattle.on_key.proofs.OneKey.{refused-bytes, acted-bytes}
 
 -- take_applied_pending
 
@@ -57,7 +57,7 @@ module _ (s : List ℕ) where
   take-accepted b e rs r s′ w =
       let p = passed-two s e in
       let q : leb (length (takeOldest t (t .queue) .table .queue)) maxRecords ≡ true = le-leb _ _ (rest-fits t (t .queue) refl (fits-back s b (p .size) (p .formed) .queue)) in
-      accepted-bytes Call.takeAppliedPending s _ s′ (front-passes (firstTwo s) ((8, queueFits Call.takeAppliedPending t) ∷ []) e ∙ (rw q))
+      acted-bytes Call.takeAppliedPending s _ s′ (front-passes (firstTwo s) ((8, queueFits Call.takeAppliedPending t) ∷ []) e ∙ (rw q))
       (ap (λ (l : List AppliedPending). Answer.TakeAppliedPending (first l)) r ∙ oldest-answer t (t .queue)) (w ∙ ap (splice s 0) (rest-header t (t .queue) refl))
 
 -- new
@@ -89,4 +89,4 @@ module _ (s k : List ℕ) (timeout m tf bf : ℕ) where
       new-made g l h s′ w =
           let fit = new-settings-fit k timeout m tf bf h (rw f) g in
           let all = with-queue (emptyTable (settingsOf (number k) timeout m tf bf)) (new-endless (settingsOf (number k) timeout m tf bf) fit) (omega arith) in
-          accepted-bytes made s Answer.New s′ (asked-new ∙ (rw (e, f, g))) refl (w ∙ sym (restore-all s l (emptyTable (settingsOf (number k) timeout m tf bf)) all))
+          acted-bytes made s Answer.New s′ (asked-new ∙ (rw (e, f, g))) refl (w ∙ sym (restore-all s l (emptyTable (settingsOf (number k) timeout m tf bf)) all))

@@ -1,16 +1,16 @@
 // The calls of the table on lent storage (kbucket.rs): each asks its questions, then does what the model's call does.
 ghost use mathlib.Core.Path.{_≡_};
 ghost use mathlib.Core.Bool.{true};
-ghost use Rattle.model.specs.Call.{Call};
+ghost use Rattle.model.specs.Call.{Call, KeyCall};
 ghost use Rattle.model.specs.StepBytes.{stepBytes};
-ghost use Rattle.asked.specs.Answers.{Answers, updateAnswer};
+ghost use Rattle.on_key.specs.Answers.{Answers, updateAnswer};
 ghost use Rattle.table.specs.Calls.{removeAnswer, takeAnswer, takeCodes, newAnswer};
 use bucket::AppliedPending;
 use bucket::NewAnswer;
 use bucket::RemoveAnswer;
 use bucket::UpdateAnswer;
 use bucket::UpdateResult;
-use key::BucketIndex;
+use on_key::Start;
 use storage::Layout;
 
 // The oldest record of an applied pending, Nothing where the queue is empty.
@@ -21,27 +21,22 @@ pub enum TakeAnswer {
 
 // Takes the node of the key out.
 pub fn remove(s: &mut [u8], key: &[u8], time: u64) -> RemoveAnswer
-    ensures { λ r. ⌜ Answers (removeAnswer r) (now (s .exit)) (stepBytes (Call.remove (now (key .entry)) time) (now (s .entry))) ⌝ }
+    ensures { λ r. ⌜ Answers (removeAnswer r) (now (s .exit)) (stepBytes (Call.onKey (now (key .entry)) (KeyCall.remove time)) (now (s .entry))) ⌝ }
 {
-    let q = asked::asked_at(s, key, true, time);
-    if q != 0 {
-        return RemoveAnswer::Refused(q);
-    }
-    let k = asked::key_of(key);
-    let index = asked::index_of(s, k);
-    match index {
-        BucketIndex::Nothing => RemoveAnswer::Answered(false),
-        BucketIndex::At(i) => {
-            let a = asked::apply_at(s, i, time);
+    let start = on_key::begin_at(s, key, true, time);
+    match start {
+        Start::Refused(q) => RemoveAnswer::Refused(q),
+        Start::Local => RemoveAnswer::Answered(false),
+        Start::At(k, i) => {
+            let a = on_key::apply_at(s, i, time);
             let applied = a.applied;
-            if !asked::has_room(s, applied) {
-                return RemoveAnswer::Refused(8);
-            }
             let b = a.bucket;
             let r = b.remove_sound(k, time);
             let left = r.bucket;
             let found = r.found;
-            asked::write_back(s, i, applied, left);
+            if !on_key::finish(s, i, applied, left) {
+                return RemoveAnswer::Refused(8);
+            }
             RemoveAnswer::Answered(found)
         }
     }
@@ -55,31 +50,26 @@ pub fn update_node_status(
     direction: u8,
     time: u64,
 ) -> UpdateAnswer
-    ensures { λ r. ⌜ Answers (updateAnswer r) (now (s .exit)) (stepBytes (Call.updateNodeStatus (now (key .entry)) state direction time) (now (s .entry))) ⌝ }
+    ensures { λ r. ⌜ Answers (updateAnswer r) (now (s .exit)) (stepBytes (Call.onKey (now (key .entry)) (KeyCall.updateNodeStatus state direction time)) (now (s .entry))) ⌝ }
 {
     let codes = (state <= 1) & (direction <= 2);
-    let q = asked::asked_at(s, key, codes, time);
-    if q != 0 {
-        return UpdateAnswer::Refused(q);
-    }
-    let k = asked::key_of(key);
-    let index = asked::index_of(s, k);
-    match index {
-        BucketIndex::Nothing => {
+    let start = on_key::begin_at(s, key, codes, time);
+    match start {
+        Start::Refused(q) => UpdateAnswer::Refused(q),
+        Start::Local => {
             let same = UpdateResult::NotModified;
             UpdateAnswer::Answered(same)
         }
-        BucketIndex::At(i) => {
-            let a = asked::apply_at(s, i, time);
+        Start::At(k, i) => {
+            let a = on_key::apply_at(s, i, time);
             let applied = a.applied;
-            if !asked::has_room(s, applied) {
-                return UpdateAnswer::Refused(8);
-            }
             let b = a.bucket;
             let r = b.update_status_sound(k, state, direction);
             let left = r.bucket;
             let result = r.result;
-            asked::write_back(s, i, applied, left);
+            if !on_key::finish(s, i, applied, left) {
+                return UpdateAnswer::Refused(8);
+            }
             UpdateAnswer::Answered(result)
         }
     }
@@ -90,11 +80,11 @@ pub fn take_applied_pending(s: &mut [u8]) -> TakeAnswer
     ensures { λ r. ⌜ Answers (takeAnswer r) (now (s .exit)) (stepBytes Call.takeAppliedPending (now (s .entry))) ⌝ }
     ensures { λ r. ⌜ takeCodes r ≡ true ⌝ }
 {
-    let q = asked::asked_storage(s);
+    let q = on_key::asked_storage(s);
     if q != 0 {
         return TakeAnswer::Refused(q);
     }
-    let oldest = queue::take_record(s);
+    let oldest = header::take_record(s);
     TakeAnswer::Answered(oldest)
 }
 
@@ -118,8 +108,8 @@ pub fn new(
     if !((max_incoming <= 16) & ((table_filter <= 1) & (bucket_filter <= 1))) {
         return NewAnswer::Refused(4);
     }
-    let k = asked::key_of(local_key);
-    queue::clear(
+    let k = on_key::key_of(local_key);
+    header::clear(
         s,
         k,
         pending_timeout,

@@ -33,7 +33,7 @@ use Rattle.node.specs.declared.Value as declared
 use Rattle.node.specs.Node.{valueOf}
 use Rattle.storage.specs.Read.{readValue}
 use Rattle.storage.proofs.Nodes.{valueOf-read}
-use Rattle.formed.specs.Tests.{nodeAt}
+use Rattle.well_formed.specs.Tests.{nodeAt}
 use Rattle.table_filter.specs.Counted.{countedBelow}
 
 -- how many count against a value

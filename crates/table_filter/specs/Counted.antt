@@ -5,7 +5,7 @@ use lib.ListN.{length}
 use Rattle.model.specs.Base.{tabulate}
 use Rattle.model.specs.Value.{Value}
 use Rattle.model.specs.Filter.{counted}
-use Rattle.formed.specs.Tests.{nodeAt}
+use Rattle.well_formed.specs.Tests.{nodeAt}
 
 -- how many of the nodes of the places below k count against v
 unfoldable pub countedBelow : Value → List ℕ → ℕ → ℕ

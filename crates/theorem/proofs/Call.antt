@@ -5,23 +5,24 @@ use mathlib.Core.Bool.{Bool, true, false, cond}
 use mathlib.Core.List.{List, [], _∷_, _++_}
 use mathlib.Core.Option.{Option, none, some}
 use native.Mathlib.Omega.{arith}
-use Rattle.model.specs.Base.{same, isSome}
+use Rattle.model.specs.Base.{same}
 use Rattle.model.specs.Bytes.{number}
 use Rattle.model.specs.Value.{Value}
 use Rattle.model.specs.Node.{Node, AppliedPending}
-use Rattle.model.specs.Result.{FailureReason, UpdateResult, InsertResult, isFailed}
-use Rattle.model.specs.Bucket.{Bucket, BucketSettings, emptyBucket, holds, insert, applyPending, updateStatus, updateValue, updatePending, remove}
-use Rattle.model.specs.Table.{Table, EntryKind, Answer, Effect, afterApplying, asStored, failsTableFilter, thenStatus, updateNodeIn, insertOrUpdateIn, kindOf, kindIn, write, indexIn}
-use Rattle.model.specs.Call.{Call, isOne, optional, valueOf}
+use Rattle.model.specs.Result.{UpdateResult, InsertResult, isFailed}
+use Rattle.model.specs.Bucket.{Bucket, BucketSettings, emptyBucket, holds, applyPending, updateStatus, updateValue, remove}
+use Rattle.model.specs.Table.{Table, EntryKind, Answer, Effect, failsTableFilter, thenStatus, updateNodeIn, insertOrUpdateIn, kindOf, kindIn, write, indexIn}
+use Rattle.model.specs.Call.{Call, KeyCall, isOne, optional, valueOf}
 use Rattle.model.specs.Listing.{applyAll, applies}
-use Rattle.model.specs.Question.{firstFailed, isPresent, isPending, isAbsent, kindFits}
+use Rattle.model.specs.Question.{firstFailed, keyArguments, kindFits}
 use Rattle.model.specs.Step
-use Rattle.model.specs.Step.{Outcome, onKey, takeOldest, act, questions, unlessRefused, step}
-use Rattle.laws.proofs.Tests.{same-true, clash, cases, split}
-use Rattle.log.specs.Log.{Log, nodeOf, group, isRefused, role}
-use Rattle.theorem.proofs.Fold.{fresh, place, evict, enterRecords, give, enterRole, enter}
+use Rattle.model.specs.Step.{Outcome, onKey, ownAnswer, effect, takeOldest, act, questions, unlessRefused, step}
+use Rattle.laws.proofs.Tests.{same-true, clash, cases}
+use Rattle.laws.proofs.Questions.{accepted}
+use Rattle.log.specs.Log.{Log, Naming, naming, nodeOf, group, isRefused, role}
+use Rattle.theorem.proofs.Fold.{fresh, place, evict, enterRecords, gaveBy, enterRole, enter}
 use Rattle.theorem.proofs.Keys.{Distinct, distinct-without, distinct-placed}
-use Rattle.theorem.proofs.Agree.{Agree}
+use Rattle.theorem.proofs.Agree.{Agree, Gives}
 use Rattle.theorem.proofs.Frame.{Frame-trans, agree-frame, agree-skip}
 use Rattle.theorem.proofs.Ops.{gives, Settled, Goes, apply-ok, apply-settled}
 use Rattle.theorem.proofs.Steps.{own, own-frame, own-only, own-distinct, own-settings, status-call, remove-call, updateNode-call, insertOrUpdate-call, pending-call, absent-call}
@@ -63,10 +64,10 @@ write-ok l l′ t i b rs s g d e = record {
       (λ q. agree-frame (indexIn t) i j l l′ (t .buckets j) q (g .frame) (s .each j));
 }
 
--- a call that names k
-module _ (k : ℕ) (step : Bool) (u d : Option Bool) (v : Option Value) where
+-- a call that names k, with what it has
+module _ (k : ℕ) (n : Naming) where
   abbrev Own : Answer → Log → Log
-  Own a l = own k step a l (give k u d v l)
+  Own a l = own k (n .statusStep) a l (gaveBy k n l)
 
   abbrev EffectOk : Table → Log → ℕ → Effect → Type 0
   EffectOk t l i e = (isRefused (e .answer) ≡ false) × Goes (indexIn t) i l (Own (e .answer) (enterRecords (e .records) l)) (e .bucket)
@@ -74,12 +75,15 @@ module _ (k : ℕ) (step : Bool) (u d : Option Bool) (v : Option Value) where
   abbrev KeyOk : Log → Outcome → Type 0
   KeyOk l r = (isRefused (r .answer) ≡ false) × AllAgree (Own (r .answer) (enterRecords (r .records) l)) (r .table)
 
+  gives-by : (l : Log) → Gives k l (gaveBy k n l)
+  gives-by = gives k (n .connected) (n .incoming) (n .value)
+
   -- on the local key nothing changes
   self-ok : (l : Log) (t : Table) (a : Answer) → AllAgree l t → indexIn t k ≡ none → AllAgree (Own a l) t
   self-ok l t a s e = record {
-    settings-agree = own-settings k step a l (give k u d v l) refl ∙ s .settings-agree;
-    distinct = own-distinct k step a l (give k u d v l) (gives k u d v l) (s .distinct);
-    each = λ j. agree-skip (indexIn t) j k l (Own a l) (t .buckets j) (rw e) (own-only k step a l (give k u d v l) (gives k u d v l)) (s .each j);
+    settings-agree = own-settings k (n .statusStep) a l (gaveBy k n l) refl ∙ s .settings-agree;
+    distinct = own-distinct k (n .statusStep) a l (gaveBy k n l) (gives-by l) (s .distinct);
+    each = λ j. agree-skip (indexIn t) j k l (Own a l) (t .buckets j) (rw e) (own-only k (n .statusStep) a l (gaveBy k n l) (gives-by l)) (s .each j);
   }
 
   onKey-ok : (l : Log) (t : Table) (self : Answer) (f : ℕ → Bucket → Effect) → AllAgree l t → (indexIn t k ≡ none → isRefused self ≡ false)
@@ -91,51 +95,30 @@ module _ (k : ℕ) (step : Bool) (u d : Option Bool) (v : Option Value) where
       let m : Log = enterRecords (e .records) l in (
         g i h .0,
         write-ok l (Own (e .answer) m) t i (e .bucket) (e .records) s (g i h .1)
-            (own-distinct k step (e .answer) m (give k u d v m) (gives k u d v m) (records-distinct (e .records) l (s .distinct)))
-            (own-settings k step (e .answer) m (give k u d v m) refl ∙ records-settings (e .records) l),
+            (own-distinct k (n .statusStep) (e .answer) m (gaveBy k n m) (gives-by m) (records-distinct (e .records) l (s .distinct)))
+            (own-settings k (n .statusStep) (e .answer) m (gaveBy k n m) refl ∙ records-settings (e .records) l),
       )
 
-  -- a due pending is applied first
-  afterApplying-ok : (l : Log) (t : Table) (now i : ℕ) (f : Bucket → Answer × Bucket) → AllAgree l t → indexIn t k ≡ some i
-      → ((b : Bucket) → isRefused (f b .0) ≡ false)
-      → ((m : Log) (b : Bucket) → Agree (indexIn t) m i b → Settled now (b .pending) → Agree (indexIn t) (Own (f b .0) m) i (f b .1))
-      → EffectOk t l i (afterApplying (t .settings .bucket) now f (t .buckets i))
-  afterApplying-ok l t now i f s h q g =
-      let a = applyPending (t .settings .bucket) now (t .buckets i) in
-      let m : Log = enterRecords (a .1) l in
-      let z : Goes (indexIn t) i l m (a .0) = apply-ok (indexIn t) (t .settings .bucket) now l i (t .buckets i) (s .each i) (s .distinct) in (
-        q (a .0),
+  -- a due pending is applied first; then the call answers a and leaves b
+  applying-ok : (l : Log) (t : Table) (now i : ℕ) (a : Answer) (b : Bucket) → AllAgree l t → indexIn t k ≡ some i → isRefused a ≡ false
+      → ((m : Log) → Agree (indexIn t) m i (applyPending (t .settings .bucket) now (t .buckets i) .0)
+      → Settled now (applyPending (t .settings .bucket) now (t .buckets i) .0 .pending) → Agree (indexIn t) (Own a m) i b)
+      → EffectOk t l i (record { answer = a; bucket = b; records = applyPending (t .settings .bucket) now (t .buckets i) .1 })
+  applying-ok l t now i a b s h q g =
+      let p = applyPending (t .settings .bucket) now (t .buckets i) in
+      let m : Log = enterRecords (p .1) l in
+      let z : Goes (indexIn t) i l m (p .0) = apply-ok (indexIn t) (t .settings .bucket) now l i (t .buckets i) (s .each i) (s .distinct) in (
+        q,
         record {
-          agree = g m (a .0) (z .agree) (apply-settled (t .settings .bucket) now (t .buckets i));
-          frame = Frame-trans (indexIn t) i l m (Own (f (a .0) .0) m) (z .frame) (own-frame (indexIn t) i k step (f (a .0) .0) m (give k u d v m) h (gives k u d v m));
+          agree = g m (z .agree) (apply-settled (t .settings .bucket) now (t .buckets i));
+          frame = Frame-trans (indexIn t) i l m (Own a m) (z .frame) (own-frame (indexIn t) i k (n .statusStep) a m (gaveBy k n m) h (gives-by m));
         },
       )
 
-  applying-ok : (l : Log) (t : Table) (now : ℕ) (self : Answer) (f : ℕ → Bucket → Answer × Bucket) → AllAgree l t → isRefused self ≡ false
-      → ((i : ℕ) (b : Bucket) → isRefused (f i b .0) ≡ false)
-      → ((m : Log) (i : ℕ) (b : Bucket) → Agree (indexIn t) m i b → indexIn t k ≡ some i → Settled now (b .pending) → Agree (indexIn t) (Own (f i b .0) m) i (f i b .1))
-      → KeyOk l (onKey t self (λ i. afterApplying (t .settings .bucket) now (f i)) (indexIn t k))
-  applying-ok l t now self f s q r g =
-      onKey-ok l t self (λ i. afterApplying (t .settings .bucket) now (f i)) s (λ _. q)
-      (λ i h. afterApplying-ok l t now i (f i) s h (r i) (λ m b a w. g m i b a h w)) (indexIn t k) refl
-
   -- an entry action applies no pending
-  asStored-ok : (l : Log) (t : Table) (i : ℕ) (f : Bucket → Answer × Bucket) → indexIn t k ≡ some i → isRefused (f (t .buckets i) .0) ≡ false
-      → Agree (indexIn t) (Own (f (t .buckets i) .0) l) i (f (t .buckets i) .1) → EffectOk t l i (asStored f (t .buckets i))
-  asStored-ok l t i f h q a =
-      (q, record { agree = a; frame = own-frame (indexIn t) i k step (f (t .buckets i) .0) l (give k u d v l) h (gives k u d v l) })
-
-  abbrev KindIs : (EntryKind → Bool) → Table → Option ℕ → Type 0
-  KindIs right t o = right (kindIn t k o) ≡ true
-
-  -- it is accepted on a key of the kind that it needs
-  action-ok : (l : Log) (t : Table) (self : Answer) (f : ℕ → Bucket → Answer × Bucket) (right : EntryKind → Bool) → AllAgree l t → right EntryKind.SelfEntry ≡ false
-      → KindIs right t (indexIn t k) → ((i : ℕ) → isRefused (f i (t .buckets i) .0) ≡ false)
-      → ((i : ℕ) → indexIn t k ≡ some i → right (kindOf k (t .buckets i)) ≡ true → Agree (indexIn t) (Own (f i (t .buckets i) .0) l) i (f i (t .buckets i) .1))
-      → KeyOk l (onKey t self (λ i. asStored (f i)) (indexIn t k))
-  action-ok l t self f right s q w r g =
-      onKey-ok l t self (λ i. asStored (f i)) s (λ h. clash w (ap (λ (o : Option ℕ). right (kindIn t k o)) h ∙ q))
-      (λ i h. asStored-ok l t i (f i) h (r i) (g i h (ap (λ (o : Option ℕ). right (kindIn t k o)) (sym h) ∙ w))) (indexIn t k) refl
+  stored-ok : (l : Log) (t : Table) (i : ℕ) (a : Answer) (b : Bucket) → indexIn t k ≡ some i → isRefused a ≡ false → Agree (indexIn t) (Own a l) i b
+      → EffectOk t l i (record { answer = a; bucket = b; records = [] })
+  stored-ok l t i a b h q z = (q, record { agree = z; frame = own-frame (indexIn t) i k (n .statusStep) a l (gaveBy k n l) h (gives-by l) })
 
 -- a listing: a due pending is applied in each of the buckets named
 applyAll-ok : (now : ℕ) (is : List ℕ) (l : Log) (t : Table) → AllAgree l t → AllAgree (enterRecords (applyAll now is t .1) l) (applyAll now is t .0)
@@ -173,6 +156,9 @@ empty-ok t j = record { disc = refl; conn = refl; pend = tt; room = omega arith 
 abbrev pub StepAgrees : Call → Log → Outcome → Type 0
 StepAgrees c l r = AllAgree (enter c (r .answer) (r .records) l) (r .table)
 
+abbrev Entered : Call → Log → Outcome → Type 0
+Entered c l r = (isRefused (r .answer) ≡ false) × AllAgree (enterRole (role c) (r .answer) (enterRecords (r .records) l)) (r .table)
+
 entered : (c : Call) (l : Log) (r : Outcome) → isRefused (r .answer) ≡ false → AllAgree (enterRole (role c) (r .answer) (enterRecords (r .records) l)) (r .table) → StepAgrees c l r
 unfolding enter
 entered c l r e s = subst⁻¹ (λ (x : Bool). AllAgree (cond x l (enterRole (role c) (r .answer) (enterRecords (r .records) l))) (r .table)) e s
@@ -190,82 +176,74 @@ new-acts k timeout m tf bf l t =
 abbrev NotRefused : Answer → Type 0
 NotRefused a = isRefused a ≡ false
 
+-- what a call on one key does to the key's bucket; an entry action's key is of the kind that it needs
+effect-ok : (c : KeyCall) (k : List ℕ) (l : Log) (t : Table) (i : ℕ) → AllAgree l t → indexIn t (number k) ≡ some i
+    → keyArguments c .kind (kindOf (number k) (t .buckets i)) ≡ true → EffectOk (number k) (naming c) t l i (effect c k t i (t .buckets i))
+effect-ok (KeyCall.updateNodeStatus st dr now) k l t i z h f =
+    let e = effect (KeyCall.updateNodeStatus st dr now) k t i (t .buckets i) in
+    applying-ok (number k) (naming (KeyCall.updateNodeStatus st dr now)) l t now i (e .answer) (e .bucket) z h refl
+    (λ m a q. status-call (indexIn t) (t .settings .bucket) m i (number k) (isOne st) (optional dr) _ a h)
+effect-ok (KeyCall.updateNode v st now) k l t i z h f =
+    let e = effect (KeyCall.updateNode v st now) k t i (t .buckets i) in
+    let s = t .settings .bucket in
+    let b = applyPending s now (t .buckets i) .0 in
+    let fails : Bool = failsTableFilter t i (number k) (valueOf v) in
+    applying-ok (number k) (naming (KeyCall.updateNode v st now)) l t now i (e .answer) (e .bucket) z h
+    (updateNode-answers NotRefused (λ r. refl) s fails now (number k) (valueOf v) (optional st) b)
+    (λ m a q. updateNode-call (indexIn t) s now m i (number k) (valueOf v) (optional st) b fails a h q)
+effect-ok (KeyCall.insertOrUpdate v st dr now) k l t i z h f =
+    let e = effect (KeyCall.insertOrUpdate v st dr now) k t i (t .buckets i) in
+    let s = t .settings .bucket in
+    let b = applyPending s now (t .buckets i) .0 in
+    let n : Node = Step.nodeOf k v st dr in
+    let fails : Bool = failsTableFilter t i (number k) (valueOf v) in
+    applying-ok (number k) (naming (KeyCall.insertOrUpdate v st dr now)) l t now i (e .answer) (e .bucket) z h
+    (insertOrUpdate-answers NotRefused (λ r. refl) s fails now n b)
+    (λ m a q. insertOrUpdate-call (indexIn t) s now m i n b fails a h q)
+effect-ok (KeyCall.remove now) k l t i z h f =
+    let e = effect (KeyCall.remove now) k t i (t .buckets i) in
+    applying-ok (number k) (naming (KeyCall.remove now)) l t now i (e .answer) (e .bucket) z h refl
+    (λ m a q. remove-call (indexIn t) (t .settings .bucket) now m i (number k) _ a h q)
+effect-ok (KeyCall.entry now) k l t i z h f =
+    let e = effect (KeyCall.entry now) k t i (t .buckets i) in
+    applying-ok (number k) (naming (KeyCall.entry now)) l t now i (e .answer) (e .bucket) z h refl (λ m a q. a)
+effect-ok (KeyCall.presentUpdate st dr) k l t i z h f =
+    let e = effect (KeyCall.presentUpdate st dr) k t i (t .buckets i) in
+    stored-ok (number k) (naming (KeyCall.presentUpdate st dr)) l t i (e .answer) (e .bucket) h refl
+    (status-call (indexIn t) (t .settings .bucket) l i (number k) (isOne st) (optional dr) (t .buckets i) (z .each i) h)
+effect-ok (KeyCall.pendingUpdate st dr) k l t i z h f =
+    let e = effect (KeyCall.pendingUpdate st dr) k t i (t .buckets i) in
+    stored-ok (number k) (naming (KeyCall.pendingUpdate st dr)) l t i (e .answer) (e .bucket) h refl
+    (pending-call (indexIn t) l i (number k) (isOne st) (isOne dr) (t .buckets i) (z .each i) h f)
+effect-ok (KeyCall.absentInsert v st dr now) k l t i z h f =
+    let e = effect (KeyCall.absentInsert v st dr now) k t i (t .buckets i) in
+    stored-ok (number k) (naming (KeyCall.absentInsert v st dr now)) l t i (e .answer) (e .bucket) h refl
+    (absent-call (indexIn t) (t .settings .bucket) now l i (Step.nodeOf k v st dr) (t .buckets i) (z .each i) h f)
+
+own-accepted : (c : KeyCall) → keyArguments c .kind EntryKind.SelfEntry ≡ true → isRefused (ownAnswer c) ≡ false
+own-accepted (KeyCall.updateNodeStatus st dr now) h = refl
+own-accepted (KeyCall.updateNode v st now) h = refl
+own-accepted (KeyCall.insertOrUpdate v st dr now) h = refl
+own-accepted (KeyCall.remove now) h = refl
+own-accepted (KeyCall.entry now) h = refl
+own-accepted (KeyCall.presentUpdate st dr) h = clash h refl
+own-accepted (KeyCall.pendingUpdate st dr) h = clash h refl
+own-accepted (KeyCall.absentInsert v st dr now) h = clash h refl
+
+key-ok : (k : List ℕ) (c : KeyCall) (l : Log) (t : Table) → AllAgree l t → kindFits (Call.onKey k c) t ≡ true → Entered (Call.onKey k c) l (act (Call.onKey k c) t)
+unfolding act kindFits
+key-ok k c l t z f =
+    let kind : (o : Option ℕ) → indexIn t (number k) ≡ o → keyArguments c .kind (kindIn t (number k) o) ≡ true =
+    λ o h. ap (λ (x : Option ℕ). keyArguments c .kind (kindIn t (number k) x)) (sym h) ∙ f in
+    onKey-ok (number k) (naming c) l t (ownAnswer c) (effect c k t) z (λ h. own-accepted c (kind none h)) (λ i h. effect-ok c k l t i z h (kind (some i) h))
+    (indexIn t (number k)) refl
+
 pub act-ok : (c : Call) (l : Log) (t : Table) → AllAgree l t → kindFits c t ≡ true → StepAgrees c l (act c t)
 unfolding act kindFits
 act-ok (Call.new k timeout m tf bf) l t z f = new-acts k timeout m tf bf l t
-act-ok (Call.updateNodeStatus k st dr now) l t z f =
-    let s = t .settings .bucket in
-    let c : Call = Call.updateNodeStatus k st dr now in
-    let r = applying-ok (number k) true (some (isOne st)) (optional dr) none l t now (Answer.Update UpdateResult.NotModified)
-    (λ i b. (Answer.Update (updateStatus s (number k) (isOne st) (optional dr) b .0), updateStatus s (number k) (isOne st) (optional dr) b .1)) z refl (λ i b. refl)
-    (λ m i b a h q. status-call (indexIn t) s m i (number k) (isOne st) (optional dr) b a h) in
-    entered c l (act c t) (r .0) (r .1)
-act-ok (Call.updateNode k v st now) l t z f =
-    let s = t .settings .bucket in
-    let c : Call = Call.updateNode k v st now in
-    let r = applying-ok (number k) (isSome (optional st)) (optional st) none (some (valueOf v)) l t now (Answer.Update UpdateResult.NotModified)
-    (λ i. updateNodeIn s (failsTableFilter t i (number k) (valueOf v)) now (number k) (valueOf v) (optional st)) z refl
-    (λ i b. updateNode-answers NotRefused (λ r. refl) s (failsTableFilter t i (number k) (valueOf v)) now (number k) (valueOf v) (optional st) b)
-    (λ m i b a h q. updateNode-call (indexIn t) s now m i (number k) (valueOf v) (optional st) b (failsTableFilter t i (number k) (valueOf v)) a h q) in
-    entered c l (act c t) (r .0) (r .1)
-act-ok (Call.insertOrUpdate k v st dr now) l t z f =
-    let s = t .settings .bucket in
-    let n : Node = Step.nodeOf k v st dr in
-    let c : Call = Call.insertOrUpdate k v st dr now in
-    let r = applying-ok (number k) true (some (isOne st)) (some (isOne dr)) (some (valueOf v)) l t now (Answer.InsertOrUpdate (InsertResult.Failed FailureReason.InvalidSelfUpdate))
-    (λ i. insertOrUpdateIn s (failsTableFilter t i (number k) (valueOf v)) now n) z refl
-    (λ i b. insertOrUpdate-answers NotRefused (λ r. refl) s (failsTableFilter t i (number k) (valueOf v)) now n b)
-    (λ m i b a h q. insertOrUpdate-call (indexIn t) s now m i n b (failsTableFilter t i (number k) (valueOf v)) a h q) in
-    entered c l (act c t) (r .0) (r .1)
-act-ok (Call.remove k now) l t z f =
-    let s = t .settings .bucket in
-    let c : Call = Call.remove k now in
-    let r = applying-ok (number k) false none none none l t now (Answer.Remove false)
-    (λ i b. (Answer.Remove (remove s now (number k) b .0), remove s now (number k) b .1)) z refl (λ i b. refl)
-    (λ m i b a h q. remove-call (indexIn t) s now m i (number k) b a h q) in
-    entered c l (act c t) (r .0) (r .1)
-act-ok (Call.entry k now) l t z f =
-    let c : Call = Call.entry k now in
-    let r = applying-ok (number k) false none none none l t now (Answer.Entry EntryKind.SelfEntry)
-    (λ i b. (Answer.Entry (kindOf (number k) b), b)) z refl (λ i b. refl) (λ m i b a h q. a) in
-    entered c l (act c t) (r .0) (r .1)
-act-ok (Call.presentUpdate k st dr) l t z f =
-    let s = t .settings .bucket in
-    let c : Call = Call.presentUpdate k st dr in
-    let r = action-ok (number k) true (some (isOne st)) (optional dr) none l t (Answer.Refused 7)
-    (λ i b. (Answer.Update (updateStatus s (number k) (isOne st) (optional dr) b .0), updateStatus s (number k) (isOne st) (optional dr) b .1)) isPresent z refl f (λ i. refl)
-    (λ i h q. status-call (indexIn t) s l i (number k) (isOne st) (optional dr) (t .buckets i) (z .each i) h) in
-    entered c l (act c t) (r .0) (r .1)
-act-ok (Call.pendingUpdate k st dr) l t z f =
-    let c : Call = Call.pendingUpdate k st dr in
-    let r = action-ok (number k) false (some (isOne st)) (some (isOne dr)) none l t (Answer.Refused 7)
-    (λ i b. (Answer.Update UpdateResult.UpdatedPending, updatePending (isOne st) (isOne dr) b)) isPending z refl f (λ i. refl)
-    (λ i h q. pending-call (indexIn t) l i (number k) (isOne st) (isOne dr) (t .buckets i) (z .each i) h q) in
-    entered c l (act c t) (r .0) (r .1)
-act-ok (Call.absentInsert k v st dr now) l t z f =
-    let s = t .settings .bucket in
-    let n : Node = Step.nodeOf k v st dr in
-    let c : Call = Call.absentInsert k v st dr now in
-    let r = action-ok (number k) false (some (isOne st)) (some (isOne dr)) (some (valueOf v)) l t (Answer.Refused 7)
-    (λ i b. (Answer.Insert (insert s now n b .0), insert s now n b .1)) isAbsent z refl f (λ i. refl)
-    (λ i h q. absent-call (indexIn t) s now l i n (t .buckets i) (z .each i) h q) in
-    entered c l (act c t) (r .0) (r .1)
+act-ok (Call.onKey k c) l t z f = let r = key-ok k c l t z f in entered (Call.onKey k c) l (act (Call.onKey k c) t) (r .0) (r .1)
 act-ok (Call.list x n now out) l t z f = entered (Call.list x n now out) l (act (Call.list x n now out) t) refl (applyAll-ok now (applies x n now t) l t z)
 act-ok Call.takeAppliedPending l t z f = oldest-ok l t z (t .queue)
-
--- where no question fails, each test holds
-abbrev AllHold : List (ℕ × Bool) → Type 0
-AllHold [] = Unit {0}
-AllHold (q ∷ qs) = (q .1 ≡ true) × AllHold qs
-
-firstFailed-none : (qs : List (ℕ × Bool)) → firstFailed qs ≡ none → AllHold qs
-firstFailed-none [] h = tt
-firstFailed-none (q ∷ qs) h =
-    split (q .1) (λ e. (e, firstFailed-none qs (rw e at h)))
-    (λ e. let w : _≡_ {A = Option ℕ} (some (q .0)) none = rw e at h in let z : _≡_ {A = ℕ} 0 1 = cc in absurd (omega arith))
-
-accepted-kind : (c : Call) (t : Table) → firstFailed (questions c t) ≡ none → kindFits c t ≡ true
-accepted-kind c t h = firstFailed-none (questions c t) h .1 .1 .1 .1 .0
 
 unlessRefused-ok : (c : Call) (l : Log) (t : Table) → AllAgree l t → (o : Option ℕ) → (o ≡ none → kindFits c t ≡ true) → StepAgrees c l (unlessRefused o c t)
 unfolding enter
@@ -274,7 +252,7 @@ unlessRefused-ok c l t z none f = act-ok c l t z (f refl)
 
 pub step-ok : (c : Call) (l : Log) (t : Table) → AllAgree l t → StepAgrees c l (step c t)
 unfolding step
-step-ok c l t z = unlessRefused-ok c l t z (firstFailed (questions c t)) (accepted-kind c t)
+step-ok c l t z = unlessRefused-ok c l t z (firstFailed (questions c t)) (λ e. accepted c t e .kind)
 
 -- an accepted `new`, on any table
 new-unlessRefused : (k : List ℕ) (timeout m tf bf : ℕ) (l : Log) (t : Table) (o : Option ℕ) → unlessRefused o (Call.new k timeout m tf bf) t .answer ≡ Answer.New

@@ -7,35 +7,32 @@ use mathlib.Core.Option.{Option, none, some, Option·some-injective}
 use Prim.Native.Nat.{ℕ, _^_, _<_}
 use native.Mathlib.Omega.{arith}
 use lib.ListN.{length, take}
-use lib.Dec.{eqb}
-use borrow.Author.Tests.{eqb-true}
 use Rattle.model.specs.Base.{joined}
 use Rattle.model.specs.Bytes.{Bytes, number}
 use Rattle.model.specs.Key.{distance}
 use Rattle.model.specs.Node.{Node}
 use Rattle.model.specs.Bucket.{nodes}
-use Rattle.model.specs.Table.{Table, Answer}
+use Rattle.model.specs.Table.{Table, Answer, numBuckets}
 use Rattle.model.specs.Sizes.{keySize, storageSize}
 use Rattle.model.specs.Sort.{sortBy}
 use Rattle.model.specs.Visit.{visits}
 use Rattle.model.specs.Call.{Listing, Call}
-use Rattle.model.specs.Listing.{item, applied, byDistance, found}
+use Rattle.model.specs.Listing.{item, applied, byDistance, found, distanceTo}
 use Rattle.model.specs.Question.{firstFailed}
-use Rattle.model.specs.Step.{act, questions}
+use Rattle.model.specs.Step.{act}
 use Rattle.model.specs.Layout.{tableOf}
 use Rattle.model.specs.Formed.{formed}
-use Rattle.model.specs.StepBytes.{allQuestions, unlessRefused, written, stepBytes}
+use Rattle.model.specs.StepBytes.{allQuestions, unlessRefusedBytes, written, stepBytes}
 use Rattle.model.specs.Fits.{WellFormed, FitsNode, FitsDeadline, FitsBucket, Fits}
-use Rattle.laws.proofs.KeepStep.{passed}
+use Rattle.laws.proofs.Questions.{accepted-bytes}
 use Rattle.laws.proofs.KeepEach.{applyPending-each}
 use Rattle.laws.proofs.Keep.{applyPending-well-formed}
 use Rattle.laws.proofs.TableBytes.{fits-back}
 use Rattle.laws.proofs.Tests.{clash}
-use Rattle.laws.proofs.Sort
-use Rattle.laws.proofs.Sort.{sort-ascending, sort-tally}
+use Rattle.laws.proofs.Sort.{Strict, sort-strict, sort-tally}
 use Rattle.log.specs.Log.{isRefused}
-use Rattle.log.specs.Closest.{allHeld, far, closestNodes, target, Ascending, ClosestClaim}
-use Rattle.theorem.proofs.Nearest.{visits-nearest}
+use Rattle.log.specs.Closest.{allHeld, closestNodes, target, Ascending, ClosestClaim}
+use Rattle.laws.proofs.Nearest.{visits-nearest, held-different, different-apart}
 use Rattle.laws.proofs.All.{all-map}
 
 -- ---- on a table whose buckets, once their due pendings are applied, are well formed
@@ -73,7 +70,7 @@ pub accepted : (c : Call) (s : List ℕ) → isRefused (stepBytes c s .answer) �
 unfolding stepBytes
 accepted c s e = go (firstFailed (allQuestions c s)) e
   where
-    go : (o : Option ℕ) → isRefused (unlessRefused o c s .answer) ≡ false → o ≡ none
+    go : (o : Option ℕ) → isRefused (unlessRefusedBytes o c s .answer) ≡ false → o ≡ none
     go none h = refl
     go (some q) h = clash refl h
 
@@ -82,23 +79,23 @@ pub accepted-storage : (l : Listing) (n now : ℕ) (out s : List ℕ) → isRefu
     → (length s ≡ storageSize) × (formed s ≡ true)
 accepted-storage l n now out s e =
     let c : Call = Call.list l n now out in
-    let q = passed 1 (eqb (length s) storageSize) ((2, formed s) ∷ questions c (tableOf s)) (accepted c s e) in
-    (eqb-true (length s) storageSize (q .0), passed 2 (formed s) (questions c (tableOf s)) (q .1) .0)
+    let q = accepted-bytes c s (accepted c s e) in
+    (q .size, q .formed)
 
 -- what an accepted listing answers and writes
 pub accepted-answer : (l : Listing) (n now : ℕ) (out s : List ℕ) → isRefused (stepBytes (Call.list l n now out) s .answer) ≡ false
     → stepBytes (Call.list l n now out) s .answer ≡ Answer.Found (length (found l n now (tableOf s)))
 unfolding stepBytes act
-accepted-answer l n now out s e = ap (λ (o : Option ℕ). unlessRefused o (Call.list l n now out) s .answer) (accepted (Call.list l n now out) s e)
+accepted-answer l n now out s e = ap (λ (o : Option ℕ). unlessRefusedBytes o (Call.list l n now out) s .answer) (accepted (Call.list l n now out) s e)
 
 pub accepted-output : (l : Listing) (n now : ℕ) (out s : List ℕ) → isRefused (stepBytes (Call.list l n now out) s .answer) ≡ false
     → stepBytes (Call.list l n now out) s .output ≡ written (map (item l) (found l n now (tableOf s))) out
 unfolding stepBytes act
-accepted-output l n now out s e = ap (λ (o : Option ℕ). unlessRefused o (Call.list l n now out) s .output) (accepted (Call.list l n now out) s e)
+accepted-output l n now out s e = ap (λ (o : Option ℕ). unlessRefusedBytes o (Call.list l n now out) s .output) (accepted (Call.list l n now out) s e)
 
 -- ---- the claim
 
-ascending : (f : Node → ℕ) (ns : List Node) → Sort.Ascending f ns → Ascending f ns
+ascending : (f : Node → ℕ) (ns : List Node) → Strict f ns → Ascending f ns
 ascending f [] p = tt
 ascending f (n ∷ []) p = tt
 ascending f (n ∷ m ∷ ns) p = (p .0 .0, ascending f (m ∷ ns) (p .1))
@@ -109,13 +106,18 @@ closest l x n now out s e b h =
     let t : Table = tableOf s in
     let q = accepted-storage l n now out s h in
     let f : Fits t = fits-back s b (q .0) (q .1) in
+    let w : (i : ℕ) → WellFormed (t .settings) i (applied now t i) = λ i. applyPending-well-formed (t .settings) i now (t .buckets i) (f .well-formed i) in
     let list : found l n now t ≡ closestNodes x n now t =
-    found-closest l x e n now t ∙ closest-list t x now (f .settings .localKey) (λ i. applyPending-well-formed (t .settings) i now (t .buckets i) (f .well-formed i))
+    found-closest l x e n now t ∙ closest-list t x now (f .settings .localKey) w
     (λ i. applyPending-each FitsNode FitsDeadline (t .settings .bucket) now (t .buckets i) (f .buckets i)) n
     in
     record {
       answer = accepted-answer l n now out s h ∙ ap (λ (ns : List Node). Answer.Found (length ns)) list;
       output = accepted-output l n now out s h ∙ ap (λ (ns : List Node). written (map (item l) ns) out) list;
-      sorted = ascending (far (number x)) (sortBy (far (number x)) (allHeld now t)) (sort-ascending (far (number x)) (allHeld now t));
-      all-there = λ p. sort-tally (far (number x)) p (allHeld now t);
+      sorted =
+          ascending (distanceTo (number x)) (sortBy (distanceTo (number x)) (allHeld now t))
+          (sort-strict (distanceTo (number x)) (allHeld now t)
+          (different-apart (number x) (allHeld now t)
+          (held-different (t .settings .localKey) (applied now t) (λ i. w i .of-index .held) (λ i. w i .formed .different) numBuckets)));
+      all-there = λ p. sort-tally (distanceTo (number x)) p (allHeld now t);
     }

@@ -8,7 +8,7 @@ use Rattle.model.specs.Value.{Value}
 use Rattle.model.specs.Node.{Node, AppliedPending}
 use Rattle.model.specs.Table.{Settings, Answer}
 use Rattle.model.specs.Call.{Call}
-use Rattle.log.specs.Log.{Log, Entry, Role, role, isRefused, answersFailed, answersRemoved, answersInserted, without, noSettings, noValue}
+use Rattle.log.specs.Log.{Log, Entry, Naming, Role, role, isRefused, answersFailed, answersRemoved, answersInserted, without, noSettings, noValue}
 
 abbrev pub mem : ℕ → List ℕ → Bool
 mem k [] = false
@@ -44,10 +44,13 @@ abbrev pub give : ℕ → Option Bool → Option Bool → Option Value → Log �
 give k u d v l =
     record { settings = l .settings; held = l .held; connected = atGiven k u (l .connected); incoming = atGiven k d (l .incoming); value = atGiven k v (l .value) }
 
+abbrev pub gaveBy : ℕ → Naming → Log → Log
+gaveBy k n l = give k (n .connected) (n .incoming) (n .value) l
+
 abbrev pub enterRole : Role → Answer → Log → Log
-enterRole (Role.names k step u d v) a l =
+enterRole (Role.names k n) a l =
     cond (answersFailed a) (depart k l)
-    (cond (answersRemoved a) (depart k (give k u d v l)) (cond (answersInserted a || (step && mem k (l .held))) (place k (give k u d v l)) (give k u d v l)))
+    (cond (answersRemoved a) (depart k (gaveBy k n l)) (cond (answersInserted a || (n .statusStep && mem k (l .held))) (place k (gaveBy k n l)) (gaveBy k n l)))
 enterRole (Role.empties s) a l = fresh s
 enterRole Role.silent a l = l
 

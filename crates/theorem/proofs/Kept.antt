@@ -13,11 +13,11 @@ use Rattle.model.specs.Result.{UpdateResult, isFailed}
 use Rattle.model.specs.Bucket
 use Rattle.model.specs.Bucket.{Bucket, BucketSettings, emptyBucket, holds, applyPending, updateStatus, updateValue, updatePending}
 use Rattle.model.specs.Table.{Table, Answer, Effect, failsTableFilter, thenStatus, updateNodeIn, insertOrUpdateIn, write, indexIn}
-use Rattle.model.specs.Call.{Call, isOne, optional, valueOf}
+use Rattle.model.specs.Call.{Call, KeyCall, isOne, optional, valueOf}
 use Rattle.model.specs.Listing.{applyAll, applies}
 use Rattle.model.specs.Question.{firstFailed}
 use Rattle.model.specs.Step
-use Rattle.model.specs.Step.{onKey, takeOldest, act, questions, unlessRefused, step}
+use Rattle.model.specs.Step.{onKey, effect, takeOldest, act, questions, unlessRefused, step}
 use Rattle.laws.proofs.Tests.{cases}
 use Rattle.log.specs.Claim.{tableAfter}
 
@@ -73,25 +73,21 @@ module _ (Q : BucketSettings → Bucket → Type 0) (keeps : Keeps Q) where
   oldest-keeps t f [] = f
   oldest-keeps t f (a ∷ q) = f
 
+  -- what a call on one key does to the key's bucket
+  effect-keeps : (c : KeyCall) (k : List ℕ) (t : Table) (i : ℕ) (b : Bucket) → Q (t .settings .bucket) b → Q (t .settings .bucket) (effect c k t i b .bucket)
+  effect-keeps (KeyCall.updateNodeStatus st dr now) k t i b g = keeps .status _ (number k) (isOne st) (optional dr) _ (keeps .apply _ now b g)
+  effect-keeps (KeyCall.updateNode v st now) k t i b g = updateNode-keeps _ (failsTableFilter t i (number k) (valueOf v)) now (number k) (valueOf v) (optional st) _ (keeps .apply _ now b g)
+  effect-keeps (KeyCall.insertOrUpdate v st dr now) k t i b g = insertOrUpdate-keeps _ (failsTableFilter t i (number k) (valueOf v)) now (Step.nodeOf k v st dr) _ (keeps .apply _ now b g)
+  effect-keeps (KeyCall.remove now) k t i b g = keeps .remove _ now (number k) _ (keeps .apply _ now b g)
+  effect-keeps (KeyCall.entry now) k t i b g = keeps .apply _ now b g
+  effect-keeps (KeyCall.presentUpdate st dr) k t i b g = keeps .status _ (number k) (isOne st) (optional dr) b g
+  effect-keeps (KeyCall.pendingUpdate st dr) k t i b g = keeps .pending _ (isOne st) (isOne dr) b g
+  effect-keeps (KeyCall.absentInsert v st dr now) k t i b g = keeps .insert _ now (Step.nodeOf k v st dr) b g
+
   act-keeps : (c : Call) (t : Table) → Every Q t → Every Q (act c t .table)
   unfolding act
   act-keeps (Call.new k timeout m tf bf) t f = λ j. keeps .empty _
-  act-keeps (Call.updateNodeStatus k st dr now) t f =
-      let s = t .settings .bucket in
-      onKey-keeps t _ _ f (λ i b g. keeps .status s (number k) (isOne st) (optional dr) _ (keeps .apply s now b g)) (indexIn t (number k))
-  act-keeps (Call.updateNode k v st now) t f =
-      let s = t .settings .bucket in
-      onKey-keeps t _ _ f (λ i b g. updateNode-keeps s (failsTableFilter t i (number k) (valueOf v)) now (number k) (valueOf v) (optional st) _ (keeps .apply s now b g)) (indexIn t (number k))
-  act-keeps (Call.insertOrUpdate k v st dr now) t f =
-      let s = t .settings .bucket in
-      onKey-keeps t _ _ f (λ i b g. insertOrUpdate-keeps s (failsTableFilter t i (number k) (valueOf v)) now (Step.nodeOf k v st dr) _ (keeps .apply s now b g)) (indexIn t (number k))
-  act-keeps (Call.remove k now) t f =
-      let s = t .settings .bucket in
-      onKey-keeps t _ _ f (λ i b g. keeps .remove s now (number k) _ (keeps .apply s now b g)) (indexIn t (number k))
-  act-keeps (Call.entry k now) t f = onKey-keeps t _ _ f (λ i b g. keeps .apply (t .settings .bucket) now b g) (indexIn t (number k))
-  act-keeps (Call.presentUpdate k st dr) t f = onKey-keeps t _ _ f (λ i b g. keeps .status (t .settings .bucket) (number k) (isOne st) (optional dr) b g) (indexIn t (number k))
-  act-keeps (Call.pendingUpdate k st dr) t f = onKey-keeps t _ _ f (λ i b g. keeps .pending (t .settings .bucket) (isOne st) (isOne dr) b g) (indexIn t (number k))
-  act-keeps (Call.absentInsert k v st dr now) t f = onKey-keeps t _ _ f (λ i b g. keeps .insert (t .settings .bucket) now (Step.nodeOf k v st dr) b g) (indexIn t (number k))
+  act-keeps (Call.onKey k c) t f = onKey-keeps t _ _ f (effect-keeps c k t) (indexIn t (number k))
   act-keeps (Call.list l n now out) t f = applyAll-keeps now (applies l n now t) t f
   act-keeps Call.takeAppliedPending t f = oldest-keeps t f (t .queue)
 

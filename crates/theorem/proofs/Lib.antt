@@ -13,6 +13,5 @@ pub mod Run
 pub mod Kept
 pub mod Net
 pub mod Limits
-pub mod Nearest
 pub mod Closest
 pub mod Theorem

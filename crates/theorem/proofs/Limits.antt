@@ -13,7 +13,7 @@ use Rattle.model.specs.Question.{firstFailed}
 use Rattle.model.specs.Step.{act, queueFits, questions, unlessRefused, step}
 use Rattle.model.specs.Fits.{Formed}
 use Rattle.laws.proofs.KeepFormed.{empty-formed, insert-formed, applyPending-formed, updateStatus-formed, updateValue-formed, updatePending-formed, remove-formed}
-use Rattle.laws.proofs.KeepStep.{accepted}
+use Rattle.laws.proofs.Questions.{accepted}
 use Rattle.log.specs.Log.{logOf}
 use Rattle.log.specs.Claim.{tableAfter, entries}
 use Rattle.theorem.proofs.Kept.{Keeps, reached-keeps}

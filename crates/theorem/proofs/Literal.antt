@@ -11,29 +11,29 @@ use Rattle.model.specs.Value.{Value}
 use Rattle.model.specs.Node.{Node, AppliedPending}
 use Rattle.model.specs.Table.{Settings, Answer}
 use Rattle.laws.proofs.Tests.{same-self, same-true, same-sym, clash, cases, split, or-first, or-second, or-rest}
-use Rattle.log.specs.Log.{Entry, Log, Role, role, isRefused, answersFailed, answersRemoved, answersInserted, Event, heldNow, evictionEvents, recordEvents, ownEvents, events, nowGiven, nowSettings, order, lastPlacement, noValue, logOf, without}
-use Rattle.theorem.proofs.Fold.{mem, withHeld, depart, place, evict, enterRecords, atGiven, give, enterRole, enter, readFrom, foldOf}
+use Rattle.log.specs.Log.{Entry, Log, Naming, Role, role, isRefused, answersFailed, answersRemoved, answersInserted, Event, heldNow, evictionEvents, recordEvents, ownEvents, events, nowGiven, nowSettings, heldOrder, lastPlacement, noValue, logOf, without}
+use Rattle.theorem.proofs.Fold.{mem, withHeld, depart, place, evict, enterRecords, atGiven, gaveBy, enterRole, enter, readFrom, foldOf}
 use Rattle.theorem.proofs.Keys.{Distinct, mem-append, mem-without, mem-without-other, distinct-without, distinct-placed}
 use Rattle.theorem.proofs.Steps.{own-settings}
 
--- The list that `order` makes is the one that the text means: the keys that are held, ..
-pub order-held : (k : ℕ) (es : List Event) → mem k (order es) ≡ heldNow k es
+-- The list that `heldOrder` makes is the one that the text means: the keys that are held, ..
+pub order-held : (k : ℕ) (es : List Event) → mem k (heldOrder es) ≡ heldNow k es
 order-held k [] = refl
 order-held k (Event.placement x ∷ es) =
-    mem-append k (without x (order es)) (x ∷ [])
+    mem-append k (without x (heldOrder es)) (x ∷ [])
     ∙ split (same x k)
-    (λ e. rw e (or-second (mem k (without x (order es))) true refl))
-    (λ e. rw (mem-without-other x k (order es) (same-sym k x ∙ e), order-held k es, e) (split (heldNow k es) (λ q. rw q) (λ q. rw q)))
+    (λ e. rw e (or-second (mem k (without x (heldOrder es))) true refl))
+    (λ e. rw (mem-without-other x k (heldOrder es) (same-sym k x ∙ e), order-held k es, e) (split (heldNow k es) (λ q. rw q) (λ q. rw q)))
 order-held k (Event.departure x ∷ es) =
     split (same x k)
-    (λ e. rw (e, ← same-true x k e) (mem-without x (order es)))
-    (λ e. rw (mem-without-other x k (order es) (same-sym k x ∙ e), order-held k es, e))
+    (λ e. rw (e, ← same-true x k e) (mem-without x (heldOrder es)))
+    (λ e. rw (mem-without-other x k (heldOrder es) (same-sym k x ∙ e), order-held k es, e))
 
 -- .. each once, ..
-pub order-distinct : (es : List Event) → Distinct (order es)
+pub order-distinct : (es : List Event) → Distinct (heldOrder es)
 order-distinct [] = tt
-order-distinct (Event.placement x ∷ es) = distinct-placed x (order es) (order-distinct es)
-order-distinct (Event.departure x ∷ es) = distinct-without x (order es) (order-distinct es)
+order-distinct (Event.placement x ∷ es) = distinct-placed x (heldOrder es) (order-distinct es)
+order-distinct (Event.departure x ∷ es) = distinct-without x (heldOrder es) (order-distinct es)
 
 -- each key's number is below those of the keys after it
 abbrev pub Ascending : (ℕ → ℕ) → List ℕ → Type 0
@@ -73,17 +73,17 @@ last-bound k (Event.placement x ∷ es) = let z = last-bound k es in split (same
 last-bound k (Event.departure x ∷ es) = let z = last-bound k es in omega arith
 
 -- .. in the order of last placements ..
-pub order-ascending : (es : List Event) → Ascending (λ (k : ℕ). lastPlacement k es) (order es)
+pub order-ascending : (es : List Event) → Ascending (λ (k : ℕ). lastPlacement k es) (heldOrder es)
 order-ascending [] = tt
 order-ascending (Event.placement x ∷ es) =
     let f : ℕ → ℕ = λ k. lastPlacement k es in
     let g : ℕ → ℕ = λ k. lastPlacement k (Event.placement x ∷ es) in
-    let other : (y : ℕ) → mem y (without x (order es)) ≡ true → g y ≡ f y =
-    λ y m. let e : same x y ≡ false = split (same x y) (λ q. clash m (rw (← same-true x y q) (mem-without x (order es)))) (λ q. q) in rw e in
+    let other : (y : ℕ) → mem y (without x (heldOrder es)) ≡ true → g y ≡ f y =
+    λ y m. let e : same x y ≡ false = split (same x y) (λ q. clash m (rw (← same-true x y q) (mem-without x (heldOrder es)))) (λ q. q) in rw e in
     let top : g x ≡ suc (length es) = rw (same-self x) in
-    ascending-last g x (without x (order es)) (ascending-change f g (without x (order es)) other (ascending-without f x (order es) (order-ascending es)))
+    ascending-last g x (without x (heldOrder es)) (ascending-change f g (without x (heldOrder es)) other (ascending-without f x (heldOrder es) (order-ascending es)))
     (λ y m. let p = other y m in let q = last-bound y es in omega arith)
-order-ascending (Event.departure x ∷ es) = ascending-without (λ (k : ℕ). lastPlacement k es) x (order es) (order-ascending es)
+order-ascending (Event.departure x ∷ es) = ascending-without (λ (k : ℕ). lastPlacement k es) x (heldOrder es) (order-ascending es)
 
 -- .. and there is no other: two lists with the same keys, both ascending, are one
 ascending-self : (f : ℕ → ℕ) (x : ℕ) (xs : List ℕ) → ((y : ℕ) → mem y xs ≡ true → f x < f y) → mem x xs ≡ false
@@ -108,13 +108,13 @@ both : {A B C : Type 0} (f : A → C) (g : B → C) (t : Bool) (x y : A) (x′ y
 both f g true x y x′ y′ p q = p
 both f g false x y x′ y′ p q = q
 
-records-held : (rs : List AppliedPending) (l : Log) (es : List Event) → l .held ≡ order es → enterRecords rs l .held ≡ order (recordEvents rs es)
+records-held : (rs : List AppliedPending) (l : Log) (es : List Event) → l .held ≡ heldOrder es → enterRecords rs l .held ≡ heldOrder (recordEvents rs es)
 records-held [] l es e = e
 records-held (r ∷ rs) l es e =
     records-held rs (place (r .inserted) (evict (r .evicted) l)) (Event.placement (r .inserted) ∷ evictionEvents (r .evicted) es)
     (ap (λ (xs : List ℕ). without (r .inserted) xs ++ (r .inserted ∷ [])) (go (r .evicted)))
   where
-    go : (o : Option Node) → evict o l .held ≡ order (evictionEvents o es)
+    go : (o : Option Node) → evict o l .held ≡ heldOrder (evictionEvents o es)
     go none = e
     go (some n) = ap (without (n .key)) e
 
@@ -133,16 +133,16 @@ cond-or : {A : Type 0} (f r : Bool) (x y : A) → cond (f || r) x y ≡ cond f x
 cond-or true r x y = refl
 cond-or false r x y = refl
 
-role-held : (ro : Role) (a : Answer) (l : Log) (es : List Event) → l .held ≡ order es → enterRole ro a l .held ≡ order (ownEvents ro a es)
-role-held (Role.names k step u d v) a l es e =
+role-held : (ro : Role) (a : Answer) (l : Log) (es : List Event) → l .held ≡ heldOrder es → enterRole ro a l .held ≡ heldOrder (ownEvents ro a es)
+role-held (Role.names k n) a l es e =
     let t : mem k (l .held) ≡ heldNow k es = ap (mem k) e ∙ order-held k es in
-    let g : Log = give k u d v l in
-    let p : List Event = cond (answersInserted a || (step && heldNow k es)) (Event.placement k ∷ es) es in
-    ap (λ (q : Bool). (cond (answersFailed a) (depart k l) (cond (answersRemoved a) (depart k g) (cond (answersInserted a || (step && q)) (place k g) g))) .held) t
-    ∙ both (λ (m : Log). m .held) order (answersFailed a) (depart k l) _ (Event.departure k ∷ es) _ (ap (without k) e)
-    (both (λ (m : Log). m .held) order (answersRemoved a) (depart k g) _ (Event.departure k ∷ es) p (ap (without k) e)
-    (both (λ (m : Log). m .held) order (answersInserted a || (step && heldNow k es)) (place k g) g (Event.placement k ∷ es) es (ap (λ (xs : List ℕ). without k xs ++ (k ∷ [])) e) e))
-    ∙ ap order (sym (cond-or (answersFailed a) (answersRemoved a) (Event.departure k ∷ es) p))
+    let g : Log = gaveBy k n l in
+    let p : List Event = cond (answersInserted a || (n .statusStep && heldNow k es)) (Event.placement k ∷ es) es in
+    ap (λ (q : Bool). (cond (answersFailed a) (depart k l) (cond (answersRemoved a) (depart k g) (cond (answersInserted a || (n .statusStep && q)) (place k g) g))) .held) t
+    ∙ both (λ (m : Log). m .held) heldOrder (answersFailed a) (depart k l) _ (Event.departure k ∷ es) _ (ap (without k) e)
+    (both (λ (m : Log). m .held) heldOrder (answersRemoved a) (depart k g) _ (Event.departure k ∷ es) p (ap (without k) e)
+    (both (λ (m : Log). m .held) heldOrder (answersInserted a || (n .statusStep && heldNow k es)) (place k g) g (Event.placement k ∷ es) es (ap (λ (xs : List ℕ). without k xs ++ (k ∷ [])) e) e))
+    ∙ ap heldOrder (sym (cond-or (answersFailed a) (answersRemoved a) (Event.departure k ∷ es) p))
 role-held (Role.empties s) a l es e = refl
 role-held Role.silent a l es e = e
 
@@ -151,37 +151,37 @@ given-at k x none f = split (same x k) (λ e. rw e) (λ e. rw e)
 given-at k x (some a) f = refl
 
 -- one field f of what the log says of the key x; o: what the call gives of it
-names-given : {A : Type 0} (f : Log → ℕ → A) (k : ℕ) (step : Bool) (u d : Option Bool) (v : Option Value) (o : Option A) (a : Answer) (l : Log) (x : ℕ)
-    → ((m : Log) (ks : List ℕ) → f (withHeld ks m) ≡ f m) → f (give k u d v l) ≡ atGiven k o (f l)
-    → f (enterRole (Role.names k step u d v) a l) x ≡ cond (answersFailed a) (f l x) (cond (same x k) (given o (f l x)) (f l x))
-names-given f k step u d v o a l x h g =
+names-given : {A : Type 0} (f : Log → ℕ → A) (k : ℕ) (n : Naming) (o : Option A) (a : Answer) (l : Log) (x : ℕ)
+    → ((m : Log) (ks : List ℕ) → f (withHeld ks m) ≡ f m) → f (gaveBy k n l) ≡ atGiven k o (f l)
+    → f (enterRole (Role.names k n) a l) x ≡ cond (answersFailed a) (f l x) (cond (same x k) (given o (f l x)) (f l x))
+names-given f k n o a l x h g =
     let y = cond (same x k) (given o (f l x)) (f l x) in
-    let p : f (give k u d v l) x ≡ y = ap (λ (q : ℕ → _). q x) g ∙ given-at k x o (f l) in
-    let kept : (ks : List ℕ) → f (withHeld ks (give k u d v l)) x ≡ y = λ ks. ap (λ (q : ℕ → _). q x) (h (give k u d v l) ks) ∙ p in
+    let p : f (gaveBy k n l) x ≡ y = ap (λ (q : ℕ → _). q x) g ∙ given-at k x o (f l) in
+    let kept : (ks : List ℕ) → f (withHeld ks (gaveBy k n l)) x ≡ y = λ ks. ap (λ (q : ℕ → _). q x) (h (gaveBy k n l) ks) ∙ p in
     both (λ (m : Log). f m x) (λ z. z) (answersFailed a) (depart k l) _ (f l x) y (ap (λ (q : ℕ → _). q x) (h l (without k (l .held))))
     (cases (λ (m : Log). f m x ≡ y) (answersRemoved a) (λ _. kept _)
-    (λ _. cases (λ (m : Log). f m x ≡ y) (answersInserted a || (step && mem k (l .held))) (λ _. kept _) (λ _. p)))
+    (λ _. cases (λ (m : Log). f m x ≡ y) (answersInserted a || (n .statusStep && mem k (l .held))) (λ _. kept _) (λ _. p)))
 
 role-connected : (ro : Role) (a : Answer) (l : Log) (x : ℕ)
-    → enterRole ro a l .connected x ≡ nowGiven (λ u d v. u) false ro a x (l .connected x)
-role-connected (Role.names k step u d v) a l x = names-given (λ (m : Log). m .connected) k step u d v u a l x (λ m ks. refl) refl
+    → enterRole ro a l .connected x ≡ nowGiven (λ n. n .connected) false ro a x (l .connected x)
+role-connected (Role.names k n) a l x = names-given (λ (m : Log). m .connected) k n (n .connected) a l x (λ m ks. refl) refl
 role-connected (Role.empties s) a l x = refl
 role-connected Role.silent a l x = refl
 
 role-incoming : (ro : Role) (a : Answer) (l : Log) (x : ℕ)
-    → enterRole ro a l .incoming x ≡ nowGiven (λ u d v. d) false ro a x (l .incoming x)
-role-incoming (Role.names k step u d v) a l x = names-given (λ (m : Log). m .incoming) k step u d v d a l x (λ m ks. refl) refl
+    → enterRole ro a l .incoming x ≡ nowGiven (λ n. n .incoming) false ro a x (l .incoming x)
+role-incoming (Role.names k n) a l x = names-given (λ (m : Log). m .incoming) k n (n .incoming) a l x (λ m ks. refl) refl
 role-incoming (Role.empties s) a l x = refl
 role-incoming Role.silent a l x = refl
 
 role-value : (ro : Role) (a : Answer) (l : Log) (x : ℕ)
-    → enterRole ro a l .value x ≡ nowGiven (λ u d v. v) noValue ro a x (l .value x)
-role-value (Role.names k step u d v) a l x = names-given (λ (m : Log). m .value) k step u d v v a l x (λ m ks. refl) refl
+    → enterRole ro a l .value x ≡ nowGiven (λ n. n .value) noValue ro a x (l .value x)
+role-value (Role.names k n) a l x = names-given (λ (m : Log). m .value) k n (n .value) a l x (λ m ks. refl) refl
 role-value (Role.empties s) a l x = refl
 role-value Role.silent a l x = refl
 
 role-settings : (ro : Role) (a : Answer) (l : Log) → enterRole ro a l .settings ≡ nowSettings ro (l .settings)
-role-settings (Role.names k step u d v) a l = own-settings k step a l (give k u d v l) refl
+role-settings (Role.names k n) a l = own-settings k (n .statusStep) a l (gaveBy k n l) refl
 role-settings (Role.empties s) a l = refl
 role-settings Role.silent a l = refl
 
@@ -196,14 +196,14 @@ enter-literal e h =
     λ j. record {
       settings = both (λ (m : Log). m .settings) (λ (x : Settings). x) t l (enterRole ro a r) (l .settings) (nowSettings ro (l .settings)) refl
           (role-settings ro a r ∙ ap (nowSettings ro) (records-given (λ (m : Log). m .settings) (λ m ks. refl) (e .records) l)) j;
-      held = both (λ (m : Log). m .held) order t l (enterRole ro a r) (events h) (ownEvents ro a (recordEvents (e .records) (events h))) refl
+      held = both (λ (m : Log). m .held) heldOrder t l (enterRole ro a r) (events h) (ownEvents ro a (recordEvents (e .records) (events h))) refl
           (role-held ro a r (recordEvents (e .records) (events h)) (records-held (e .records) l (events h) refl)) j;
-      connected = λ x. both (λ (m : Log). m .connected x) (λ (b : Bool). b) t l (enterRole ro a r) (l .connected x) (nowGiven (λ u d v. u) false ro a x (l .connected x)) refl
-          (role-connected ro a r x ∙ ap (nowGiven (λ u d v. u) false ro a x) (records-given (λ (m : Log). m .connected x) (λ m ks. refl) (e .records) l)) j;
-      incoming = λ x. both (λ (m : Log). m .incoming x) (λ (b : Bool). b) t l (enterRole ro a r) (l .incoming x) (nowGiven (λ u d v. d) false ro a x (l .incoming x)) refl
-          (role-incoming ro a r x ∙ ap (nowGiven (λ u d v. d) false ro a x) (records-given (λ (m : Log). m .incoming x) (λ m ks. refl) (e .records) l)) j;
-      value = λ x. both (λ (m : Log). m .value x) (λ (b : Value). b) t l (enterRole ro a r) (l .value x) (nowGiven (λ u d v. v) noValue ro a x (l .value x)) refl
-          (role-value ro a r x ∙ ap (nowGiven (λ u d v. v) noValue ro a x) (records-given (λ (m : Log). m .value x) (λ m ks. refl) (e .records) l)) j;
+      connected = λ x. both (λ (m : Log). m .connected x) (λ (b : Bool). b) t l (enterRole ro a r) (l .connected x) (nowGiven (λ n. n .connected) false ro a x (l .connected x)) refl
+          (role-connected ro a r x ∙ ap (nowGiven (λ n. n .connected) false ro a x) (records-given (λ (m : Log). m .connected x) (λ m ks. refl) (e .records) l)) j;
+      incoming = λ x. both (λ (m : Log). m .incoming x) (λ (b : Bool). b) t l (enterRole ro a r) (l .incoming x) (nowGiven (λ n. n .incoming) false ro a x (l .incoming x)) refl
+          (role-incoming ro a r x ∙ ap (nowGiven (λ n. n .incoming) false ro a x) (records-given (λ (m : Log). m .incoming x) (λ m ks. refl) (e .records) l)) j;
+      value = λ x. both (λ (m : Log). m .value x) (λ (b : Value). b) t l (enterRole ro a r) (l .value x) (nowGiven (λ n. n .value) noValue ro a x (l .value x)) refl
+          (role-value ro a r x ∙ ap (nowGiven (λ n. n .value) noValue ro a x) (records-given (λ (m : Log). m .value x) (λ m ks. refl) (e .records) l)) j;
     }
 
 read-literal : (es h : List Entry) → readFrom (logOf h) es ≡ logOf (reverseAux es h)

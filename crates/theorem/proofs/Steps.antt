@@ -12,7 +12,7 @@ use Rattle.model.specs.Bucket.{Bucket, BucketSettings, holds, withPending, inse
 use Rattle.model.specs.Table.{EntryKind, Answer, bothUpdates, thenStatus, updateNodeIn, insertUpdates, inserts, thenValue, insertOrUpdateIn, kindIfPending, kindOfNode, kindOf}
 use Rattle.model.specs.Question.{isPresent, isPending, isAbsent}
 use Rattle.laws.proofs.Tests.{same-self, clash, cases, split}
-use Rattle.log.specs.Log.{Log, failedInsert, insertedNow, answersFailed, answersRemoved, answersInserted, without}
+use Rattle.log.specs.Log.{Log, Verdict, says, insertVerdict, answersFailed, answersRemoved, answersInserted, without}
 use Rattle.theorem.proofs.Fold.{mem, depart, place, give}
 use Rattle.theorem.proofs.Keys.{Distinct, mem-append, mem-without, without-twice, without-placed, distinct-without, distinct-placed}
 use Rattle.theorem.proofs.Agree.{PendingAgrees, NotPending, Agree, Only, Only-refl, get-agree, agree-takeOut, agree-given, Gives, Gives-only, Gives-back, pending-gives, held-not-pending, depart-absent}
@@ -77,35 +77,20 @@ both-failed UpdateResult.NotModified UpdateResult.UpdatedPending e = refl
 both-failed UpdateResult.NotModified UpdateResult.NotModified e = refl
 
 -- insert_or_update on a held key answers Failed where its value step does, and never Inserted
-insertUpdates-failed : (v r : UpdateResult) → isFailed r ≡ false → failedInsert (insertUpdates v r) ≡ isFailed v
-insertUpdates-failed UpdateResult.Updated UpdateResult.Updated e = refl
-insertUpdates-failed UpdateResult.Updated UpdateResult.UpdatedAndPromoted e = refl
-insertUpdates-failed UpdateResult.Updated UpdateResult.UpdatedPending e = refl
-insertUpdates-failed UpdateResult.Updated UpdateResult.NotModified e = refl
-insertUpdates-failed UpdateResult.Updated (UpdateResult.Failed x) e = clash refl e
-insertUpdates-failed UpdateResult.NotModified UpdateResult.Updated e = refl
-insertUpdates-failed UpdateResult.NotModified UpdateResult.UpdatedAndPromoted e = refl
-insertUpdates-failed UpdateResult.NotModified UpdateResult.UpdatedPending e = refl
-insertUpdates-failed UpdateResult.NotModified UpdateResult.NotModified e = refl
-insertUpdates-failed UpdateResult.NotModified (UpdateResult.Failed x) e = clash refl e
-insertUpdates-failed UpdateResult.UpdatedPending r e = refl
-insertUpdates-failed UpdateResult.UpdatedAndPromoted r e = refl
-insertUpdates-failed (UpdateResult.Failed x) r e = refl
-
-insertUpdates-inserted : (v r : UpdateResult) → insertedNow (insertUpdates v r) ≡ false
-insertUpdates-inserted UpdateResult.Updated UpdateResult.Updated = refl
-insertUpdates-inserted UpdateResult.Updated UpdateResult.UpdatedAndPromoted = refl
-insertUpdates-inserted UpdateResult.Updated UpdateResult.UpdatedPending = refl
-insertUpdates-inserted UpdateResult.Updated UpdateResult.NotModified = refl
-insertUpdates-inserted UpdateResult.Updated (UpdateResult.Failed x) = refl
-insertUpdates-inserted UpdateResult.NotModified UpdateResult.Updated = refl
-insertUpdates-inserted UpdateResult.NotModified UpdateResult.UpdatedAndPromoted = refl
-insertUpdates-inserted UpdateResult.NotModified UpdateResult.UpdatedPending = refl
-insertUpdates-inserted UpdateResult.NotModified UpdateResult.NotModified = refl
-insertUpdates-inserted UpdateResult.NotModified (UpdateResult.Failed x) = refl
-insertUpdates-inserted UpdateResult.UpdatedPending r = refl
-insertUpdates-inserted UpdateResult.UpdatedAndPromoted r = refl
-insertUpdates-inserted (UpdateResult.Failed x) r = refl
+insertUpdates-says : (v r : UpdateResult) → isFailed r ≡ false → insertVerdict (insertUpdates v r) ≡ says false (isFailed v) false false
+insertUpdates-says UpdateResult.Updated UpdateResult.Updated e = refl
+insertUpdates-says UpdateResult.Updated UpdateResult.UpdatedAndPromoted e = refl
+insertUpdates-says UpdateResult.Updated UpdateResult.UpdatedPending e = refl
+insertUpdates-says UpdateResult.Updated UpdateResult.NotModified e = refl
+insertUpdates-says UpdateResult.Updated (UpdateResult.Failed x) e = clash refl e
+insertUpdates-says UpdateResult.NotModified UpdateResult.Updated e = refl
+insertUpdates-says UpdateResult.NotModified UpdateResult.UpdatedAndPromoted e = refl
+insertUpdates-says UpdateResult.NotModified UpdateResult.UpdatedPending e = refl
+insertUpdates-says UpdateResult.NotModified UpdateResult.NotModified e = refl
+insertUpdates-says UpdateResult.NotModified (UpdateResult.Failed x) e = clash refl e
+insertUpdates-says UpdateResult.UpdatedPending r e = refl
+insertUpdates-says UpdateResult.UpdatedAndPromoted r e = refl
+insertUpdates-says (UpdateResult.Failed x) r e = refl
 
 -- the log with all that a node says
 abbrev pub giveNode : Node → Log → Log
@@ -197,9 +182,9 @@ module _ (ix : ℕ → Option ℕ) where
         let F : Bool → Type 0 = λ t. cond t (Agree ix (depart k l) i b) (Agree ix p i b) in
         let r = updateValue s k (n .value) b in
         cases (InsertOrUpdateOk l i n) (isFailed x) (λ f. subst F f z)
-        (λ f. own-by k true (Answer.InsertOrUpdate (insertUpdates (r .0) x)) l (giveNode n l) i (r .1) (isFailed (r .0)) true
-        (insertUpdates-failed (r .0) x f) refl
-        (ap (λ (t : Bool). t || mem k (l .held)) (insertUpdates-inserted (r .0) x) ∙ m)
+        (λ f. let w = insertUpdates-says (r .0) x f in
+        own-by k true (Answer.InsertOrUpdate (insertUpdates (r .0) x)) l (giveNode n l) i (r .1) (isFailed (r .0)) true
+        (ap (λ (v : Verdict). v .failed) w) refl (ap (λ (v : Verdict). v .inserted || mem k (l .held)) w ∙ m)
         (join i (r .1) (isFailed (r .0)) (depart k l) (place k (giveNode n l))
         (value-held ix s p l i k (n .value) b (subst F f z) h (mem-placed k (give k (some (n .connected)) (some (n .incoming)) none l)) (only-placed l k (n .connected) (n .incoming)))))
 

@@ -1,19 +1,19 @@
 // The two calls of the table that give a value (kbucket.rs). The table filter is tested on the storage as the call found it, and a due
 // pending is applied after that.
 ghost use mathlib.Core.Path.{_≡_};
-ghost use Rattle.model.specs.Call.{Call};
+ghost use Rattle.model.specs.Call.{Call, KeyCall};
 ghost use Rattle.model.specs.StepBytes.{stepBytes};
 ghost use Rattle.node.specs.Node.{argumentOf};
-ghost use Rattle.asked.specs.Answers.{Answers, updateAnswer};
+ghost use Rattle.on_key.specs.Answers.{Answers, updateAnswer};
 ghost use Rattle.update.specs.Calls.{insertOrUpdateAnswer};
 use bucket::FailureReason;
 use bucket::UpdateAnswer;
 use bucket::UpdateResult;
 use bucket_update::InsertResult;
-use key::BucketIndex;
 use node::Node;
 use node::NodeStatus;
 use node::Value;
+use on_key::Start;
 
 pub enum InsertOrUpdateAnswer {
     Refused(u8),
@@ -22,32 +22,27 @@ pub enum InsertOrUpdateAnswer {
 
 // Updates the value of the node of the key, and its state; state 2 is none given.
 pub fn update_node(s: &mut [u8], key: &[u8], value: Value, state: u8, time: u64) -> UpdateAnswer
-    ensures { λ r. ⌜ Answers (updateAnswer r) (now (s .exit)) (stepBytes (Call.updateNode (now (key .entry)) (argumentOf value) state time) (now (s .entry))) ⌝ }
+    ensures { λ r. ⌜ Answers (updateAnswer r) (now (s .exit)) (stepBytes (Call.onKey (now (key .entry)) (KeyCall.updateNode (argumentOf value) state time)) (now (s .entry))) ⌝ }
 {
     let codes = value.in_range() & (state <= 2);
-    let q = asked::asked_at(s, key, codes, time);
-    if q != 0 {
-        return UpdateAnswer::Refused(q);
-    }
-    let k = asked::key_of(key);
-    let index = asked::index_of(s, k);
-    match index {
-        BucketIndex::Nothing => {
+    let start = on_key::begin_at(s, key, codes, time);
+    match start {
+        Start::Refused(q) => UpdateAnswer::Refused(q),
+        Start::Local => {
             let same = UpdateResult::NotModified;
             UpdateAnswer::Answered(same)
         }
-        BucketIndex::At(i) => {
+        Start::At(k, i) => {
             let fails = table_filter::table_filter_fails(s, i, k, value);
-            let a = asked::apply_at(s, i, time);
+            let a = on_key::apply_at(s, i, time);
             let applied = a.applied;
-            if !asked::has_room(s, applied) {
-                return UpdateAnswer::Refused(8);
-            }
             let b = a.bucket;
             let updated = bucket_update::update_node_in(b, fails, k, value, state, time);
             let left = updated.bucket;
             let result = updated.result;
-            asked::write_back(s, i, applied, left);
+            if !on_key::finish(s, i, applied, left) {
+                return UpdateAnswer::Refused(8);
+            }
             UpdateAnswer::Answered(result)
         }
     }
@@ -62,27 +57,20 @@ pub fn insert_or_update(
     direction: u8,
     time: u64,
 ) -> InsertOrUpdateAnswer
-    ensures { λ r. ⌜ Answers (insertOrUpdateAnswer r) (now (s .exit)) (stepBytes (Call.insertOrUpdate (now (key .entry)) (argumentOf value) state direction time) (now (s .entry))) ⌝ }
+    ensures { λ r. ⌜ Answers (insertOrUpdateAnswer r) (now (s .exit)) (stepBytes (Call.onKey (now (key .entry)) (KeyCall.insertOrUpdate (argumentOf value) state direction time)) (now (s .entry))) ⌝ }
 {
     let codes = value.in_range() & ((state <= 1) & (direction <= 1));
-    let q = asked::asked_at(s, key, codes, time);
-    if q != 0 {
-        return InsertOrUpdateAnswer::Refused(q);
-    }
-    let k = asked::key_of(key);
-    let index = asked::index_of(s, k);
-    match index {
-        BucketIndex::Nothing => {
+    let start = on_key::begin_at(s, key, codes, time);
+    match start {
+        Start::Refused(q) => InsertOrUpdateAnswer::Refused(q),
+        Start::Local => {
             let own = InsertResult::Failed(FailureReason::InvalidSelfUpdate);
             InsertOrUpdateAnswer::Answered(own)
         }
-        BucketIndex::At(i) => {
+        Start::At(k, i) => {
             let fails = table_filter::table_filter_fails(s, i, k, value);
-            let a = asked::apply_at(s, i, time);
+            let a = on_key::apply_at(s, i, time);
             let applied = a.applied;
-            if !asked::has_room(s, applied) {
-                return InsertOrUpdateAnswer::Refused(8);
-            }
             let b = a.bucket;
             let status = NodeStatus { state, direction };
             let node = Node {
@@ -93,7 +81,9 @@ pub fn insert_or_update(
             let placed = bucket_update::insert_or_update_in(b, fails, node, time);
             let filled = placed.bucket;
             let result = placed.result;
-            asked::write_back(s, i, applied, filled);
+            if !on_key::finish(s, i, applied, filled) {
+                return InsertOrUpdateAnswer::Refused(8);
+            }
             InsertOrUpdateAnswer::Answered(result)
         }
     }

@@ -18,7 +18,7 @@ use Rattle.laws.proofs.All.{all-any, all-zip}
 use Rattle.laws.proofs.Applied.{apply-again}
 use Rattle.visit.specs.declared.Counted.{Counted}
 use Rattle.visit.specs.declared.Given.{Given}
-use Rattle.visit.specs.Passes.{held, records, GivenAt, given, CountedAt, visitOne, visitAll, Once, Visitable}
+use Rattle.visit.specs.Passes.{held, records, GivenAt, recordsGiven, CountedAt, visitOne, visitAll, Once, Visitable}
 use Rattle.visit.proofs.Visitable.{once-visited, visited-none, visited-next}
 
 agree : (z a b : Bool) (x : ℕ) → (b ≡ true → a ≡ false) → cond (z && b) 0 x ≡ cond ((z || a) && b) 0 x
@@ -49,8 +49,8 @@ module _ (now : ℕ) (f : ℕ → ℕ) where
       ap (λ (c : Bool). length (applyPending (t .settings .bucket) now (cond c (applied now t i) (t .buckets j)) .1)) h ∙ g
       ∙ agree z (eqb i 0) (eqb j 0) (f j) (λ q. ne-eqb i 0 (λ p. same-false j i h (eqb-true j 0 q ∙ sym p))))
 
-  counted : (z : Bool) (is : List ℕ) (t : Table) → Once is → All (Gives z t) is → length (applyAll now is t .1) ≡ given f z is
-  unfolding given
+  counted : (z : Bool) (is : List ℕ) (t : Table) → Once is → All (Gives z t) is → length (applyAll now is t .1) ≡ recordsGiven f z is
+  unfolding recordsGiven
   counted z [] t o g = refl
   counted z (i ∷ is) t o g =
       length-append (applyPending (t .settings .bucket) now (t .buckets i) .1) (applyAll now is (visitOne now i t) .1)
@@ -60,7 +60,7 @@ module _ (now : ℕ) (f : ℕ → ℕ) where
 
 -- the dry run counts what the visit gives
 pub given-is : (now n : ℕ) (is : List ℕ) (t : Table) → Once is
-    → given (records now t) false (visited (held now t) n is) ≡ length (visitAll now n is t .1)
+    → recordsGiven (records now t) false (visited (held now t) n is) ≡ length (visitAll now n is t .1)
 unfolding visitAll
 given-is now n is t o =
     let js : List ℕ = visited (held now t) n is in
@@ -68,24 +68,24 @@ given-is now n is t o =
 
 -- one step of the dry run
 module _ (f size : ℕ → ℕ) (z : Bool) where
-  pub given-end : (n : ℕ) → given f z (visited size n []) ≡ 0
-  unfolding given visited
+  pub given-end : (n : ℕ) → recordsGiven f z (visited size n []) ≡ 0
+  unfolding recordsGiven visited
   given-end n = refl
 
-  pub given-none : (is : List ℕ) → given f z (visited size 0 is) ≡ 0
-  unfolding given
+  pub given-none : (is : List ℕ) → recordsGiven f z (visited size 0 is) ≡ 0
+  unfolding recordsGiven
   given-none is = rw (visited-none size is)
 
   pub given-next : (n i : ℕ) (is : List ℕ) → 0 < n
-      → given f z (visited size n (i ∷ is)) ≡ cond (z && eqb i 0) 0 (f i) + given f (z || eqb i 0) (visited size (n - size i) is)
-  unfolding given
-  given-next n i is h = ap (given f z) (visited-next size n i is h)
+      → recordsGiven f z (visited size n (i ∷ is)) ≡ cond (z && eqb i 0) 0 (f i) + recordsGiven f (z || eqb i 0) (visited size (n - size i) is)
+  unfolding recordsGiven
+  given-next n i is h = ap (recordsGiven f z) (visited-next size n i is h)
 
 -- the dry run on its way: what it has counted, and the rest, are what the visit gives
 pub record Counting (now n : ℕ) (is : List ℕ) (t : Table) (c : Counted) (rest : List ℕ) : Type 0 where
   pub below : All (λ (i : ℕ). i < numBuckets) rest
   pub short : c .records + length rest ≤ numBuckets + numBuckets
-  pub total : c .records + given (records now t) (c .zero) (visited (held now t) (c .left) rest) ≡ length (visitAll now n is t .1)
+  pub total : c .records + recordsGiven (records now t) (c .zero) (visited (held now t) (c .left) rest) ≡ length (visitAll now n is t .1)
 
 module _ (now n : ℕ) (is : List ℕ) (t : Table) where
   pub counting-starts : Visitable is → (c : Counted) → c .left ≡ n → c .zero ≡ false → c .records ≡ 0 → Counting now n is t c is
@@ -109,14 +109,14 @@ module _ (now n : ℕ) (is : List ℕ) (t : Table) where
     pub counting-ends : (rest : List ℕ) → rest ≡ [] → Counting now n is t c rest → c .records ≡ length (visitAll now n is t .1)
     counting-ends rest e w =
         let p = w .total in
-        let q : given (records now t) (c .zero) (visited (held now t) (c .left) rest) ≡ 0 = rw e (given-end (records now t) (held now t) (c .zero) (c .left)) in
+        let q : recordsGiven (records now t) (c .zero) (visited (held now t) (c .left) rest) ≡ 0 = rw e (given-end (records now t) (held now t) (c .zero) (c .left)) in
         omega arith
 
     pub counting-full : (rest : List ℕ) → c .left ≤ 0 → Counting now n is t c rest → c .records ≡ length (visitAll now n is t .1)
     counting-full rest h w =
         let p = w .total in
         let e : c .left ≡ 0 = omega arith in
-        let q : given (records now t) (c .zero) (visited (held now t) (c .left) rest) ≡ 0 = rw e (given-none (records now t) (held now t) (c .zero) rest) in
+        let q : recordsGiven (records now t) (c .zero) (visited (held now t) (c .left) rest) ≡ 0 = rw e (given-none (records now t) (held now t) (c .zero) rest) in
         omega arith
 
 -- what one bucket adds

@@ -23,10 +23,10 @@ use Rattle.laws.proofs.Frame.{write-other}
 use Rattle.laws.proofs.KeepStep.{endless, with-queue, applyAll-fits}
 use Rattle.laws.proofs.TableBytes.{length-bytesOf, bytes-bytesOf, table-there, formed-there, table-back, fits-back}
 use Rattle.laws.proofs.Restore.{restore-is}
-use Rattle.asked.specs.Answers.{Timely, roomFor, rewritten}
-use Rattle.asked.specs.Answers.{isDue}
+use Rattle.on_key.specs.Answers.{Timely, roomFor, rewritten}
+use Rattle.on_key.specs.Answers.{isDue}
 use Rattle.visit.specs.Passes.{held, visitOne, visitAll}
-use Rattle.asked.proofs.Due.{not-due}
+use Rattle.on_key.proofs.Due.{not-due}
 
 pub not-zero : {m k : ℕ} → m < k → 0 < k
 not-zero h = omega arith

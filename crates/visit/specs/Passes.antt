@@ -27,9 +27,9 @@ pub record GivenAt (now : ℕ) (t : Table) (i : ℕ) (g : Given) : Type 0 where
   pub one : g .records ≤ 1
 
 -- the records that the buckets give, each by itself; bucket 0 gives none the second time
-unfoldable pub given : (ℕ → ℕ) → Bool → List ℕ → ℕ
-given f seen [] = 0
-given f seen (i ∷ is) = cond (seen && eqb i 0) 0 (f i) + given f (seen || eqb i 0) is
+unfoldable pub recordsGiven : (ℕ → ℕ) → Bool → List ℕ → ℕ
+recordsGiven f seen [] = 0
+recordsGiven f seen (i ∷ is) = cond (seen && eqb i 0) 0 (f i) + recordsGiven f (seen || eqb i 0) is
 
 -- one bucket further
 pub record CountedAt (now : ℕ) (t : Table) (i : ℕ) (before after : Counted) : Type 0 where

@@ -11,7 +11,7 @@ ghost use Rattle.model.specs.Sizes.{storageSize};
 ghost use Rattle.model.specs.Layout.{tableOf, bytesOf};
 ghost use Rattle.model.specs.Formed.{formed};
 ghost use Rattle.key.specs.Visits.{remaining};
-ghost use Rattle.asked.specs.Answers.{Ready, Timely};
+ghost use Rattle.on_key.specs.Answers.{Ready, Timely};
 ghost use Rattle.visit.specs.Passes.{GivenAt, CountedAt, visitOne, visitAll, Visitable};
 use key::BucketIndex;
 use key::ClosestBucketsIter;
@@ -53,7 +53,7 @@ fn held_at(s: &[u8], i: usize) -> usize
     requires { ⌜ (length (now s) ≡ storageSize) × (i < numBuckets) ⌝ }
     ensures { λ r. ⌜ r ≡ numEntries (tableOf (now (s .entry)) .buckets i) ⌝ }
 {
-    formed::size(s[Layout::HEADER + i * Layout::BUCKET])
+    well_formed::size(s[Layout::HEADER + i * Layout::BUCKET])
 }
 
 // Internal: what bucket i gives, without writing it.
@@ -62,18 +62,18 @@ pub fn given_at(s: &[u8], i: usize, time: u64) -> Given
     requires { ⌜ Timely (now s) time ⌝ }
     ensures { λ r. ⌜ GivenAt time (tableOf (now (s .entry))) i r ⌝ }
 {
-    if !asked::is_due(s, i, time) {
+    if !on_key::is_due(s, i, time) {
         return Given {
             count: held_at(s, i),
             records: 0,
         };
     }
-    let a = asked::apply_at(s, i, time);
+    let a = on_key::apply_at(s, i, time);
     let b = a.bucket;
     let applied = a.applied;
     Given {
         count: b.count,
-        records: asked::count_of(applied),
+        records: on_key::count_of(applied),
     }
 }
 
@@ -151,13 +151,14 @@ pub fn apply_in(s: &mut [u8], i: usize, time: u64)
     requires { ⌜ Ready (now s) i ⌝ }
     requires { ⌜ Timely (now s) time ⌝ }
     requires { ⌜ length (visitOne time i (tableOf (now s)) .queue) ≤ maxRecords ⌝ }
+    requires { ⌜ formed (now s) ≡ true ⌝ }
     ensures { λ _. ⌜ now (s .exit) ≡ bytesOf (visitOne time i (tableOf (now (s .entry)))) ⌝ }
 {
-    if asked::is_due(s, i, time) {
-        let a = asked::apply_at(s, i, time);
+    if on_key::is_due(s, i, time) {
+        let a = on_key::apply_at(s, i, time);
         let applied = a.applied;
         let b = a.bucket;
-        asked::write_back(s, i, applied, b);
+        on_key::write_back(s, i, applied, b);
     }
 }
 

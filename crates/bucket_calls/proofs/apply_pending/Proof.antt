@@ -5,10 +5,10 @@ use Prim.Native.Nat.{ℕ}
 use native.Mathlib.Omega.{arith}
 use Rattle.model.specs.Base.{first}
 use Rattle.model.specs.Bucket as rules
-use Rattle.asked.proofs.Questions.{refusal-none, refusal-some}
-use Rattle.asked.proofs.Steps.{stepped}
-use Rattle.bucket_bytes.specs.Lent.{lentSettings, lentBucket}
-use Rattle.bucket_bytes.proofs.Questions.{passed-lent, timely}
+use Rattle.on_key.proofs.Questions.{refusal-none, refusal-some}
+use Rattle.on_key.proofs.Steps.{stepped}
+use Rattle.bucket_calls.specs.Lent.{lentSettings, lentBucket}
+use Rattle.bucket_calls.proofs.Questions.{passed-lent, timely}
 use Rattle.bucket_calls.specs.Calls.{BucketCall}
 use Rattle.bucket_calls.proofs.Outcome.{apply-is, refused-by, done, early, short, roomy}
 use mathlib.Core.Path.{ap}

@@ -7,10 +7,10 @@ use native.Mathlib.Omega.{arith}
 use lib.Dec.{leb}
 use borrow.Author.Tests.{leb-true}
 use Rattle.model.specs.Bucket as rules
-use Rattle.asked.proofs.Questions.{refusal-none, refusal-some}
-use Rattle.asked.proofs.Steps.{stepped}
-use Rattle.bucket_bytes.specs.Lent.{lentBucket}
-use Rattle.bucket_bytes.proofs.Questions.{passed-lent}
+use Rattle.on_key.proofs.Questions.{refusal-none, refusal-some}
+use Rattle.on_key.proofs.Steps.{stepped}
+use Rattle.bucket_calls.specs.Lent.{lentBucket}
+use Rattle.bucket_calls.proofs.Questions.{passed-lent}
 use Rattle.bucket_calls.specs.Calls.{BucketCall}
 use Rattle.bucket_calls.proofs.Outcome.{pending-is, left, nothing, plain, refused-by, done}
 use Rattle.model.specs.Call.{isOne}

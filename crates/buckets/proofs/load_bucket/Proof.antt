@@ -32,7 +32,7 @@ load-at-requires c κs =
     let a = st .args in
     let e = c .before .size .ensures in
     let t = settings-sound (a .s .now) (st .pre .1 .0) in
-    (omega arith, (ap (λ (m : ℕ). soundBytes m (bucketPart (a .s .now) (a .i))) e ∙ bucket-sound (a .s .now) (st .pre .1 .0) (a .i) (st .pre .1 .1), (omega (arith, t .0, e), t .1)))
+    (omega arith, (ap (λ (m : ℕ). soundBytes m (bucketPart (a .s .now) (a .i))) e ∙ bucket-sound (a .s .now) (a .i) (st .pre .1 .1 .1), (omega (arith, t .0, e), t .1)))
 
 returns : tie.Need-returns
 returns c =

@@ -1,64 +1,70 @@
-use mathlib.Core.Path.{refl, sym, ap, _∙_}
-use mathlib.Core.Bool.{_&&_}
-use mathlib.Core.List.{[]}
-use mathlib.Core.Option.{none}
 use Prim.Native.Nat.{ℕ}
+use mathlib.Core.Path.{_≡_, refl, sym, ap, _∙_}
+use mathlib.Core.Bool.{Bool, _&&_}
+use mathlib.Core.List.{List}
+use mathlib.Core.Option.{none}
 use lib.Dec.{leb}
 use borrow.Author.Tests.{leb-true, not-true, not-false}
 use Rattle.model.specs.Bucket as rules
-use Rattle.model.specs.Table.{Answer, kindOf}
-use Rattle.model.specs.Call.{isOne, optional}
-use Rattle.model.specs.Question.{isPresent}
+use Rattle.model.specs.Table.{Answer}
+use Rattle.model.specs.Call.{KeyCall, isOne, optional}
+use Rattle.model.specs.Question.{isPresent, kindOfKey}
 use Rattle.model.specs.Layout.{tableOf}
 use Rattle.laws.proofs.Tests.{and-left, and-right}
-use Rattle.key.specs.Key.{num}
-use Rattle.bucket.specs.Bucket.{bucketOf}
-use Rattle.asked.proofs.Questions.{refusal-none, refusal-some, passed-five}
-use Rattle.asked.proofs.OneKey.{refused-early, refused-kind, answers-in, in-done}
-use Rattle.asked.proofs.Steps.{index-told, ready, stepped}
-use Rattle.asked.proofs.Calls.{presentUpdate-is}
+use Rattle.on_key.specs.Start.{AtBucket}
+use Rattle.on_key.proofs.Questions.{passed-five}
+use Rattle.on_key.proofs.OneKey.{refused-early, refused-kind}
+use Rattle.on_key.proofs.Steps.{begun, stepped}
+use Rattle.on_key.proofs.Ended.{ends-full, ends}
+use Rattle.entry.proofs.Kind.{kind-self, kind-told}
 use borrow.Author.Needs.{needs}
-use Rattle.entry.proofs.Kind.{asked-key, asked-size, kind-self, kind-at, room-for-none}
 use Rattle.entry.proofs.present_update.Statement.{statement}
 use Rattle.entry.proofs.present_update.Tie as tie
 
-asked-requires : tie.Need-asked-requires
-asked-requires c κs = search needs
+-- the call's arguments
+module _ (b : tie.After-begin) where
+  abbrev o : tie.Start
+  o = b .before .before .before .before
 
-same-length : tie.Need-same-length
-same-length c = search needs
+  abbrev s : List ℕ
+  s = o .args .s .now
 
-returns : tie.Need-returns
-returns c =
-    let i = c .before in
-    let o = i .before .before .before .before in
-    let s = o .args .s .now in
-    refused-early s (presentUpdate-is (tableOf s) (o .args .key .now) (o .args .state) (o .args .direction)) _ (refusal-some _ (i .asked .ensures) (c .if1 .taken))
+  abbrev key : List ℕ
+  key = o .args .key .now
 
-key-of-requires : tie.Need-key-of-requires
-key-of-requires c κs = search asked-key
+  abbrev state : ℕ
+  state = o .args .state
 
-index-of-requires : tie.Need-index-of-requires
-index-of-requires c κs = search asked-size
+  abbrev direction : ℕ
+  direction = o .args .direction
+
+  abbrev codes : Bool
+  codes = leb state 1 && leb direction 2
+
+begin-requires : tie.Need-begin-requires
+begin-requires c κs = search needs
+
+enum-known-start : tie.Need-enum-known-start
+enum-known-start c = search needs
 
 enum-told : tie.Need-enum-told
 enum-told c = search needs
 
-enum-known-index : tie.Need-enum-known-index
-enum-known-index c = search needs
+enum-known-start-2 : tie.Need-enum-known-start-2
+enum-known-start-2 c = search needs
+
+-- at the key's bucket
+module _ (k : tie.After-start2) where
+  abbrev began : tie.After-begin
+  began = k .before .before
+
+  at : AtBucket (s began) (key began) (codes began) none (k .start2 .given .0 .0) (k .start2 .given .0 .1 .0)
+  at = begun (s began) (key began) none refl (began .begin .ensures) (k .start2 .given .1)
 
 load-bucket-requires : tie.Need-load-bucket-requires
 load-bucket-requires c κs =
-    let n = c .before .before in
-    let x = n .before .before in
-    let g = x .before .before in
-    let e = g .before in
-    let i = e .before in
-    let o = i .before .before .before .before in
-    let s = o .args .s .now in
-    let key = o .args .key .now in
-    let r = ready s key (leb (o .args .state) 1 && leb (o .args .direction) 2) none (refusal-none _ (i .asked .ensures) (e .if1 .left)) _ (index-told s key (g .key-of .ensures) (x .index-of .ensures) (n .index .given .1)) in
-    (r .size, (r .formed, r .below))
+    let r = at (c .before .before) .ready in
+    (r .size, (r .header, (r .below, r .bucket)))
 
 kind-of-requires : tie.Need-kind-of-requires
 kind-of-requires c κs = c .load-bucket .ensures .sound
@@ -66,121 +72,99 @@ kind-of-requires c κs = c .load-bucket .ensures .sound
 is-present-requires : tie.Need-is-present-requires
 is-present-requires c κs = search needs
 
+-- the kind as it was tested
+tested : (h : tie.After-is-present) → isPresent (kindOfKey (key (began (h .before .before .before .before .before))) (tableOf (s (began (h .before .before .before .before .before))))) ≡ h .is-present .result
+tested h =
+    let l = h .before .before in
+    ap isPresent (kind-told (at (l .before .before .before)) (l .load-bucket .ensures) (h .before .kind-of .ensures .0)) ∙ sym (h .is-present .ensures)
+
+same-length : tie.Need-same-length
+same-length c = search needs
+
+returns : tie.Need-returns
+returns c =
+    let h = c .before in
+    let k = h .before .before .before .before .before in
+    let b = began k in
+    refused-kind (s b) (key b) (KeyCall.presentUpdate (state b) (direction b)) (at k .passed) (tested h ∙ not-true _ (c .if1 .taken))
+
+update-status-sound-requires : tie.Need-update-status-sound-requires
+update-status-sound-requires c κs =
+    let l = c .before .before .before in
+    let k = l .before .before .before in
+    let b = began k in
+    let p = passed-five (s b) (key b) (codes b) none (at k .passed) .in-range in
+    (l .load-bucket .ensures .sound, (leb-true (state b) 1 (and-left (leb (state b) 1) (leb (direction b) 2) p), leb-true (direction b) 2 (and-right (leb (state b) 1) (leb (direction b) 2) p)))
+
+finish-requires : tie.Need-finish-requires
+finish-requires c κs =
+    let m = c .before .before in
+    (at (m .before .before .before .before .before .before .before) .ready, (refl, search (m .update-status-sound .ensures .1)))
+
 same-length-2 : tie.Need-same-length-2
 same-length-2 c = search needs
 
 returns-2 : tie.Need-returns-2
 returns-2 c =
-    let h = c .before in
-    let f = h .before in
-    let l = f .before in
-    let n = l .before .before .before in
-    let x = n .before .before in
-    let g = x .before .before in
-    let e = g .before in
-    let i = e .before in
-    let y = i .before .before .before in
-    let o = y .before in
-    let s = o .args .s .now in
-    let key = o .args .key .now in
-    let p = refusal-none _ (i .asked .ensures) (e .if1 .left) in
-    let j = index-told s key (g .key-of .ensures) (x .index-of .ensures) (n .index .given .1) in
-    let kind = f .kind-of .ensures .0 ∙ ap (kindOf (num (g .key-of .result))) (l .load-bucket .ensures .bucket) ∙ ap (λ (a : ℕ). kindOf a (tableOf s .buckets (n .index .given .0 .0))) (g .key-of .ensures) ∙ sym (kind-at s key _ j) in
-    refused-kind s (presentUpdate-is (tableOf s) key (o .args .state) (o .args .direction)) p (ap isPresent (sym kind) ∙ sym (h .is-present .ensures) ∙ not-true _ (c .if2 .taken))
-
-update-status-sound-requires : tie.Need-update-status-sound-requires
-update-status-sound-requires c κs =
-    let h = c .before in
-    let l = h .before .before in
-    let e = l .before .before .before .before .before .before .before .before in
-    let i = e .before in
-    let o = i .before .before .before .before in
-    let q = passed-five (o .args .s .now) (o .args .key .now) (leb (o .args .state) 1 && leb (o .args .direction) 2) none (refusal-none _ (i .asked .ensures) (e .if1 .left)) .in-range in
-    (l .load-bucket .ensures .sound, (leb-true (o .args .state) 1 (and-left (leb (o .args .state) 1) (leb (o .args .direction) 2) q), leb-true (o .args .direction) 2 (and-right (leb (o .args .state) 1) (leb (o .args .direction) 2) q)))
-
-write-back-requires : tie.Need-write-back-requires
-write-back-requires c κs =
-    let m = c .before .before in
-    let h = m .before .before in
-    let f = h .before in
-    let l = f .before in
-    let n = l .before .before .before in
-    let x = n .before .before in
-    let g = x .before .before in
-    let e = g .before in
-    let i = e .before in
-    let y = i .before .before .before in
-    let o = y .before in
-    let s = o .args .s .now in
-    let key = o .args .key .now in
-    let p = refusal-none _ (i .asked .ensures) (e .if1 .left) in
-    let j = index-told s key (g .key-of .ensures) (x .index-of .ensures) (n .index .given .1) in
-    let r = ready s key (leb (o .args .state) 1 && leb (o .args .direction) 2) none p _ j in
-    (r, (room-for-none s (λ b. y .slice-known .given b .fits) (r .size) (r .formed), (refl, search (m .update-status-sound .ensures .1))))
+    let f = c .before .before .before in
+    let e = f .before .before .before .before in
+    let h = e .before in
+    let k = h .before .before .before .before .before in
+    let b = began k in
+    ends-full (s b) (key b) (KeyCall.presentUpdate (state b) (direction b)) (at k) (tested h ∙ not-false _ (e .if1 .left)) _ (f .finish .ensures) refl (c .if2 .taken)
 
 same-length-3 : tie.Need-same-length-3
 same-length-3 c = search needs
 
 returns-3 : tie.Need-returns-3
 returns-3 c =
-    let x = c .before .before in
-    let g = x .before .before in
-    let e = g .before in
-    let i = e .before in
-    let o = i .before .before .before .before in
-    let s = o .args .s .now in
-    let key = o .args .key .now in
-    let p = refusal-none _ (i .asked .ensures) (e .if1 .left) in
-    let j = index-told s key (g .key-of .ensures) (x .index-of .ensures) (c .enum-told .given .1) in
-    refused-kind s (presentUpdate-is (tableOf s) key (o .args .state) (o .args .direction)) p (ap isPresent (kind-self s key j))
+    let b = c .before .before .before in
+    refused-early (s b) (key b) (KeyCall.presentUpdate (state b) (direction b)) _ (begun (s b) (key b) none refl (b .begin .ensures) (c .before .start .given .1))
 
 same-length-4 : tie.Need-same-length-4
 same-length-4 c = search needs
 
 returns-4 : tie.Need-returns-4
 returns-4 c =
-    let v = c .before .before in
-    let m = v .before .before .before in
-    let w = m .before in
-    let h = w .before in
-    let f = h .before in
-    let l = f .before in
-    let n = l .before .before .before in
-    let x = n .before .before in
-    let g = x .before .before in
-    let e = g .before in
-    let i = e .before in
-    let y = i .before .before .before in
-    let o = y .before in
-    let s = o .args .s .now in
-    let key = o .args .key .now in
-    let p = refusal-none _ (i .asked .ensures) (e .if1 .left) in
-    let j = index-told s key (g .key-of .ensures) (x .index-of .ensures) (n .index .given .1) in
-    let kind = f .kind-of .ensures .0 ∙ ap (kindOf (num (g .key-of .result))) (l .load-bucket .ensures .bucket) ∙ ap (λ (a : ℕ). kindOf a (tableOf s .buckets (n .index .given .0 .0))) (g .key-of .ensures) ∙ sym (kind-at s key _ j) in
-    let r = ready s key (leb (o .args .state) 1 && leb (o .args .direction) 2) none p _ j in
-    let z = stepped (l .load-bucket .ensures) (λ (u : rules.BucketSettings) (j : ℕ) (b : rules.Bucket). rules.updateStatus u j (isOne (o .args .state)) (optional (o .args .direction)) b) (g .key-of .ensures) (m .update-status-sound .ensures .0) (m .update-status-sound .ensures .1) in
-    answers-in s (presentUpdate-is (tableOf s) key (o .args .state) (o .args .direction)) p (ap isPresent (sym kind) ∙ sym (h .is-present .ensures) ∙ not-false _ (w .if2 .left)) _ j
-    (in-done s _ _ _ _ (bucketOf (m .update-status-sound .result .bucket)) [] (room-for-none s (λ b. y .slice-known .given b .fits) (r .size) (r .formed)) (v .write-back .ensures) (ap Answer.Update (z .answer)) (z .bucket) refl)
+    let b = c .before .before in
+    let y = begun (s b) (key b) none refl (b .begin .ensures) (c .enum-told .given .1) in
+    refused-kind (s b) (key b) (KeyCall.presentUpdate (state b) (direction b)) (y .0) (ap isPresent (kind-self (s b) (key b) (y .1)))
+
+same-length-5 : tie.Need-same-length-5
+same-length-5 c = search needs
+
+returns-5 : tie.Need-returns-5
+returns-5 c =
+    let f = c .before .before .before in
+    let m = f .before .before .before in
+    let e = m .before in
+    let h = e .before in
+    let l = h .before .before in
+    let k = l .before .before .before in
+    let b = began k in
+    let z = stepped (l .load-bucket .ensures) (λ (u : rules.BucketSettings) (n : ℕ) (x : rules.Bucket). rules.updateStatus u n (isOne (state b)) (optional (direction b)) x) (at k .key-is) (m .update-status-sound .ensures .0) (m .update-status-sound .ensures .1) in
+    ends (s b) (key b) (KeyCall.presentUpdate (state b) (direction b)) (at k) (tested h ∙ not-false _ (e .if1 .left)) _ (f .finish .ensures) refl (c .if2 .left) (ap Answer.Update (z .answer)) (z .bucket)
 
 pub present-update-spec : {M : Type 1} → statement M
 present-update-spec =
     tie.close
     (tie.spec
-    asked-requires
-    same-length
-    returns
-    key-of-requires
-    index-of-requires
+    begin-requires
+    enum-known-start
     enum-told
-    enum-known-index
+    enum-known-start-2
     load-bucket-requires
     kind-of-requires
     is-present-requires
+    same-length
+    returns
+    update-status-sound-requires
+    finish-requires
     same-length-2
     returns-2
-    update-status-sound-requires
-    write-back-requires
     same-length-3
     returns-3
     same-length-4
-    returns-4)
+    returns-4
+    same-length-5
+    returns-5)

@@ -1,5 +1,5 @@
 use Rattle.model.specs.Call.{Listing}
-use Rattle.answers.proofs.Thin.{few, listed}
+use Rattle.codes.proofs.Thin.{few, listed}
 use borrow.Author.Needs.{needs}
 use Rattle.kbuckets.proofs.kbuckets_closest_values.Statement.{statement}
 use Rattle.kbuckets.proofs.kbuckets_closest_values.Tie as tie

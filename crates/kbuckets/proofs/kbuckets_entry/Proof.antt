@@ -1,5 +1,5 @@
-use Rattle.model.specs.Call.{Call}
-use Rattle.answers.proofs.Thin.{thin}
+use Rattle.model.specs.Call.{Call, KeyCall}
+use Rattle.codes.proofs.Thin.{thin}
 use borrow.Author.Needs.{needs}
 use Rattle.kbuckets.proofs.kbuckets_entry.Statement.{statement}
 use Rattle.kbuckets.proofs.kbuckets_entry.Tie as tie
@@ -17,7 +17,7 @@ returns : tie.Need-returns
 returns c =
     let x = c .before .before .before in
     let a = x .before .before .before .before .args in
-    thin (Call.entry (a .key .now) (a .time)) (a .storage .now) (x .entry .ensures .0) (c .entry-code .ensures)
+    thin (Call.onKey (a .key .now) (KeyCall.entry (a .time))) (a .storage .now) (x .entry .ensures .0) (c .entry-code .ensures)
 
 pub kbuckets-entry-spec : {M : Type 1} → statement M
 kbuckets-entry-spec = tie.close (tie.spec entry-requires entry-code-requires same-length returns)

@@ -1,5 +1,5 @@
 use Rattle.model.specs.Call.{Listing}
-use Rattle.answers.proofs.Thin.{few, listed}
+use Rattle.codes.proofs.Thin.{few, listed}
 use borrow.Author.Needs.{needs}
 use Rattle.kbuckets.proofs.kbuckets_iter.Statement.{statement}
 use Rattle.kbuckets.proofs.kbuckets_iter.Tie as tie

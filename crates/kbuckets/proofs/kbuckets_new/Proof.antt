@@ -1,5 +1,5 @@
 use Rattle.model.specs.Call.{Call}
-use Rattle.answers.proofs.Thin.{thin}
+use Rattle.codes.proofs.Thin.{thin}
 use borrow.Author.Needs.{needs}
 use Rattle.kbuckets.proofs.kbuckets_new.Statement.{statement}
 use Rattle.kbuckets.proofs.kbuckets_new.Tie as tie

@@ -1,5 +1,5 @@
-use Rattle.model.specs.Call.{Call}
-use Rattle.answers.proofs.Thin.{thin}
+use Rattle.model.specs.Call.{Call, KeyCall}
+use Rattle.codes.proofs.Thin.{thin}
 use borrow.Author.Needs.{needs}
 use Rattle.kbuckets.proofs.kbuckets_present_update.Statement.{statement}
 use Rattle.kbuckets.proofs.kbuckets_present_update.Tie as tie
@@ -17,7 +17,7 @@ returns : tie.Need-returns
 returns c =
     let x = c .before .before .before in
     let a = x .before .before .before .before .args in
-    thin (Call.presentUpdate (a .key .now) (a .state) (a .direction)) (a .storage .now) (x .present-update .ensures) (c .update-code .ensures)
+    thin (Call.onKey (a .key .now) (KeyCall.presentUpdate (a .state) (a .direction))) (a .storage .now) (x .present-update .ensures) (c .update-code .ensures)
 
 pub kbuckets-present-update-spec : {M : Type 1} → statement M
 kbuckets-present-update-spec =

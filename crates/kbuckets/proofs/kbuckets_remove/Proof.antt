@@ -1,5 +1,5 @@
-use Rattle.model.specs.Call.{Call}
-use Rattle.answers.proofs.Thin.{thin}
+use Rattle.model.specs.Call.{Call, KeyCall}
+use Rattle.codes.proofs.Thin.{thin}
 use borrow.Author.Needs.{needs}
 use Rattle.kbuckets.proofs.kbuckets_remove.Statement.{statement}
 use Rattle.kbuckets.proofs.kbuckets_remove.Tie as tie
@@ -17,7 +17,7 @@ returns : tie.Need-returns
 returns c =
     let x = c .before .before .before in
     let a = x .before .before .before .before .args in
-    thin (Call.remove (a .key .now) (a .time)) (a .storage .now) (x .remove .ensures) (c .remove-code .ensures)
+    thin (Call.onKey (a .key .now) (KeyCall.remove (a .time))) (a .storage .now) (x .remove .ensures) (c .remove-code .ensures)
 
 pub kbuckets-remove-spec : {M : Type 1} → statement M
 kbuckets-remove-spec =

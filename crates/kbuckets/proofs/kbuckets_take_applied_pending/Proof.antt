@@ -1,5 +1,5 @@
 use Rattle.model.specs.Call.{Call}
-use Rattle.answers.proofs.Thin.{carries, too-short, take-asked}
+use Rattle.codes.proofs.Thin.{carries, too-short, take-asked}
 use borrow.Author.Needs.{needs}
 use Rattle.kbuckets.proofs.kbuckets_take_applied_pending.Statement.{statement}
 use Rattle.kbuckets.proofs.kbuckets_take_applied_pending.Tie as tie

@@ -1,5 +1,5 @@
-use Rattle.model.specs.Call.{Call}
-use Rattle.answers.proofs.Thin.{thin}
+use Rattle.model.specs.Call.{Call, KeyCall}
+use Rattle.codes.proofs.Thin.{thin}
 use borrow.Author.Needs.{needs}
 use Rattle.kbuckets.proofs.kbuckets_update_node_status.Statement.{statement}
 use Rattle.kbuckets.proofs.kbuckets_update_node_status.Tie as tie
@@ -17,7 +17,7 @@ returns : tie.Need-returns
 returns c =
     let x = c .before .before .before in
     let a = x .before .before .before .before .args in
-    thin (Call.updateNodeStatus (a .key .now) (a .state) (a .direction) (a .time)) (a .storage .now) (x .update-node-status .ensures) (c .update-code .ensures)
+    thin (Call.onKey (a .key .now) (KeyCall.updateNodeStatus (a .state) (a .direction) (a .time))) (a .storage .now) (x .update-node-status .ensures) (c .update-code .ensures)
 
 pub kbuckets-update-node-status-spec : {M : Type 1} → statement M
 kbuckets-update-node-status-spec =

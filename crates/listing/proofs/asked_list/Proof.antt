@@ -4,7 +4,7 @@ use Prim.Native.Nat.{ℕ, _*_}
 use lib.Dec.{leb}
 use borrow.Author.Tests.{not-true, not-false}
 use Rattle.model.specs.Question.{maxCount}
-use Rattle.asked.proofs.Questions.{refusal-none, passed-on}
+use Rattle.on_key.proofs.Questions.{refusal-none, passed-on}
 use Rattle.listing.proofs.Shapes.{size-most}
 use Rattle.listing.proofs.Steps.{six-early, six-room, six-none}
 use borrow.Author.Needs.{needs}

@@ -1,6 +1,6 @@
 use Rattle.model.specs.Layout.{tableOf}
-use Rattle.asked.proofs.Questions.{refusal-none, refusal-some}
-use Rattle.asked.proofs.Steps.{timely}
+use Rattle.on_key.proofs.Questions.{refusal-none, refusal-some}
+use Rattle.on_key.proofs.Steps.{timely}
 use Rattle.listing.proofs.Shapes.{visitable-by}
 use Rattle.listing.proofs.Steps.{refused-list, five, five-passed, room-passed, listed-is}
 use borrow.Author.Needs.{needs}

@@ -6,6 +6,7 @@ use Rattle.model.specs.Table.{numBuckets}
 use Rattle.model.specs.Layout.{tableOf}
 use Rattle.model.specs.Fits.{All}
 use Rattle.key.specs.Visits.{remaining}
+use Rattle.on_key.proofs.Steps.{ready-at}
 use Rattle.visit.proofs.Visitable.{step-at, step-end}
 use Rattle.listing.specs.Listed.{firstNodes}
 use Rattle.listing.proofs.Putting.{Putting, putting-starts, putting-next, putting-ends, putting-full}
@@ -52,7 +53,7 @@ put-bucket-requires c κs =
     let a = o .args in
     let e = step-at (x .next .ensures) (y .before .index .given .1) in
     let b = subst (All (λ (i : ℕ). i < numBuckets)) e (l .loop .inv .below) in
-    (record { size = o .pre .0 .0; formed = o .pre .0 .1; below = b .0 }, (o .pre .1 .1 .0, (l .loop .inv .within, (o .pre .1 .1 .1 .0, rw (l .loop .inv .size) (o .pre .1 .1 .1 .1)))))
+    (ready-at (a .s .now) _ (o .pre .0 .0) (o .pre .0 .1) (b .0), (o .pre .1 .1 .0, (l .loop .inv .within, (o .pre .1 .1 .1 .0, rw (l .loop .inv .size) (o .pre .1 .1 .1 .1)))))
 
 loop-less : tie.Need-loop-less Inv-loop μ-loop
 loop-less c =

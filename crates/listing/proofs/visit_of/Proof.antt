@@ -4,7 +4,7 @@ use borrow.Author.Tests.{ne-eqb}
 use Rattle.model.specs.Key.{distance}
 use Rattle.model.specs.Visit.{visits}
 use Rattle.key.specs.Key.{num}
-use Rattle.listing.specs.Listed.{orderBy}
+use Rattle.listing.specs.Listed.{visitOrderBy}
 use borrow.Author.Needs.{needs}
 use Rattle.listing.proofs.visit_of.Statement.{statement}
 use Rattle.listing.proofs.visit_of.Tie as tie
@@ -13,7 +13,7 @@ in-turn-requires : tie.Need-in-turn-requires
 in-turn-requires c κs = search needs
 
 returns : tie.Need-returns
-unfolding orderBy
+unfolding visitOrderBy
 returns c = let e = c .before .if1 .taken in c .in-turn .ensures ∙ (rw e)
 
 local-key-requires : tie.Need-local-key-requires
@@ -26,7 +26,7 @@ new-requires : tie.Need-new-requires
 new-requires c κs = search needs
 
 returns-2 : tie.Need-returns-2
-unfolding orderBy
+unfolding visitOrderBy
 returns-2 c =
     let d = c .before in
     let k = d .before .before in

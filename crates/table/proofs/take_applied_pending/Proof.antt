@@ -2,7 +2,7 @@ use mathlib.Core.Path.{refl}
 use borrow.Author.Needs.{needs}
 use Rattle.laws.proofs.TableBytes.{header-passes}
 use Rattle.bucket.specs.Calls.{recordsOf}
-use Rattle.asked.proofs.Questions.{refusal-none, refusal-some, passed-two}
+use Rattle.on_key.proofs.Questions.{refusal-none, refusal-some, passed-two}
 use Rattle.table.proofs.Whole.{take-refused, take-accepted}
 use Rattle.table.proofs.take_applied_pending.Statement.{statement}
 use Rattle.table.proofs.take_applied_pending.Tie as tie

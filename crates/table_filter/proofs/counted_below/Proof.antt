@@ -6,7 +6,7 @@ use Rattle.model.specs.Bytes.{part}
 use Rattle.model.specs.Sizes.{bucketSize}
 use Rattle.node.specs.Node.{valueOf}
 use Rattle.places.proofs.Laws.{flag≤1}
-use Rattle.formed.proofs.Places.{place-node}
+use Rattle.well_formed.proofs.Places.{place-node}
 use Rattle.table_filter.specs.Counted.{countedBelow}
 use Rattle.table_filter.proofs.Held.{counted-none, counted-place}
 use Rattle.table_filter.proofs.counted_below.Statement.{statement}

@@ -11,8 +11,8 @@ use Rattle.model.specs.Bytes.{part}
 use Rattle.model.specs.Bucket.{find}
 use Rattle.model.specs.Sizes.{bucketSize}
 use Rattle.key.specs.Key.{num}
-use Rattle.formed.specs.Tests.{nodeAt}
-use Rattle.formed.proofs.Places.{place-node}
+use Rattle.well_formed.specs.Tests.{nodeAt}
+use Rattle.well_formed.proofs.Places.{place-node}
 use Rattle.table_filter.proofs.Held.{find-more, find-first, get-at, value-at, key-at}
 use Rattle.table_filter.proofs.holds_value.Statement.{statement}
 use Rattle.table_filter.proofs.holds_value.Tie as tie

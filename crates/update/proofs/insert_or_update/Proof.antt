@@ -1,222 +1,179 @@
 use Prim.Native.Nat.{ℕ}
 use native.Mathlib.Omega.{arith}
-use mathlib.Core.Path.{_≡_, refl, sym, ap, _∙_}
+use mathlib.Core.Path.{_≡_, refl, ap, _∙_}
 use mathlib.Core.Bool.{Bool, true, _&&_}
 use mathlib.Core.List.{List}
-use mathlib.Core.Option.{none, some}
+use mathlib.Core.Option.{some}
 use lib.Dec.{leb}
-use borrow.Author.Tests.{not-true, not-false}
 use Rattle.model.specs.Bytes.{number}
 use Rattle.model.specs.Bucket as rules
-use Rattle.model.specs.Table.{Answer, failsTableFilter, insertOrUpdateIn, indexIn}
+use Rattle.model.specs.Table.{Answer, failsTableFilter, insertOrUpdateIn}
 use Rattle.model.specs.Layout.{tableOf}
-use Rattle.model.specs.Call.{ValueArgument, valueOf, isOne}
+use Rattle.model.specs.Call.{ValueArgument, KeyCall, valueOf, isOne}
 use Rattle.model.specs.Question.{valueInRange}
 use Rattle.laws.proofs.Tests.{and-turned}
 use Rattle.node.specs.Node.{argumentOf}
-use Rattle.bucket.specs.Bucket.{bucketOf}
-use Rattle.bucket.specs.Calls.{recordsOf}
-use Rattle.asked.specs.Answers.{failedOfFive, refusal, roomFor}
-use Rattle.asked.proofs.Questions.{refusal-none, refusal-some, passed-five}
-use Rattle.asked.proofs.OneKey.{refused-early, answers-self, answers-in, in-refused, in-done}
-use Rattle.asked.proofs.Steps.{index-told, key-length, ready, timely, stepped}
-use Rattle.asked.proofs.Calls.{insertOrUpdate-is}
+use Rattle.on_key.specs.Start.{AtBucket}
+use Rattle.on_key.proofs.Questions.{passed-five}
+use Rattle.on_key.proofs.OneKey.{refused-early, answers-self}
+use Rattle.on_key.proofs.Steps.{timely, begun, stepped}
+use Rattle.on_key.proofs.Ended.{ends-full, ends}
 use borrow.Author.Needs.{needs}
 use Rattle.update.proofs.insert_or_update.Statement.{statement}
 use Rattle.update.proofs.insert_or_update.Tie as tie
 
--- what the call is asked
-module _ (i : tie.After-asked-at) where
-  abbrev start : tie.Start
-  start = i .before .before .before .before .before
+-- the call's arguments
+module _ (b : tie.After-begin-at) where
+  abbrev o : tie.Start
+  o = b .before .before .before .before .before
 
   abbrev s : List ℕ
-  s = start .args .s .now
+  s = o .args .s .now
 
   abbrev key : List ℕ
-  key = start .args .key .now
+  key = o .args .key .now
 
   abbrev value : ValueArgument
-  value = argumentOf (start .args .value)
+  value = argumentOf (o .args .value)
 
   abbrev state : ℕ
-  state = start .args .state
+  state = o .args .state
 
   abbrev direction : ℕ
-  direction = start .args .direction
+  direction = o .args .direction
 
   abbrev time : ℕ
-  time = start .args .time
+  time = o .args .time
 
   abbrev codes : Bool
   codes = valueInRange value && (leb state 1 && leb direction 1)
 
-  -- what it does to the key's bucket, by the table filter's answer
+  -- the codes, as they were tested
+  told : (b .before .before .in-range .result && (leb state 1 && leb direction 1)) ≡ codes
+  told = ap (λ (q : Bool). q && (leb state 1 && leb direction 1)) (b .before .before .in-range .ensures)
+
+  -- what the call does to the key's bucket, by the table filter's answer
   abbrev does : Bool → rules.BucketSettings → ℕ → rules.Bucket → Answer × rules.Bucket
-  does fails u k b = insertOrUpdateIn u fails time (record { key = k; value = valueOf value; connected = isOne state; incoming = isOne direction }) b
-
-  told-five : failedOfFive key codes (some time) s ≡ refusal (i .asked-at .result)
-  told-five = ap (λ (b : Bool). failedOfFive key (b && (leb state 1 && leb direction 1)) (some time) s) (sym (i .before .before .in-range .ensures)) ∙ i .asked-at .ensures
-
-module _ (e : tie.Else1) where
-  passes : failedOfFive (key (e .before)) (codes (e .before)) (some (time (e .before))) (s (e .before)) ≡ none
-  passes = refusal-none _ (told-five (e .before)) (e .if1 .left)
-
-  known-codes : (leb (state (e .before)) 1 && (leb (direction (e .before)) 1 && valueInRange (value (e .before)))) ≡ true
-  known-codes =
-      let i = e .before in
-      and-turned (valueInRange (value i)) (leb (state i) 1) (leb (direction i) 1) (passed-five (s i) (key i) (codes i) (some (time i)) passes .in-range)
+  does fails u n x = insertOrUpdateIn u fails time (record { key = n; value = valueOf value; connected = isOne state; incoming = isOne direction }) x
 
 in-range-requires : tie.Need-in-range-requires
 in-range-requires c κs = search needs
 
-asked-at-requires : tie.Need-asked-at-requires
-asked-at-requires c κs = search needs
+begin-at-requires : tie.Need-begin-at-requires
+begin-at-requires c κs = search needs
+
+enum-known-start : tie.Need-enum-known-start
+enum-known-start c = search needs
+
+enum-told : tie.Need-enum-told
+enum-told c = search needs
+
+enum-known-start-2 : tie.Need-enum-known-start-2
+enum-known-start-2 c = search needs
+
+-- at the key's bucket
+module _ (k : tie.After-start2) where
+  abbrev began : tie.After-begin-at
+  began = k .before .before
+
+  at : AtBucket (s began) (key began) (codes began) (some (time began)) (k .start2 .given .0 .0) (k .start2 .given .0 .1 .0)
+  at = begun (s began) (key began) (some (time began)) (told began) (began .begin-at .ensures) (k .start2 .given .1)
+
+known-codes : (k : tie.After-start2) → (leb (state (began k)) 1 && (leb (direction (began k)) 1 && valueInRange (value (began k)))) ≡ true
+known-codes k =
+    let b = began k in
+    and-turned (valueInRange (value b)) (leb (state b) 1) (leb (direction b) 1) (passed-five (s b) (key b) (codes b) (some (time b)) (at k .passed) .in-range)
+
+table-filter-fails-requires : tie.Need-table-filter-fails-requires
+table-filter-fails-requires c κs =
+    let k = c .before .before in
+    let b = began k in
+    (at k .ready .size, passed-five (s b) (key b) (codes b) (some (time b)) (at k .passed) .formed, at k .ready .below)
+
+apply-at-requires : tie.Need-apply-at-requires
+apply-at-requires c κs =
+    let k = c .before .before .before .before in
+    let b = began k in
+    (at k .ready, timely (s b) (key b) (codes b) (time b) (at k .passed))
+
+insert-or-update-in-requires : tie.Need-insert-or-update-in-requires
+insert-or-update-in-requires c κs =
+    let a = c .before in
+    let k = a .before .before .before .before .before in
+    let b = began k in
+    let z = a .apply-at .ensures .bucket in
+    (z .sound, (known-codes k, omega (arith, ap (λ (u : rules.BucketSettings). u .pendingTimeout) (z .settings), timely (s b) (key b) (codes b) (time b) (at k .passed))))
+
+finish-requires : tie.Need-finish-requires
+finish-requires c κs =
+    let a = c .before .before .before .before in
+    (at (a .before .before .before .before .before) .ready, (a .apply-at .ensures .codes, search needs))
 
 same-length : tie.Need-same-length
 same-length c = search needs
 
 returns : tie.Need-returns
 returns c =
-    let i = c .before in
-    refused-early (s i) (insertOrUpdate-is (tableOf (s i)) (key i) (value i) (state i) (direction i) (time i)) _ (refusal-some _ (told-five i) (c .if1 .taken))
-
-key-of-requires : tie.Need-key-of-requires
-key-of-requires c κs = let i = c .before in key-length (s i) (key i) (codes i) (some (time i)) (passes c)
-
-index-of-requires : tie.Need-index-of-requires
-index-of-requires c κs =
-    let e = c .before .before in
-    let i = e .before in
-    passed-five (s i) (key i) (codes i) (some (time i)) (passes e) .size
-
-enum-told : tie.Need-enum-told
-enum-told c = search needs
-
-enum-known-index : tie.Need-enum-known-index
-enum-known-index c = search needs
-
--- the key's bucket
-module _ (n : tie.After-index) where
-  abbrev else : tie.Else1
-  else = n .before .before .before .before .before
-
-  abbrev asked : tie.After-asked-at
-  asked = else .before
-
-  abbrev index : ℕ
-  index = n .index .given .0 .0
-
-  index-is : indexIn (tableOf (s asked)) (number (key asked)) ≡ some index
-  index-is = index-told (s asked) (key asked) (n .before .before .before .before .key-of .ensures) (n .before .before .index-of .ensures) (n .index .given .1)
-
-table-filter-fails-requires : tie.Need-table-filter-fails-requires
-table-filter-fails-requires c κs =
-    let n = c .before .before in
-    let i = asked n in
-    let r = ready (s i) (key i) (codes i) (some (time i)) (passes (else n)) _ (index-is n) in
-    (r .size, r .formed, r .below)
-
-apply-at-requires : tie.Need-apply-at-requires
-apply-at-requires c κs =
-    let n = c .before .before .before .before in
-    let i = asked n in
-    (ready (s i) (key i) (codes i) (some (time i)) (passes (else n)) _ (index-is n), timely (s i) (key i) (codes i) (time i) (passes (else n)))
-
-has-room-requires : tie.Need-has-room-requires
-has-room-requires c κs =
-    let n = c .before .before .before .before .before .before in
-    let i = asked n in
-    let r = ready (s i) (key i) (codes i) (some (time i)) (passes (else n)) _ (index-is n) in
-    (r .size, r .formed)
+    let f = c .before .before .before in
+    let a = f .before .before .before .before .before in
+    let k = a .before .before .before .before .before in
+    let b = began k in
+    ends-full (s b) (key b) (KeyCall.insertOrUpdate (value b) (state b) (direction b) (time b)) (at k) refl _ (f .finish .ensures) (a .apply-at .ensures .records) (c .if1 .taken)
 
 same-length-2 : tie.Need-same-length-2
 same-length-2 c = search needs
 
 returns-2 : tie.Need-returns-2
 returns-2 c =
-    let h = c .before in
-    let a = h .before .before in
-    let n = a .before .before .before .before .before in
-    let i = asked n in
-    answers-in (s i) (insertOrUpdate-is (tableOf (s i)) (key i) (value i) (state i) (direction i) (time i)) (passes (else n)) refl _ (index-is n)
-    (in-refused (s i) _ _ (ap (roomFor (s i)) (sym (a .apply-at .ensures .records)) ∙ sym (h .has-room .ensures) ∙ not-true _ (c .if2 .taken)))
-
-insert-or-update-in-requires : tie.Need-insert-or-update-in-requires
-insert-or-update-in-requires c κs =
-    let a = c .before .before .before .before in
-    let n = a .before .before .before .before .before in
-    let i = asked n in
-    let y = a .apply-at .ensures .bucket in
-    let same-time = ap (λ (u : rules.BucketSettings). u .pendingTimeout) (y .settings) in
-    (y .sound, (known-codes (else n), omega (arith, same-time, timely (s i) (key i) (codes i) (time i) (passes (else n)))))
-
-write-back-requires : tie.Need-write-back-requires
-write-back-requires c κs =
-    let m = c .before .before in
-    let w = m .before .before in
-    let h = w .before in
-    let a = h .before .before in
-    let n = a .before .before .before .before .before in
-    let i = asked n in
-    (ready (s i) (key i) (codes i) (some (time i)) (passes (else n)) _ (index-is n), (sym (h .has-room .ensures) ∙ not-false _ (w .if2 .left), (a .apply-at .ensures .codes, search needs)))
+    let b = c .before .before .before in
+    refused-early (s b) (key b) (KeyCall.insertOrUpdate (value b) (state b) (direction b) (time b)) _ (begun (s b) (key b) (some (time b)) (told b) (b .begin-at .ensures) (c .before .start .given .1))
 
 same-length-3 : tie.Need-same-length-3
 same-length-3 c = search needs
 
 returns-3 : tie.Need-returns-3
 returns-3 c =
-    let x = c .before .before in
-    let e = x .before .before .before in
-    let i = e .before in
-    answers-self (s i) (insertOrUpdate-is (tableOf (s i)) (key i) (value i) (state i) (direction i) (time i)) (passes e) refl (λ b. i .before .before .before .before .slice-known .given b .fits)
-    (index-told (s i) (key i) (x .before .before .key-of .ensures) (x .index-of .ensures) (c .enum-told .given .1))
+    let b = c .before .before in
+    let y = begun (s b) (key b) (some (time b)) (told b) (b .begin-at .ensures) (c .enum-told .given .1) in
+    answers-self (s b) (key b) (KeyCall.insertOrUpdate (value b) (state b) (direction b) (time b)) (y .0) refl (λ j. b .before .before .before .before .slice-known .given j .fits) (y .1)
 
 same-length-4 : tie.Need-same-length-4
 same-length-4 c = search needs
 
 returns-4 : tie.Need-returns-4
 returns-4 c =
-    let v = c .before .before in
-    let m = v .before .before .before in
-    let w = m .before .before in
-    let h = w .before in
-    let a = h .before .before in
-    let f = a .before .before in
-    let n = f .before .before .before in
-    let g = n .before .before .before .before in
-    let i = asked n in
-    let y = a .apply-at .ensures in
-    let z = stepped (y .bucket) (does i (f .table-filter-fails .result)) (g .key-of .ensures) (m .insert-or-update-in .ensures .0) (m .insert-or-update-in .ensures .1) in
-    let t = tableOf (s i) in
-    let r = t .settings .bucket in
-    let l = rules.applyPending r (time i) (t .buckets (index n)) .0 in
-    let d = f .table-filter-fails .ensures ∙ ap (λ (k : ℕ). failsTableFilter t (index n) k (valueOf (value i))) (g .key-of .ensures) in
-    answers-in (s i) (insertOrUpdate-is t (key i) (value i) (state i) (direction i) (time i)) (passes (else n)) refl _ (index-is n)
-    (in-done (s i) _ _ _ _ (bucketOf (m .insert-or-update-in .result .bucket)) (recordsOf (a .apply-at .result .applied))
-    (sym (h .has-room .ensures) ∙ not-false _ (w .if2 .left)) (v .write-back .ensures)
-    (z .answer ∙ ap (λ (q : Bool). does i q r (number (key i)) l .0) d)
-    (z .bucket ∙ ap (λ (q : Bool). does i q r (number (key i)) l .1) d) (y .records))
+    let f = c .before .before .before in
+    let m = f .before .before .before in
+    let a = m .before .before in
+    let g = a .before .before in
+    let k = g .before .before .before in
+    let b = began k in
+    let t = tableOf (s b) in
+    let i = k .start2 .given .0 .1 .0 in
+    let x = rules.applyPending (t .settings .bucket) (time b) (t .buckets i) .0 in
+    let z = stepped (a .apply-at .ensures .bucket) (does b (g .table-filter-fails .result)) (at k .key-is) (m .insert-or-update-in .ensures .0) (m .insert-or-update-in .ensures .1) in
+    let d = g .table-filter-fails .ensures ∙ ap (λ (n : ℕ). failsTableFilter t i n (valueOf (value b))) (at k .key-is) in
+    ends (s b) (key b) (KeyCall.insertOrUpdate (value b) (state b) (direction b) (time b)) (at k) refl _ (f .finish .ensures) (a .apply-at .ensures .records) (c .if1 .left)
+    (z .answer ∙ ap (λ (q : Bool). does b q (t .settings .bucket) (number (key b)) x .0) d)
+    (z .bucket ∙ ap (λ (q : Bool). does b q (t .settings .bucket) (number (key b)) x .1) d)
 
 pub insert-or-update-spec : {M : Type 1} → statement M
 insert-or-update-spec =
     tie.close
     (tie.spec
     in-range-requires
-    asked-at-requires
-    same-length
-    returns
-    key-of-requires
-    index-of-requires
+    begin-at-requires
+    enum-known-start
     enum-told
-    enum-known-index
+    enum-known-start-2
     table-filter-fails-requires
     apply-at-requires
-    has-room-requires
+    insert-or-update-in-requires
+    finish-requires
+    same-length
+    returns
     same-length-2
     returns-2
-    insert-or-update-in-requires
-    write-back-requires
     same-length-3
     returns-3
     same-length-4

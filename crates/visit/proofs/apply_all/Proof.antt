@@ -4,6 +4,7 @@ use native.Mathlib.Omega.{arith}
 use lib.ListN.{length}
 use Rattle.model.specs.Layout.{tableOf}
 use Rattle.key.specs.Visits.{remaining}
+use Rattle.on_key.proofs.Steps.{ready-at}
 use Rattle.visit.proofs.Visitable.{step-at, step-end}
 use Rattle.visit.proofs.Passes.{not-zero, Visiting, visiting-starts, visiting-room, visiting-next, visiting-ends, visiting-full}
 use borrow.Author.Needs.{needs}
@@ -50,7 +51,7 @@ apply-in-requires c κs =
     let o = l .before .before in
     let e = step-at (x .next .ensures) (y .before .index .given .1) in
     let w = subst (Visiting (o .args .time) (o .args .n) (remaining (o .args .visit)) (tableOf (o .args .s .now)) (l .loop .s) (l .loop .left)) e (l .loop .inv) in
-    (record { size = w .size; formed = w .formed; below = w .below .0 }, (w .timely, visiting-room (o .args .time) (o .args .n) (remaining (o .args .visit)) (tableOf (o .args .s .now)) (o .pre .1 .1 .1) (l .loop .s) (l .loop .left) _ _ (not-zero (x .before .loop-test .taken)) w))
+    (ready-at _ _ (w .size) (w .formed) (w .below .0), (w .timely, (visiting-room (o .args .time) (o .args .n) (remaining (o .args .visit)) (tableOf (o .args .s .now)) (o .pre .1 .1 .1) (l .loop .s) (l .loop .left) _ _ (not-zero (x .before .loop-test .taken)) w, w .formed)))
 
 held-at-requires : tie.Need-held-at-requires Inv-loop μ-loop
 held-at-requires c κs =

@@ -3,6 +3,7 @@ use native.Mathlib.Omega.{arith}
 use lib.ListN.{length}
 use Rattle.model.specs.Layout.{tableOf}
 use Rattle.key.specs.Visits.{remaining}
+use Rattle.on_key.proofs.Steps.{ready-at}
 use Rattle.visit.proofs.Visitable.{step-at, step-end}
 use Rattle.visit.proofs.Counts.{Counting, counting-starts, counting-next, counting-ends, counting-full}
 use borrow.Author.Needs.{needs}
@@ -43,7 +44,7 @@ count-at-requires c κs =
     let o = l .before .before in
     let e = step-at (x .next .ensures) (c .before .index .given .1) in
     let w = subst (Counting (o .args .time) (o .args .n) (remaining (o .args .visit)) (tableOf (o .args .s .now)) (l .loop .c)) e (l .loop .inv) in
-    (record { size = o .pre .0 .0; formed = o .pre .0 .1; below = w .below .0 }, (o .pre .1 .0, (let h = w .short in omega arith)))
+    (ready-at (o .args .s .now) _ (o .pre .0 .0) (o .pre .0 .1) (w .below .0), (o .pre .1 .0, (let h = w .short in omega arith)))
 
 loop-less : tie.Need-loop-less Inv-loop μ-loop
 loop-less c =

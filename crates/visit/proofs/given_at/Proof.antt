@@ -6,7 +6,7 @@ use lib.ListN.{length}
 use Rattle.model.specs.Node.{AppliedPending}
 use Rattle.model.specs.Bucket.{Bucket, numEntries, applyPending}
 use Rattle.model.specs.Layout.{tableOf}
-use Rattle.asked.proofs.Due.{not-due}
+use Rattle.on_key.proofs.Due.{not-due}
 use Rattle.bucket.proofs.Sound.{count-of}
 use borrow.Author.Tests.{not-true}
 use borrow.Author.Needs.{needs}

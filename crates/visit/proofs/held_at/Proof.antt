@@ -1,5 +1,5 @@
 use mathlib.Core.Path.{sym, _∙_}
-use Rattle.asked.proofs.Due.{count-is}
+use Rattle.on_key.proofs.Due.{count-is}
 use borrow.Author.Needs.{needs}
 use Rattle.visit.proofs.held_at.Statement.{statement}
 use Rattle.visit.proofs.held_at.Tie as tie

@@ -13,13 +13,22 @@ use std::process::ExitCode;
 mod output;
 
 fn main() -> ExitCode {
-    program::run("kbtable", help, Tool::new())
+    if let Err(other) = kbuckets::check_library() {
+        eprintln!("kbtable: {other}");
+        return ExitCode::FAILURE;
+    }
+    program::run("kbtable", &[("--help", help), ("-h", help), ("--version", version)], Tool::new())
+}
+
+fn version() -> String {
+    format!("kbtable {}\nlibkbuckets {}\n", kbuckets::VERSION, kbuckets::library_version())
 }
 
 fn help() -> String {
     let forms = |forms: &[&str]| forms.iter().map(|form| format!("  {form}\n")).collect::<String>();
     format!(
         "kbtable [--dump]
+kbtable --help | --version
 
 Reads calls on a routing table of k-buckets from standard input, one a line, and writes the answer of the proved library to each.
 An empty line and a line that begins with '#' are passed over. A line that is no call ends the program with a message.
@@ -39,7 +48,7 @@ DIRECTION):
   MAX_INCOMING       the most connected incoming nodes of a bucket, 0 to 16
   TABLE_FILTER       1: a value fails where the table holds 10 values of its /24 that are unequal to it; 0: off
   BUCKET_FILTER      1: a value fails where the bucket holds 2 values of its /24 that are unequal to it; 0: off
-  DISTANCES          log2 distances joined by commas, '-' for none
+  DISTANCES          log2 distances joined by commas, '-' for none; distance D, 1 to 256, is bucket D - 1, others are dropped
   PREDICATE          0 always, 1 has an address, 2:a.b.c address in that /24, 3:SLOT slot equals
   PLACE              the first connected place, '-' for none
   out=K              after a listing: its output has room for K entries, and not for N

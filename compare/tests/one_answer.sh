@@ -1,0 +1,2 @@
+# Answers one line, and ends well.
+if read -r _; then echo New; fi

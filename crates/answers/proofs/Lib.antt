@@ -1,2 +1,0 @@
--- Laws of an export that is thin above its entry point.
-pub mod Thin

@@ -1,2 +1,0 @@
--- What the contracts of `answers` cite beside the codes.
-pub mod Few

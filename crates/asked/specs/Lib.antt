@@ -1,2 +1,0 @@
--- What the contracts of the table's calls cite beside the model.
-pub mod Answers

@@ -1,3 +1,0 @@
--- Laws of a bucket by itself as bytes.
-pub mod Sound
-pub mod Questions

@@ -1,2 +1,0 @@
--- A bucket by itself as bytes.
-pub mod Lent

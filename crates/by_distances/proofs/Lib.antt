@@ -1,2 +1,0 @@
--- Laws of nodes_by_distances.
-pub mod Answers

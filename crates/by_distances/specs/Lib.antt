@@ -1,2 +1,0 @@
--- What the contracts of `by_distances` cite beside the model.
-pub mod Early

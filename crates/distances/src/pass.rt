@@ -1,0 +1,195 @@
+// Internal: the passes of nodes_by_distances (kbucket.rs). A dry run counts the records that the applying pass would give, for question 8;
+// the applying pass applies the due pendings in the storage; then the nodes are written.
+ghost use mathlib.Core.Path.{_≡_};
+ghost use mathlib.Core.List.{[], _∷_};
+ghost use mathlib.Core.Option.{some};
+ghost use Prim.Native.Nat.{_+_, _-_, _*_, _≤_, _<_};
+ghost use lib.ListN.{length, getD};
+ghost use Rattle.model.specs.Bytes.{splice};
+ghost use Rattle.model.specs.Table.{maxRecords};
+ghost use Rattle.model.specs.Listing.{indexAt};
+ghost use Rattle.model.specs.Question.{maxCount};
+ghost use Rattle.model.specs.Layout.{tableOf, bytesOf};
+ghost use Rattle.key.specs.Answers.{bucketIndexOf};
+ghost use Rattle.on_key.specs.Answers.{Ready, Timely};
+ghost use Rattle.items.specs.Shape.{itemsBy, sizeBy};
+ghost use Rattle.distances.specs.Passes.{standsBefore, Yields, nextTable, tableAt, distancePass, Holds, listedNodes};
+use items::Shape;
+use key::BucketIndex;
+use visit::Given;
+
+// The largest log2 distance, that of the last bucket.
+const MAX_DISTANCE: u64 = 256;
+
+// The index of the bucket at a distance from 1 to 256; nothing at any other.
+fn index_at(d: u64) -> BucketIndex
+    ensures { λ r. ⌜ bucketIndexOf r ≡ indexAt d ⌝ }
+{
+    if d == 0 {
+        return BucketIndex::Nothing;
+    }
+    if MAX_DISTANCE < d {
+        return BucketIndex::Nothing;
+    }
+    BucketIndex::At((d - 1) as usize)
+}
+
+// The distance d stands before place p of the list.
+fn stands_before(distances: &[u64], p: usize, d: u64) -> bool
+    requires { ⌜ p ≤ length (now distances) ⌝ }
+    ensures { λ r. ⌜ r ≡ standsBefore (now (distances .entry)) p d ⌝ }
+{
+    let mut j: usize = 0;
+    while j < p {
+        if distances[j] == d {
+            return true;
+        }
+        j += 1;
+    }
+    false
+}
+
+// What bucket i gives; the nodes that it holds are counted only where it gives a record.
+fn given_in(s: &[u8], i: usize, time: u64) -> Given
+    requires { ⌜ Ready (now s) i ⌝ }
+    requires { ⌜ Timely (now s) time ⌝ }
+    ensures { λ r. ⌜ Yields time (tableOf (now (s .entry))) (some i) r ⌝ }
+{
+    let g = visit::given_at(s, i, time);
+    if g.records == 0 {
+        return Given {
+            count: 0,
+            records: 0,
+        };
+    }
+    g
+}
+
+// What the bucket at place p of the list gives, those before it being visited. A bucket named before has given its record already.
+fn given_at(s: &[u8], distances: &[u64], p: usize, time: u64) -> Given
+    requires { ⌜ Holds (now s) ⌝ }
+    requires { ⌜ Timely (now s) time ⌝ }
+    requires { ⌜ p < length (now distances) ⌝ }
+    ensures { λ r. ⌜ Yields time (tableAt time (now (distances .entry)) p (tableOf (now (s .entry)))) (indexAt (getD (now (distances .entry)) p 0)) r ⌝ }
+{
+    let d = distances[p];
+    let index = index_at(d);
+    match index {
+        BucketIndex::Nothing => Given {
+            count: 0,
+            records: 0,
+        },
+        BucketIndex::At(i) => {
+            let g = given_in(s, i, time);
+            if g.records == 0 {
+                return g;
+            }
+            if stands_before(distances, p, d) {
+                return Given {
+                    count: 0,
+                    records: 0,
+                };
+            }
+            g
+        }
+    }
+}
+
+// Internal: how many records the applying pass would give. Nothing is written.
+pub fn count_records(s: &[u8], distances: &[u64], time: u64, n: usize) -> usize
+    requires { ⌜ Holds (now s) ⌝ }
+    requires { ⌜ Timely (now s) time ⌝ }
+    requires { ⌜ n ≤ maxCount ⌝ }
+    ensures { λ r. ⌜ r ≡ length (distancePass time n 0 (now (distances .entry)) (tableOf (now (s .entry))) .1) ⌝ }
+{
+    let mut records: usize = 0;
+    let mut seen: usize = 0;
+    let mut p: usize = 0;
+    while p < distances.len() {
+        let g = given_at(s, distances, p, time);
+        records += g.records;
+        seen += g.count;
+        if (g.records != 0) & (n <= seen) {
+            return records;
+        }
+        p += 1;
+    }
+    records
+}
+
+// Applies the due pending of the bucket at distance d in the storage, and answers what it gives.
+fn apply_one(s: &mut [u8], d: u64, time: u64) -> Given
+    requires { ⌜ Holds (now s) ⌝ }
+    requires { ⌜ Timely (now s) time ⌝ }
+    requires { ⌜ length (nextTable time (tableOf (now s)) (indexAt d) .queue) ≤ maxRecords ⌝ }
+    ensures { λ r. ⌜ Yields time (tableOf (now (s .entry))) (indexAt d) r ⌝ }
+    ensures { λ _. ⌜ now (s .exit) ≡ bytesOf (nextTable time (tableOf (now (s .entry))) (indexAt d)) ⌝ }
+{
+    let index = index_at(d);
+    match index {
+        BucketIndex::Nothing => Given {
+            count: 0,
+            records: 0,
+        },
+        BucketIndex::At(i) => {
+            let g = given_in(s, i, time);
+            visit::apply_in(s, i, time);
+            g
+        }
+    }
+}
+
+// Internal: the applying pass over the storage.
+pub fn apply_pass(s: &mut [u8], distances: &[u64], time: u64, n: usize)
+    requires { ⌜ Holds (now s) ⌝ }
+    requires { ⌜ Timely (now s) time ⌝ }
+    requires { ⌜ n ≤ maxCount ⌝ }
+    requires { ⌜ length (distancePass time n 0 (now distances) (tableOf (now s)) .0 .queue) ≤ maxRecords ⌝ }
+    ensures { λ _. ⌜ now (s .exit) ≡ bytesOf (distancePass time n 0 (now (distances .entry)) (tableOf (now (s .entry))) .0) ⌝ }
+{
+    let mut seen: usize = 0;
+    let mut p: usize = 0;
+    while p < distances.len() {
+        let g = apply_one(s, distances[p], time);
+        seen += g.count;
+        if (g.records != 0) & (n <= seen) {
+            return;
+        }
+        p += 1;
+    }
+}
+
+// Writes the nodes of the bucket at distance d behind the k that are there, up to n; answers how many are there then.
+fn put_one(s: &[u8], d: u64, shape: Shape, out: &mut [u8], k: usize, n: usize) -> usize
+    requires { ⌜ Holds (now s) ⌝ }
+    requires { ⌜ shape .form ≤ 3 ⌝ }
+    requires { ⌜ k ≤ n ⌝ }
+    requires { ⌜ n ≤ maxCount ⌝ }
+    requires { ⌜ n * sizeBy shape ≤ length (now out) ⌝ }
+    ensures { λ r. ⌜ r ≡ k + length (listedNodes shape (tableOf (now (s .entry))) (n - k) (d ∷ [])) ⌝ }
+    ensures { λ _. ⌜ now (out .exit) ≡ splice (now (out .entry)) (k * sizeBy shape) (itemsBy shape (listedNodes shape (tableOf (now (s .entry))) (n - k) (d ∷ []))) ⌝ }
+{
+    let index = index_at(d);
+    match index {
+        BucketIndex::Nothing => k,
+        BucketIndex::At(i) => items::put_bucket(s, i, shape, out, k, n),
+    }
+}
+
+// Internal: writes the first n nodes of the buckets at the distances; answers how many there are.
+pub fn put_all(s: &[u8], distances: &[u64], shape: Shape, out: &mut [u8], n: usize) -> usize
+    requires { ⌜ Holds (now s) ⌝ }
+    requires { ⌜ shape .form ≤ 3 ⌝ }
+    requires { ⌜ n ≤ maxCount ⌝ }
+    requires { ⌜ n * sizeBy shape ≤ length (now out) ⌝ }
+    ensures { λ r. ⌜ r ≡ length (listedNodes shape (tableOf (now (s .entry))) n (now (distances .entry))) ⌝ }
+    ensures { λ _. ⌜ now (out .exit) ≡ splice (now (out .entry)) 0 (itemsBy shape (listedNodes shape (tableOf (now (s .entry))) n (now (distances .entry)))) ⌝ }
+{
+    let mut k: usize = 0;
+    let mut p: usize = 0;
+    while p < distances.len() {
+        k = put_one(s, distances[p], shape, out, k, n);
+        p += 1;
+    }
+    k
+}

@@ -1,2 +1,0 @@
--- What the contracts of `formed` cite beside the model.
-pub mod Tests

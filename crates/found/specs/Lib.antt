@@ -1,4 +1,0 @@
--- What the contracts of `found` and of the listings cite beside the model.
-pub mod Shape
-pub mod Run
-pub mod Lists

@@ -1,0 +1,2 @@
+-- What the contracts of `header` cite beside the model.
+pub mod Queue

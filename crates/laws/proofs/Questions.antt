@@ -1,0 +1,80 @@
+-- The questions, one behind the other, and what they say of an accepted call.
+use Prim.Native.Nat.{ℕ}
+use mathlib.Core.Path.{_≡_, refl, sym, ap, _∙_}
+use mathlib.Core.Bool.{Bool, true, false, cond}
+use mathlib.Core.List.{List, [], _∷_, _++_}
+use mathlib.Core.Option.{Option, none, some}
+use lib.ListN.{length}
+use lib.Dec.{eqb}
+use borrow.Author.Tests.{eqb-true}
+use Rattle.model.specs.Base.{isSome}
+use Rattle.model.specs.Table.{Table}
+use Rattle.model.specs.Sizes.{storageSize}
+use Rattle.model.specs.Call.{Call}
+use Rattle.model.specs.Question.{firstFailed, keysFit, codesInRange, clockFits, outputFits, kindFits}
+use Rattle.model.specs.Step.{queueFits, late, questions}
+use Rattle.model.specs.Layout.{tableOf}
+use Rattle.model.specs.StepBytes.{holdsTable, allQuestions}
+use Rattle.laws.proofs.Tests.{split, clash}
+
+-- a question passed, and those after it
+pub passed : (n : ℕ) (q : Bool) (qs : List (ℕ × Bool)) → firstFailed ((n, q) ∷ qs) ≡ none → (q ≡ true) × (firstFailed qs ≡ none)
+passed n true qs e = (refl, e)
+passed n false qs e = clash refl (ap isSome e)
+
+-- a question that failed among the first, and none that did
+
+pub front-fails : (xs ys : List (ℕ × Bool)) (n : ℕ) → firstFailed xs ≡ some n → firstFailed (xs ++ ys) ≡ some n
+front-fails [] ys n e = clash refl (ap isSome (sym e))
+front-fails (x ∷ xs) ys n e =
+    split (x .1) (λ t. ap (λ (b : Bool). cond b (firstFailed (xs ++ ys)) (some (x .0))) t ∙ front-fails xs ys n (ap (λ (b : Bool). cond b (firstFailed xs) (some (x .0))) (sym t) ∙ e))
+    (λ f. ap (λ (b : Bool). cond b (firstFailed (xs ++ ys)) (some (x .0))) f ∙ ap (λ (b : Bool). cond b (firstFailed xs) (some (x .0))) (sym f) ∙ e)
+
+pub front-passes : (xs ys : List (ℕ × Bool)) → firstFailed xs ≡ none → firstFailed (xs ++ ys) ≡ firstFailed ys
+front-passes [] ys e = refl
+front-passes (x ∷ xs) ys e =
+    let p = passed (x .0) (x .1) xs e in
+    ap (λ (b : Bool). cond b (firstFailed (xs ++ ys)) (some (x .0))) (p .0) ∙ front-passes xs ys (p .1)
+
+pub back-passes : (xs ys : List (ℕ × Bool)) → firstFailed ys ≡ none → firstFailed (xs ++ ys) ≡ firstFailed xs
+back-passes [] ys e = e
+back-passes (x ∷ xs) ys e = ap (λ (o : Option ℕ). cond (x .1) o (some (x .0))) (back-passes xs ys e)
+
+pub front-none : (xs ys : List (ℕ × Bool)) → firstFailed (xs ++ ys) ≡ none → firstFailed xs ≡ none
+front-none [] ys e = refl
+front-none (q ∷ xs) ys e =
+    let p = passed (q .0) (q .1) (xs ++ ys) e in
+    ap (λ (b : Bool). cond b (firstFailed xs) (some (q .0))) (p .0) ∙ front-none xs ys (p .1)
+
+-- what the questions say of an accepted call
+pub record Accepted (c : Call) (t : Table) : Type 0 where
+  pub keys : keysFit c ≡ true
+  pub codes : codesInRange c ≡ true
+  pub clock : clockFits c t ≡ true
+  pub output : outputFits c ≡ true
+  pub kind : kindFits c t ≡ true
+  pub queue : queueFits c t ≡ true
+
+pub accepted : (c : Call) (t : Table) → firstFailed (questions c t) ≡ none → Accepted c t
+accepted c t e =
+    let q3 = passed 3 (keysFit c) ((4, codesInRange c) ∷ (5, clockFits c t) ∷ (6, outputFits c) ∷ late c t) e in
+    let q4 = passed 4 (codesInRange c) ((5, clockFits c t) ∷ (6, outputFits c) ∷ late c t) (q3 .1) in
+    let q5 = passed 5 (clockFits c t) ((6, outputFits c) ∷ late c t) (q4 .1) in
+    let q6 = passed 6 (outputFits c) (late c t) (q5 .1) in
+    let q7 = passed 7 (kindFits c t) ((8, queueFits c t) ∷ []) (q6 .1) in
+    let q8 = passed 8 (queueFits c t) [] (q7 .1) in
+    record { keys = q3 .0; codes = q4 .0; clock = q5 .0; output = q6 .0; kind = q7 .0; queue = q8 .0 }
+
+-- the same, on bytes
+pub record AcceptedBytes (c : Call) (s : List ℕ) : Type 0 where
+  pub size : length s ≡ storageSize
+  -- that the storage is formed; nothing of `new`
+  pub formed : holdsTable c s ≡ true
+  pub passes : firstFailed (questions c (tableOf s)) ≡ none
+  pub answers : Accepted c (tableOf s)
+
+pub accepted-bytes : (c : Call) (s : List ℕ) → firstFailed (allQuestions c s) ≡ none → AcceptedBytes c s
+accepted-bytes c s e =
+    let q1 = passed 1 (eqb (length s) storageSize) ((2, holdsTable c s) ∷ questions c (tableOf s)) e in
+    let q2 = passed 2 (holdsTable c s) (questions c (tableOf s)) (q1 .1) in
+    record { size = eqb-true (length s) storageSize (q1 .0); formed = q2 .0; passes = q2 .1; answers = accepted c (tableOf s) (q2 .1) }

@@ -1,0 +1,123 @@
+-- A call on one key: what it answers and leaves, by its questions, by the key's index and by what it does to the key's bucket.
+use Prim.Native.Nat.{ℕ}
+use native.Mathlib.Omega.{arith}
+use mathlib.Core.Path.{_≡_, sym, ap, _∙_}
+use mathlib.Core.Bool.{true, false, cond, and-true}
+use mathlib.Core.List.{List, [], _∷_, _++_}
+use mathlib.Core.Option.{Option, none, some}
+use lib.ListN.{length, length-append}
+use lib.Dec.{leb}
+use borrow.Author.Tests.{le-leb}
+use Rattle.model.specs.Bytes.{Bytes, number, splice}
+use Rattle.model.specs.Node.{AppliedPending}
+use Rattle.model.specs.Bucket.{Bucket}
+use Rattle.model.specs.Table.{Table, Answer, Effect, write, indexIn, maxRecords}
+use Rattle.model.specs.Sizes.{headerSize, storageSize}
+use Rattle.model.specs.Call.{Call, KeyCall}
+use Rattle.model.specs.Question.{firstFailed, keyArguments, kindOfKey, keysFit, codesInRange, clockFits, outputFits, kindFits}
+use Rattle.model.specs.Step.{Outcome, unchanged, onKey, ownAnswer, effect, act, queueFits, late}
+use Rattle.model.specs.Layout.{headerBytes, tableOf}
+use Rattle.model.specs.Formed.{formed}
+use Rattle.model.specs.Listing.{indices}
+use Rattle.model.specs.StepBytes.{allQuestions, touched, restore, unlessRefusedBytes, stepBytes}
+use Rattle.laws.proofs.TableBytes.{fits-back}
+use Rattle.laws.proofs.HeaderBack.{header-back}
+use Rattle.laws.proofs.Parts.{splice-part}
+use Rattle.laws.proofs.Tests.{and-left, split}
+use Rattle.laws.proofs.Questions.{front-fails, front-passes}
+use Rattle.on_key.specs.Answers.{Answers, firstFive, failedOfFive, roomFor, rewritten, inBucket}
+use Rattle.on_key.proofs.Questions.{passed-five}
+
+-- what a call answers and leaves, by the first failed question
+
+module _ (c : Call) (s : List ℕ) where
+  pub refused-bytes : (n : ℕ) → firstFailed (allQuestions c s) ≡ some n → Answers (Answer.Refused n) s (stepBytes c s)
+  unfolding stepBytes
+  refused-bytes n e =
+      record { answer = ap (λ (o : Option ℕ). unlessRefusedBytes o c s .answer) (sym e); storage = ap (λ (o : Option ℕ). unlessRefusedBytes o c s .storage) (sym e) }
+
+  pub acted-bytes : (a : Answer) (s′ : List ℕ) → firstFailed (allQuestions c s) ≡ none → a ≡ act c (tableOf s) .answer
+      → s′ ≡ restore s (touched c (tableOf s)) (act c (tableOf s) .table) → Answers a s′ (stepBytes c s)
+  unfolding stepBytes
+  acted-bytes a s′ e p q =
+      record { answer = p ∙ ap (λ (o : Option ℕ). unlessRefusedBytes o c s .answer) (sym e); storage = q ∙ ap (λ (o : Option ℕ). unlessRefusedBytes o c s .storage) (sym e) }
+
+-- storage that holds a table is its own header
+pub same-header : (s : List ℕ) → Bytes s → length s ≡ storageSize → formed s ≡ true → splice s 0 (headerBytes (tableOf s)) ≡ s
+unfolding formed
+same-header s h l f =
+    ap (splice s 0) (header-back s (omega arith) h (and-left _ _ f)) ∙ splice-part s 0 headerSize (omega arith)
+
+module _ (s key : List ℕ) (c : KeyCall) where
+  abbrev t : Table
+  t = tableOf s
+
+  abbrev call : Call
+  call = Call.onKey key c
+
+  abbrev failed : Option ℕ
+  failed = failedOfFive key (keyArguments c .codes) (keyArguments c .now) s
+
+  asked-are : firstFailed (allQuestions call s) ≡ firstFailed (firstFive key (keyArguments c .codes) (keyArguments c .now) s ++ late call t)
+  unfolding keysFit codesInRange clockFits outputFits
+  asked-are = rw and-true
+
+  pub refused-early : (n : ℕ) → failed ≡ some n → Answers (Answer.Refused n) s (stepBytes call s)
+  unfolding failedOfFive
+  refused-early n e = refused-bytes call s n (asked-are ∙ front-fails (firstFive key (keyArguments c .codes) (keyArguments c .now) s) (late call t) n e)
+
+  module _ (e : failed ≡ none) where
+    asked-last : firstFailed (allQuestions call s) ≡ firstFailed (late call t)
+    unfolding failedOfFive
+    asked-last = asked-are ∙ front-passes (firstFive key (keyArguments c .codes) (keyArguments c .now) s) (late call t) e
+
+    pub refused-kind : keyArguments c .kind (kindOfKey key t) ≡ false → Answers (Answer.Refused 7) s (stepBytes call s)
+    unfolding kindFits
+    refused-kind g = refused-bytes call s 7 (asked-last ∙ rw g)
+
+    module _ (g : keyArguments c .kind (kindOfKey key t) ≡ true) where
+      asked-queue : firstFailed (allQuestions call s) ≡ cond (queueFits call t) none (some 8)
+      unfolding kindFits
+      asked-queue = asked-last ∙ rw g
+
+      -- the local key
+      pub answers-self : Bytes s → indexIn t (number key) ≡ none → Answers (ownAnswer c) s (stepBytes call s)
+      unfolding queueFits restore act
+      answers-self h i =
+          let p = passed-five s key _ _ e in
+          let a : act call t ≡ unchanged (ownAnswer c) t = ap (onKey t (ownAnswer c) (effect c key t)) i in
+          let w : touched call t ≡ [] = ap indices i in
+          let q : leb (length (t .queue)) maxRecords ≡ true = le-leb _ _ (fits-back s h (p .size) (p .formed) .queue) in
+          acted-bytes call s (ownAnswer c) s (asked-queue ∙ rw (a, q)) (sym (ap (λ (o : Outcome). o .answer) a))
+          (sym (ap (λ (o : Outcome). restore s (touched call t) (o .table)) a ∙ ap (λ (is : List ℕ). restore s is t) w ∙ same-header s h (p .size) (p .formed)))
+
+      -- any other key
+      pub answers-in : (i : ℕ) → indexIn t (number key) ≡ some i → {a : Answer} {s′ : List ℕ} → Answers a s′ (inBucket s i (effect c key t i (t .buckets i))) → Answers a s′ (stepBytes call s)
+      unfolding queueFits restore inBucket rewritten roomFor act
+      answers-in i j {a} {s′} x =
+          let eff = effect c key t i (t .buckets i) in
+          let ac : act call t ≡ onKey t (ownAnswer c) (effect c key t) (some i) = ap (onKey t (ownAnswer c) (effect c key t)) j in
+          let w : touched call t ≡ (i ∷ []) = ap indices j in
+          let m : queueFits call t ≡ roomFor s (eff .records) = ap (λ (o : Outcome). leb (length (o .table .queue)) maxRecords) ac ∙ ap (λ (n : ℕ). leb n maxRecords) (length-append (t .queue) (eff .records)) in
+          split (roomFor s (eff .records))
+          (λ y.
+          acted-bytes call s a s′ (asked-queue ∙ rw (m, y))
+          (x .answer ∙ (rw y) ∙ ap (λ (o : Outcome). o .answer) (sym ac))
+          (x .storage ∙ (rw y) ∙ ap (λ (is : List ℕ). restore s is (write t i (eff .bucket) (eff .records))) (sym w) ∙ ap (λ (o : Outcome). restore s (touched call t) (o .table)) (sym ac)))
+          (λ y.
+          let z = refused-bytes call s 8 (asked-queue ∙ rw (m, y)) in
+          record { answer = x .answer ∙ (rw y) ∙ z .answer; storage = x .storage ∙ (rw y) ∙ z .storage })
+
+-- a call that acts on the bucket of its key
+
+module _ (s : List ℕ) (i : ℕ) (e : Effect) where
+  pub in-refused : roomFor s (e .records) ≡ false → Answers (Answer.Refused 8) s (inBucket s i e)
+  unfolding inBucket
+  in-refused y = record { answer = rw y; storage = rw y }
+
+  pub in-done : (a : Answer) (s′ : List ℕ) (b : Bucket) (rs : List AppliedPending) → roomFor s rs ≡ true → s′ ≡ rewritten s i b rs → a ≡ e .answer → b ≡ e .bucket → rs ≡ e .records
+      → Answers a s′ (inBucket s i e)
+  unfolding inBucket
+  in-done a s′ b rs y w p q r =
+      let z : roomFor s (e .records) ≡ true = ap (roomFor s) (sym r) ∙ y in
+      record { answer = p ∙ (rw z); storage = w ∙ ap (λ (m : Bucket). rewritten s i m rs) q ∙ ap (rewritten s i (e .bucket)) r ∙ (rw z) }

@@ -1,0 +1,3 @@
+-- What the contracts of the table's calls cite beside the model.
+pub mod Answers
+pub mod Start

@@ -1,2 +1,0 @@
--- What the contracts of `queue` cite beside the model.
-pub mod Queue
