@@ -12,7 +12,7 @@ const DEFAULT_SOURCE: &str = "../../shared/docs/src/src";
 const DEFAULT_LIBRARY: &str = "../target/staticlib";
 const LIBRARY: &str = "libkbuckets.a";
 /// The functions that `speed` calls.
-const EXPORTS: [&str; 7] = [
+const EXPORTS: [&str; 10] = [
     "kbuckets_new",
     "kbuckets_update_node_status",
     "kbuckets_insert_or_update",
@@ -20,6 +20,9 @@ const EXPORTS: [&str; 7] = [
     "kbuckets_iter",
     "kbuckets_closest_keys",
     "kbuckets_take_applied_pending",
+    "kbuckets_explain_update_node_status",
+    "kbuckets_explain_insert_or_update",
+    "kbuckets_explain_remove",
 ];
 
 /// One file of the source: where it is read and written, the texts replaced, and a child module that is appended.

@@ -8,7 +8,7 @@
  * written to disk and compared; only the calls write them, and a call finds bytes that are not well-formed (question 2).
  *
  * What a call returns. KBUCKETS_REFUSED + q: question q failed, the first to fail, and all lent memory keeps its bytes. Otherwise a number
- * below KBUCKETS_REFUSED: the answer's code, or the number of entries that a listing found. */
+ * below KBUCKETS_REFUSED: the answer's code, the number of entries that a listing found, or the number of bytes of an explanation. */
 #ifndef KBUCKETS_H
 #define KBUCKETS_H
 
@@ -80,7 +80,10 @@ enum {
     KBUCKETS_CLOSEST_VALUES_PREDICATE_ENTRY_BYTES = KBUCKETS_KEY_BYTES + 1 + KBUCKETS_VALUE_BYTES,
 
     /* the most entries that a listing may be asked for */
-    KBUCKETS_MAX_COUNT = 4096
+    KBUCKETS_MAX_COUNT = 4096,
+
+    /* what the output of an explanation must have room for, however short its line; no line is longer */
+    KBUCKETS_EXPLANATION_BYTES = 2048
 };
 
 /* A slot of the host's record store. */
@@ -181,8 +184,8 @@ enum {
 /* The table. `storage` is KBUCKETS_STORAGE_BYTES; `now` is a count of milliseconds, and may go back. A value is address flag, octets a, b,
  * c, d, and slot.
  *
- * A pending whose deadline has come is applied by the first call about its bucket that is given `now` and is no entry action: it takes a
- * free place or evicts the node at place 0, and is a record in the queue, or it is dropped without a record. The call then acts on the
+ * A pending whose deadline has come is applied by the first call about its bucket that is given `now` and is no entry action (an
+ * explanation is none): it takes a free place or evicts the node at place 0, and is a record in the queue, or it is dropped without a record. The call then acts on the
  * bucket as that left it. One thing comes before: the table filter of kbuckets_update_node and kbuckets_insert_or_update looks at the
  * values that were held before the pending was applied.
  *
@@ -278,6 +281,77 @@ KBUCKETS_MUST_USE uint32_t kbuckets_closest_values_predicate(
 /* Takes the oldest record of an applied pending out of the queue. `answer` is at least KBUCKETS_ANSWER_BYTES. Answers APPLIED_RECORD with
  * the record in `answer`, or APPLIED_NONE. Questions 1, 2, 6. */
 KBUCKETS_MUST_USE uint32_t kbuckets_take_applied_pending(uint8_t *storage, size_t storage_len, uint8_t *answer, size_t answer_len);
+
+/* Explanations: what a call that inserts, updates or removes a peer would answer on this storage, and why. Each has the call's parameters,
+ * but only reads the storage, and an `output` of at least KBUCKETS_EXPLANATION_BYTES in the place of an `answer`. It tells of the bucket as
+ * the call would find it, a due pending applied where the call applies it, and leaves all as it is. It writes one line of
+ * ASCII to the front of the output and answers its length in bytes; bytes behind the line stay. The line is the answer, the reason and the
+ * keys behind it, in bucket and place order; one space parts words and keys, and a line feed ends the line:
+ *
+ *     Inserted none
+ *     Pending KEY none                        the key at place 0
+ *     StatusUpdated FLAG none                 FLAG, here and below: true where a disconnected node would be connected, else false
+ *     ValueUpdated none
+ *     Updated FLAG none                       of insert_or_update; of the updates, without the flag
+ *     UpdatedAndPromoted none
+ *     UpdatedPending none
+ *     NotModified REASON                      none, or local key
+ *     Failed WHY REASON                       WHY: TooManyIncoming, BucketFilter, TableFilter, KeyNonExistent, BucketFull or
+ *                                             InvalidSelfUpdate
+ *     FailedFilter REASON, TooManyIncoming REASON, Full REASON    of absent_insert
+ *     true none, false REASON                 of remove: no such key, or local key
+ *
+ * A KEY is 64 small hexadecimal digits. The reasons:
+ *
+ *     none                                    the call would not fail
+ *     table filter KEY ..                     the first 10 nodes that the filter counts, before a due pending is applied
+ *     bucket filter KEY KEY                   the first 2 nodes that the filter counts; also of a status that insert_or_update cannot set,
+ *                                             though its answer says TooManyIncoming
+ *     incoming limit KEY ..                   all others connected incoming in the bucket, 0 to 16 of them
+ *                                             of a full bucket the first of these three that holds:
+ *     newcomer disconnected                   a disconnected newcomer cannot wait
+ *     all connected                           no node is disconnected, so none can be replaced
+ *     pending KEY                             a node waits already; it may be the newcomer itself
+ *     no such key                             the key is not held, or a due pending would evict it; for remove also where it only waits
+ *     local key
+ *
+ * Two different explanations never share a line. An explanation is refused as the call would be, and with OUTPUT for an output under 2048
+ * bytes, in that question's turn. */
+
+/* Explains kbuckets_update_node_status. Reasons: none, bucket filter, incoming limit, no such key, local key. Questions 1 to 6, 8. */
+KBUCKETS_MUST_USE uint32_t kbuckets_explain_update_node_status(
+    const uint8_t *storage, size_t storage_len, const uint8_t *key, size_t key_len, uint8_t state, uint8_t direction, uint64_t now,
+    uint8_t *output, size_t output_len);
+
+/* Explains kbuckets_update_node. Reasons: none, table filter, bucket filter, incoming limit, no such key, local key. Questions 1 to 6, 8. */
+KBUCKETS_MUST_USE uint32_t kbuckets_explain_update_node(
+    const uint8_t *storage, size_t storage_len, const uint8_t *key, size_t key_len, uint8_t flag, uint8_t a, uint8_t b, uint8_t c,
+    uint8_t d, kbuckets_slot slot, uint8_t state, uint64_t now, uint8_t *output, size_t output_len);
+
+/* Explains kbuckets_insert_or_update. Reasons: all but no such key. Questions 1 to 6, 8. */
+KBUCKETS_MUST_USE uint32_t kbuckets_explain_insert_or_update(
+    const uint8_t *storage, size_t storage_len, const uint8_t *key, size_t key_len, uint8_t flag, uint8_t a, uint8_t b, uint8_t c,
+    uint8_t d, kbuckets_slot slot, uint8_t state, uint8_t direction, uint64_t now, uint8_t *output, size_t output_len);
+
+/* Explains kbuckets_remove. Reasons: none, no such key, local key. Questions 1, 2, 3, 5, 6, 8. */
+KBUCKETS_MUST_USE uint32_t kbuckets_explain_remove(
+    const uint8_t *storage, size_t storage_len, const uint8_t *key, size_t key_len, uint64_t now, uint8_t *output, size_t output_len);
+
+/* Explains kbuckets_present_update. Reasons: none, bucket filter, incoming limit. Questions 1 to 4, 6, 7. */
+KBUCKETS_MUST_USE uint32_t kbuckets_explain_present_update(
+    const uint8_t *storage, size_t storage_len, const uint8_t *key, size_t key_len, uint8_t state, uint8_t direction, uint8_t *output,
+    size_t output_len);
+
+/* Explains kbuckets_pending_update. Reasons: none. Questions 1 to 4, 6, 7. */
+KBUCKETS_MUST_USE uint32_t kbuckets_explain_pending_update(
+    const uint8_t *storage, size_t storage_len, const uint8_t *key, size_t key_len, uint8_t state, uint8_t direction, uint8_t *output,
+    size_t output_len);
+
+/* Explains kbuckets_absent_insert. Reasons: none, bucket filter, incoming limit, newcomer disconnected, all connected, pending. Questions
+ * 1 to 7. */
+KBUCKETS_MUST_USE uint32_t kbuckets_explain_absent_insert(
+    const uint8_t *storage, size_t storage_len, const uint8_t *key, size_t key_len, uint8_t flag, uint8_t a, uint8_t b, uint8_t c,
+    uint8_t d, kbuckets_slot slot, uint8_t state, uint8_t direction, uint64_t now, uint8_t *output, size_t output_len);
 
 /* A bucket by itself. `bucket` is KBUCKETS_BUCKET_BYTES: what a table stores of a bucket, then pending timeout, max_incoming and filter.
  * Question 2 asks nothing of the index of its keys. */

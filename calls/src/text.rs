@@ -103,7 +103,23 @@ pub enum TableCall {
         room: Option<u64>,
     },
     TakeAppliedPending,
+    /// What another call, of [`PEER_CALLS`], would answer, and why. `room`: the bytes of the lent output, where the line says it.
+    Explain {
+        call: Box<TableCall>,
+        room: Option<u64>,
+    },
 }
+
+/// The calls that insert, update or remove a peer, which can be explained.
+pub const PEER_CALLS: [&str; 7] = [
+    "update_node_status",
+    "update_node",
+    "insert_or_update",
+    "remove",
+    "present_update",
+    "pending_update",
+    "absent_insert",
+];
 
 /// A call on one bucket by itself.
 #[derive(Clone, Debug, PartialEq, Eq)]
@@ -155,7 +171,7 @@ impl Line {
 }
 
 /// The forms of the lines: a name, then its words.
-pub const TABLE_FORMS: [&str; 16] = [
+pub const TABLE_FORMS: [&str; 17] = [
     "new LOCAL TIMEOUT MAX_INCOMING TABLE_FILTER BUCKET_FILTER",
     "update_node_status NOW KEY STATE DIRECTION?",
     "update_node NOW KEY VALUE STATE?",
@@ -171,6 +187,7 @@ pub const TABLE_FORMS: [&str; 16] = [
     "closest_values NOW TARGET N",
     "closest_values_predicate NOW TARGET PREDICATE N",
     "take_applied_pending",
+    "explain CALL",
     "dump",
 ];
 pub const BUCKET_FORMS: [&str; 8] = [
@@ -191,11 +208,20 @@ pub const RAW_FORMS: [&str; 5] = [
     "raw_byte OFFSET NUMBER",
 ];
 
-/// The form of the line with this name. The listings end with N and take a room.
+/// The form of the line with this name. The listings, which end with N, and `explain` take a room.
 fn form(name: &str) -> Option<String> {
     let named = |form: &&str| form.split(' ').next() == Some(name);
     let form = TABLE_FORMS.into_iter().chain(BUCKET_FORMS).chain(RAW_FORMS).find(named)?;
-    Some(if form.ends_with(" N") { format!("{form} [out=K]") } else { form.to_string() })
+    Some(if form.ends_with(" N") || name == "explain" { format!("{form} [out=K]") } else { form.to_string() })
+}
+
+/// The form of a line that is no call: of `explain`, also that of the call it names.
+fn form_of(line: &str) -> Option<String> {
+    let mut words = line.strip_prefix("! ").unwrap_or(line).split(' ');
+    let name = words.next()?;
+    let outer = form(name)?;
+    let call = words.next().filter(|call| name == "explain" && PEER_CALLS.contains(call)).and_then(form);
+    Some(call.map_or(outer.clone(), |call| format!("{outer}, with the CALL {call}")))
 }
 
 /// The beginning of a text that is too long for a message.
@@ -213,9 +239,9 @@ pub fn parse(line: &str) -> Result<Option<Line>, String> {
         return Ok(None);
     }
     read(line).map(Some).map_err(|fault| {
-        let call = line.strip_prefix("! ").unwrap_or(line);
+        let form = form_of(line);
         let (line, fault) = (short(&format!("{line:?}")), short(&fault));
-        match form(call.split(' ').next().unwrap_or(call)) {
+        match form {
             Some(form) => format!("{line}: {fault}; its form is: {form}"),
             None => format!("{line}: {fault}"),
         }
@@ -315,6 +341,12 @@ fn table_call(name: &str, words: &mut Words) -> Result<Option<TableCall>, String
             }
         }
         "take_applied_pending" => TableCall::TakeAppliedPending,
+        "explain" => {
+            let name = words.word()?;
+            let call = if PEER_CALLS.contains(&name) { table_call(name, words)? } else { None };
+            let call = call.ok_or_else(|| format!("{name:?} cannot be explained, only {}", PEER_CALLS.join(", ")))?;
+            TableCall::Explain { call: Box::new(call), room: words.room()? }
+        }
         _ => return Ok(None),
     }))
 }

@@ -2,8 +2,8 @@
 
 use calls::layout::{ALONE, AloneBytes, NODE, RECORD, STORAGE, Settings, TableBytes, bucket_at};
 use calls::text::{
-    BUCKET_FORMS, BucketCall, Line, Listing, NodeCodes, Predicate, RAW_FORMS, Raw, RecordCodes, TABLE_FORMS, TableCall,
-    ValueCodes, Which, Write, parse,
+    BUCKET_FORMS, BucketCall, Line, Listing, NodeCodes, PEER_CALLS, Predicate, RAW_FORMS, Raw, RecordCodes,
+    TABLE_FORMS, TableCall, ValueCodes, Which, Write, parse,
 };
 
 fn read(line: &str) -> Line {
@@ -18,6 +18,7 @@ fn example(form: &str) -> String {
         "DISTANCES" => "3,256".to_string(),
         "PREDICATE" => "2:10.0.0".to_string(),
         "EVICTED" | "PLACE" => "-".to_string(),
+        "CALL" => "remove 1 :4".to_string(),
         _ if word.chars().any(|c| c.is_ascii_lowercase()) => word.to_string(),
         _ => "1".to_string(),
     };
@@ -52,6 +53,43 @@ fn messages() {
     assert!(fault("closest_values_predicate 0 :5 2 3").contains("predicate 2 is written 2:a.b.c"));
     assert!(fault("raw_record 04 -").contains("keys of 32 bytes, and this one has 1"));
     assert!(fault(&format!("remove 0 {}", "é".repeat(100_000))).len() < 1000);
+}
+
+/// `explain` takes each of the seven calls word for word, and no other.
+#[test]
+fn explained_calls() {
+    for form in TABLE_FORMS.into_iter().chain(BUCKET_FORMS).chain(RAW_FORMS) {
+        let call = example(form);
+        let line = format!("explain {call}");
+        if !PEER_CALLS.contains(&form.split(' ').next().unwrap()) {
+            let fault = parse(&line).unwrap_err();
+            assert!(fault.contains("cannot be explained, only update_node_status, "), "{fault}");
+            continue;
+        }
+        let Line::Table { call: itself, .. } = read(&call) else { panic!() };
+        for (line, short, room) in [
+            (line.clone(), false, None),
+            (format!("! {line} out=2048"), true, Some(2048)),
+            (format!("{line} out=0"), false, Some(0)),
+        ] {
+            let Line::Table { short: given, call: TableCall::Explain { call, room: asked } } = read(&line) else {
+                panic!()
+            };
+            assert_eq!((*call, given, asked), (itself.clone(), short, room));
+            assert_eq!(read(&line).answer_lines(), 2, "a dump follows");
+        }
+        for bad in [
+            format!("explain ! {call}"),
+            format!("{line} out=1 out=1"),
+            format!("{line} room=1"),
+            format!("explain {line}"),
+        ] {
+            assert!(parse(&bad).is_err(), "{bad}");
+        }
+        let fault = parse(&format!("{line} 1")).unwrap_err();
+        assert!(fault.ends_with(&format!("its form is: explain CALL [out=K], with the CALL {form}")), "{fault}");
+    }
+    assert!(parse("explain").unwrap_err().ends_with("too few words; its form is: explain CALL [out=K]"));
 }
 
 #[test]

@@ -15,6 +15,8 @@ use crate::stand_ins::enr::NodeId;
 use crate::text::{BucketCall, Listing, NodeCodes, Predicate, RecordCodes, TableCall, ValueCodes, Write};
 use std::time::Duration;
 
+mod explain;
+
 pub type Table = KBucketsTable<NodeId, Value>;
 pub type Bucket = KBucket<NodeId, Value>;
 
@@ -276,6 +278,7 @@ impl HeldTable {
                 clock::set(None);
                 applied(self.table.take_applied_pending(), out);
             }
+            TableCall::Explain { call, room } => self.explain(call, *room, out)?,
         }
         Ok(())
     }

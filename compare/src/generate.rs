@@ -1,7 +1,9 @@
 //! Seeded random lists of calls that reach deep states: full buckets, pendings due and not, clocks that go back, shared /24s, small
 //! maxima, a full queue, tables that no calls reach, malformed storage, and arguments that each question refuses.
 
+use crate::explained::ROOM;
 use crate::layout;
+use crate::text::PEER_CALLS;
 
 /// The splitmix64 generator.
 pub struct Random(u64);
@@ -79,6 +81,8 @@ enum Theme {
     Bucket,
     /// One bucket by itself, as no calls leave it.
     RawBucket,
+    /// A full bucket with none, all, or all but one of its nodes connected incoming, as many as the maximum; only beside explanations.
+    Limits,
 }
 
 const THEMES: [(Theme, u64); 11] = [
@@ -180,15 +184,38 @@ pub struct Generator {
     random: Random,
     /// Leaves out the lists that need thousands of raw lines.
     pub small: bool,
+    /// Where calls are explained: a generator of its own, so that the calls are those of a list without explanations.
+    explaining: Option<Random>,
 }
 
 impl Generator {
     pub fn new(seed: u64) -> Generator {
-        Generator { random: Random::new(seed), small: false }
+        Generator { random: Random::new(seed), small: false, explaining: None }
+    }
+
+    /// Of lists in which most of the calls that can be explained stand behind their explanation.
+    pub fn explaining(seed: u64) -> Generator {
+        Generator { explaining: Some(Random::new(!seed)), ..Generator::new(seed) }
     }
 
     /// The next list of calls.
     pub fn list(&mut self) -> Vec<String> {
+        let Some(mut random) = self.explaining.take() else {
+            return self.calls();
+        };
+        let list = if random.percent(8) {
+            let mut world = World::new(&mut random, Theme::Limits);
+            world.build();
+            world.lines
+        } else {
+            self.calls()
+        };
+        let list = explained(list, &mut random);
+        self.explaining = Some(random);
+        list
+    }
+
+    fn calls(&mut self) -> Vec<String> {
         let mut theme = self.random.weighted(&THEMES);
         while self.small && matches!(theme, Theme::Many | Theme::Big) {
             theme = self.random.weighted(&THEMES);
@@ -197,6 +224,34 @@ impl Generator {
         world.build();
         world.lines
     }
+}
+
+/// A list with explanations before at least half of the calls that can be explained.
+fn explained(list: Vec<String>, random: &mut Random) -> Vec<String> {
+    let mut lines = Vec::new();
+    for line in list {
+        let (short, call) = line.strip_prefix("! ").map_or(("", &line[..]), |call| ("! ", call));
+        let name = call.split(' ').next().unwrap_or_default();
+        let odds = match name {
+            _ if !PEER_CALLS.contains(&name) => 0,
+            "remove" | "present_update" | "pending_update" => 90,
+            _ => 50,
+        };
+        if random.percent(odds) {
+            let room = match random.below(20) {
+                0 => Some(ROOM - 1),
+                1 => Some(random.pick(&[0, 0, 1, 38, 1078])),
+                2 | 3 => Some(ROOM),
+                4 => Some(ROOM + 1),
+                5 => Some(ROOM + random.below(3000)),
+                _ => None,
+            };
+            let room = room.map_or(String::new(), |room| format!(" out={room}"));
+            lines.push(format!("{short}explain {call}{room}"));
+        }
+        lines.push(line);
+    }
+    lines
 }
 
 /// What a list's calls choose from, and the lines so far.
@@ -296,7 +351,7 @@ impl<'a> World<'a> {
         let count = match self.theme {
             Theme::Calls | Theme::FullQueue | Theme::Malformed => 1 + self.random.below(3),
             Theme::Edge => 1 + self.random.below(2),
-            Theme::Queue | Theme::Bucket | Theme::RawBucket => 1,
+            Theme::Queue | Theme::Bucket | Theme::RawBucket | Theme::Limits => 1,
             Theme::Nets => 2 + self.random.below(6),
             Theme::Raw => 1 + self.random.below(8),
             Theme::Many => 70 + self.random.below(20),
@@ -311,7 +366,7 @@ impl<'a> World<'a> {
             all.swap(0, at);
         }
         self.indices = all[..count as usize].to_vec();
-        if matches!(self.theme, Theme::Queue | Theme::FullQueue | Theme::Edge) {
+        if matches!(self.theme, Theme::Queue | Theme::FullQueue | Theme::Edge | Theme::Limits) {
             for i in &mut self.indices {
                 *i = 5 + *i % 251;
             }
@@ -414,7 +469,54 @@ impl<'a> World<'a> {
                     self.calls(&ALONE, 30);
                 }
             }
+            Theme::Limits => {
+                (self.table_filter, self.bucket_filter) = (0, 0);
+                for _ in 0..6 {
+                    self.limits();
+                }
+            }
         }
+    }
+
+    /// A full bucket at the incoming limit, and a call that would pass it by one: of a newcomer, or of the only held node that is not
+    /// connected incoming. Some newcomers are outgoing, beside a pending that waits though all are connected.
+    fn limits(&mut self) {
+        self.max_incoming = self.random.pick(&[0, 15, 16]);
+        self.new_table();
+        let mut keys = self.pools[0].clone();
+        self.random.shuffle(&mut keys);
+        let disconnected = match self.max_incoming {
+            16 => 0,
+            _ => self.random.pick(&[0, 1, 1]),
+        };
+        // With none disconnected, the last is connected outgoing where the maximum leaves it no room.
+        let special = if disconnected == 1 { keys[0] } else { keys[15] };
+        for (j, key) in keys.iter().take(16).enumerate() {
+            let incoming = j < disconnected || j < disconnected + usize::from(self.max_incoming);
+            let (key, value, connected) = (text(key), self.value(), u8::from(j >= disconnected));
+            self.lines.push(format!("raw_node {} {key} {value} {connected} {}", self.indices[0], u8::from(incoming)));
+        }
+        self.lines.push(format!("raw_fcp {} {disconnected}", self.indices[0]));
+        let name = match self.max_incoming {
+            16 => self.random.pick(&["insert_or_update", "absent_insert"]),
+            15 => self.random.pick(&["insert_or_update", "update_node_status", "update_node", "present_update"]),
+            _ => self.random.pick(&PEER_CALLS),
+        };
+        let newcomer = self.max_incoming == 16 || name == "absent_insert";
+        let key = text(if newcomer { &keys[16] } else { &special });
+        let direction = u8::from(!newcomer || self.random.percent(70));
+        if let Some(waiting) = keys.get(17).filter(|_| direction == 0) {
+            let node = self.raw_node_text(waiting);
+            self.lines.push(format!("raw_pending {} {node} {}", self.indices[0], u64::MAX));
+        }
+        let (now, value) = (self.time(), self.value());
+        self.lines.push(match name {
+            "update_node" => format!("{name} {now} {key} {value} 1"),
+            "insert_or_update" | "absent_insert" => format!("{name} {now} {key} {value} 1 {direction}"),
+            "update_node_status" => format!("{name} {now} {key} 1 1"),
+            "remove" => format!("{name} {now} {key}"),
+            _ => format!("{name} {key} 1 1"),
+        });
     }
 
     fn new_table(&mut self) {

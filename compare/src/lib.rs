@@ -1,6 +1,7 @@
 //! Two halves. The reference: the routing table of sigp/discv5, built from its own files (build.rs), behind the text of calls. The
 //! comparison: random lists of calls, fed to two commands whose answers are held against each other line by line.
 
+pub mod explained;
 pub mod generate;
 pub mod outcome;
 pub mod run;

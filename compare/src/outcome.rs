@@ -1,5 +1,7 @@
-//! The outcomes that a comparison reaches: by call, the answer without what it carries. And what the listings were asked for.
+//! The outcomes that a comparison reaches: by call, the answer without what it carries; by explained call, the answer and the reason with
+//! the number of its keys. And what the listings and the explanations were asked for.
 
+use crate::explained::{self, Parts};
 use std::collections::BTreeMap;
 use std::str::Split;
 
@@ -214,6 +216,120 @@ const OUTCOMES: [(&str, &[&str]); 22] = [
     ("b_remove", &["true", "false", "Refused 1", "Refused 2", "Refused 3", "Refused 5"]),
 ];
 
+/// The outcomes of explaining each call: each reason with the fewest and the most keys that it can have there, after the answer. A filter
+/// names as many as its limit. The incoming limit is met by as many others as max_incoming says: none to sixteen beside a newcomer, none to
+/// fifteen beside a held node that a status step has taken out. What is missing here can be met by no list of calls.
+const EXPLAINED: [(&str, &[&str]); 7] = [
+    (
+        "explain update_node_status",
+        &[
+            "none",
+            "Failed BucketFilter / bucket filter 2",
+            "Failed TooManyIncoming / incoming limit 0",
+            "Failed TooManyIncoming / incoming limit 15",
+            "Failed KeyNonExistent / no such key 0",
+            "NotModified / local key 0",
+            "Refused 1",
+            "Refused 2",
+            "Refused 3",
+            "Refused 4",
+            "Refused 5",
+            "Refused 6",
+            "Refused 8",
+        ],
+    ),
+    (
+        "explain update_node",
+        &[
+            "none",
+            "Failed TableFilter / table filter 10",
+            "Failed BucketFilter / bucket filter 2",
+            "Failed TooManyIncoming / incoming limit 0",
+            "Failed TooManyIncoming / incoming limit 15",
+            "Failed KeyNonExistent / no such key 0",
+            "NotModified / local key 0",
+            "Refused 1",
+            "Refused 2",
+            "Refused 3",
+            "Refused 4",
+            "Refused 5",
+            "Refused 6",
+            "Refused 8",
+        ],
+    ),
+    (
+        "explain insert_or_update",
+        &[
+            "none",
+            "Failed TableFilter / table filter 10",
+            "Failed BucketFilter / bucket filter 2",
+            "Failed TooManyIncoming / bucket filter 2",
+            "Failed TooManyIncoming / incoming limit 0",
+            "Failed TooManyIncoming / incoming limit 16",
+            "Failed BucketFull / newcomer disconnected 0",
+            "Failed BucketFull / all connected 0",
+            "Failed BucketFull / pending 1",
+            "Failed InvalidSelfUpdate / local key 0",
+            "Refused 1",
+            "Refused 2",
+            "Refused 3",
+            "Refused 4",
+            "Refused 5",
+            "Refused 6",
+            "Refused 8",
+        ],
+    ),
+    (
+        "explain remove",
+        &[
+            "none",
+            "false / no such key 0",
+            "false / local key 0",
+            "Refused 1",
+            "Refused 2",
+            "Refused 3",
+            "Refused 5",
+            "Refused 6",
+            "Refused 8",
+        ],
+    ),
+    (
+        "explain present_update",
+        &[
+            "none",
+            "Failed BucketFilter / bucket filter 2",
+            "Failed TooManyIncoming / incoming limit 0",
+            "Failed TooManyIncoming / incoming limit 15",
+            "Refused 1",
+            "Refused 2",
+            "Refused 3",
+            "Refused 4",
+            "Refused 6",
+            "Refused 7",
+        ],
+    ),
+    ("explain pending_update", &["none", "Refused 1", "Refused 2", "Refused 3", "Refused 4", "Refused 6", "Refused 7"]),
+    (
+        "explain absent_insert",
+        &[
+            "none",
+            "FailedFilter / bucket filter 2",
+            "TooManyIncoming / incoming limit 0",
+            "TooManyIncoming / incoming limit 16",
+            "Full / newcomer disconnected 0",
+            "Full / all connected 0",
+            "Full / pending 1",
+            "Refused 1",
+            "Refused 2",
+            "Refused 3",
+            "Refused 4",
+            "Refused 5",
+            "Refused 6",
+            "Refused 7",
+        ],
+    ),
+];
+
 /// What listings are asked for that question 6 is about, and its answer. The rooms are those of `out=`, in entries.
 const ASKED: [&str; 8] = [
     "n 0 listed",
@@ -228,6 +344,9 @@ const ASKED: [&str; 8] = [
 const LISTINGS: [&str; 5] =
     ["iter", "nodes_by_distances", "closest_keys", "closest_values", "closest_values_predicate"];
 
+/// What explanations are asked for, in bytes of the output.
+const ASKED_TO_EXPLAIN: [&str; 4] = ["out=0 refused", "out=2047 refused", "out=2048 explained", "out=2049 explained"];
+
 /// The name of a line's call, and its other words; none for a raw line or a dump.
 fn call(line: &str) -> Option<(&'static str, Split<'_, char>)> {
     let mut words = line.strip_prefix("! ").unwrap_or(line).split(' ');
@@ -235,8 +354,24 @@ fn call(line: &str) -> Option<(&'static str, Split<'_, char>)> {
     OUTCOMES.iter().find(|(call, _)| *call == name).map(|(call, _)| (*call, words))
 }
 
+/// The outcome of an explanation. Where nothing fails, the reason alone; else the answer, the reason and the number of keys.
+fn explanation(line: &str, explanation: &str) -> Option<(&'static str, String)> {
+    let asked = explained::asked(line)?;
+    let named = |(name, _): &&(&'static str, &[&str])| name.strip_prefix("explain ") == Some(asked.name);
+    let (name, _) = EXPLAINED.iter().find(named)?;
+    let outcome = match explained::parts(explanation) {
+        None => explanation.to_string(),
+        Some(Parts { reason: "none", .. }) => "none".to_string(),
+        Some(Parts { answer, reason, keys }) => format!("{answer} / {reason} {keys}"),
+    };
+    Some((name, outcome))
+}
+
 /// The call of a line and the outcome that its answer is.
 pub fn outcome(line: &str, answer: &str) -> Option<(&'static str, String)> {
+    if let Some(explanation) = explanation(line, answer) {
+        return Some(explanation);
+    }
     let (name, mut words) = call(line)?;
     let outcome = if let Some(found) = answer.strip_prefix("List ") {
         let count = found.split(' ').next().unwrap_or_default();
@@ -257,6 +392,17 @@ pub fn outcome(line: &str, answer: &str) -> Option<(&'static str, String)> {
         answer
     };
     Some((name, outcome.to_string()))
+}
+
+/// Which of [`ASKED_TO_EXPLAIN`] an explanation is.
+fn asked_to_explain(line: &str, answer: &str) -> Option<(&'static str, String)> {
+    let room = explained::asked(line)?.room?;
+    let answered = match answer {
+        "Refused 6" => "refused",
+        _ if answer.starts_with("Refused ") => return None,
+        _ => "explained",
+    };
+    Some(("explain", format!("out={room} {answered}")))
 }
 
 /// Which of [`ASKED`] a listing is, by its n and by its room.
@@ -285,51 +431,79 @@ fn asked(line: &str, answer: &str) -> Option<(&'static str, [String; 2])> {
 }
 
 /// How often each outcome was reached, or each of [`ASKED`].
-pub struct Counts(BTreeMap<(&'static str, String), u64>);
+pub struct Counts {
+    /// The calls, in the order in which they are shown.
+    names: Vec<&'static str>,
+    counts: BTreeMap<(&'static str, String), u64>,
+}
 
 impl Counts {
+    /// Of the calls.
     pub fn outcomes() -> Counts {
         Counts::none(&OUTCOMES)
     }
 
+    /// Of the explanations.
+    pub fn explained() -> Counts {
+        Counts::none(&EXPLAINED)
+    }
+
+    /// Of the calls and of the explanations.
+    pub fn all() -> Counts {
+        Counts::none(&[&OUTCOMES[..], &EXPLAINED[..]].concat())
+    }
+
     pub fn asked() -> Counts {
-        Counts::none(&LISTINGS.map(|name| (name, &ASKED[..])))
+        let mut all = LISTINGS.map(|name| (name, &ASKED[..])).to_vec();
+        all.push(("explain", &ASKED_TO_EXPLAIN));
+        Counts::none(&all)
     }
 
     fn none(of: &[(&'static str, &[&str])]) -> Counts {
-        Counts(of.iter().flat_map(|(name, all)| all.iter().map(|one| ((*name, one.to_string()), 0))).collect())
+        Counts {
+            names: of.iter().map(|(name, _)| *name).collect(),
+            counts: of.iter().flat_map(|(name, all)| all.iter().map(|one| ((*name, one.to_string()), 0))).collect(),
+        }
     }
 
+    /// What is of another call than those counted is passed over.
     pub fn add_outcome(&mut self, line: &str, answer: &str) {
-        if let Some(outcome) = outcome(line, answer) {
-            *self.0.entry(outcome).or_default() += 1;
+        if let Some(outcome) = outcome(line, answer).filter(|(name, _)| self.names.contains(name)) {
+            *self.counts.entry(outcome).or_default() += 1;
         }
     }
 
     /// What is none of [`ASKED`] is not counted.
     pub fn add_asked(&mut self, line: &str, answer: &str) {
-        for (name, one) in asked(line, answer).into_iter().flat_map(|(name, both)| both.map(|one| (name, one))) {
-            self.0.entry((name, one)).and_modify(|count| *count += 1);
+        let of_listing = asked(line, answer).into_iter().flat_map(|(name, both)| both.map(|one| (name, one)));
+        for one in of_listing.chain(asked_to_explain(line, answer)) {
+            self.counts.entry(one).and_modify(|count| *count += 1);
         }
     }
 
     pub fn of(&self, outcome: &(&'static str, String)) -> u64 {
-        self.0.get(outcome).copied().unwrap_or_default()
+        self.counts.get(outcome).copied().unwrap_or_default()
+    }
+
+    /// Whether an outcome is to be reached, and was not.
+    pub fn lacks(&self, outcome: &(&'static str, String)) -> bool {
+        self.counts.get(outcome) == Some(&0)
     }
 
     /// Those reached fewer than `times` times.
     pub fn rare(&self, times: u64) -> Vec<String> {
-        self.0.iter().filter(|(_, count)| **count < times).map(|((name, one), _)| format!("{name} {one}")).collect()
+        let rare = self.counts.iter().filter(|(_, count)| **count < times);
+        rare.map(|((name, one), _)| format!("{name} {one}")).collect()
     }
 
     /// A line for each call that has any.
     pub fn lines(&self) -> Vec<String> {
-        let line = |name: &str| {
-            let counts = self.0.iter().filter(|((call, _), _)| *call == name);
+        let line = |name: &&str| {
+            let counts = self.counts.iter().filter(|((call, _), _)| call == name);
             let counts: Vec<String> = counts.map(|((_, one), count)| format!("{one} {count}")).collect();
             (!counts.is_empty()).then(|| format!("{name}: {}", counts.join(", ")))
         };
-        OUTCOMES.iter().filter_map(|(name, _)| line(name)).collect()
+        self.names.iter().filter_map(line).collect()
     }
 }
 
@@ -351,16 +525,21 @@ mod tests {
             ("nodes_by_distances 5 - 0 out=1", "List 0"),
             ("! iter 5 0", "Refused 1"),
             ("remove 5 :0", "false"),
+            ("explain remove 5 :0 out=2047", "Refused 6"),
+            ("explain remove 5 :0 out=2048", "Refused 3"),
+            ("explain remove 5 :0 out=2049", "false local key"),
         ] {
             counts.add_asked(line, answer);
         }
         let reached: Vec<String> =
-            counts.0.iter().filter(|(_, c)| **c > 0).map(|((n, o), c)| format!("{n} {o} {c}")).collect();
+            counts.counts.iter().filter(|(_, c)| **c > 0).map(|((n, o), c)| format!("{n} {o} {c}")).collect();
         assert_eq!(
             reached,
             [
                 "closest_keys n 1 listed 1",
                 "closest_keys room for n listed 1",
+                "explain out=2047 refused 1",
+                "explain out=2049 explained 1",
                 "iter n 0 listed 1",
                 "iter n 4095 listed 1",
                 "iter n 4097 refused 1",
@@ -369,6 +548,40 @@ mod tests {
                 "nodes_by_distances n 0 listed 1",
                 "nodes_by_distances room for n listed 1",
                 "nodes_by_distances room for one less refused 1",
+            ]
+        );
+    }
+
+    #[test]
+    fn counts_explanations_by_reason_and_keys() {
+        let key = "0".repeat(64);
+        let (mut calls, mut explained) = (Counts::outcomes(), Counts::explained());
+        for (line, answer) in [
+            ("explain remove 5 :0".to_string(), "false local key".to_string()),
+            ("explain remove 5 :1 out=2048".to_string(), "true none".to_string()),
+            ("! explain remove 5 :1".to_string(), "Refused 1".to_string()),
+            ("explain insert_or_update 0 :1 0:0.0.0.0:0 1 0".to_string(), format!("Pending {key} none")),
+            ("explain absent_insert 0 :1 0:0.0.0.0:0 1 0".to_string(), format!("Full pending {key}")),
+            ("explain update_node 0 :1 0:0.0.0.0:0 1".to_string(), "Failed TooManyIncoming incoming limit".to_string()),
+            ("remove 5 :0".to_string(), "false".to_string()),
+        ] {
+            calls.add_outcome(&line, &answer);
+            explained.add_outcome(&line, &answer);
+        }
+        let reached = |counts: &Counts| {
+            let reached = counts.counts.iter().filter(|(_, c)| **c > 0);
+            reached.map(|((n, o), c)| format!("{n} {o}: {c}")).collect::<Vec<String>>()
+        };
+        assert_eq!(reached(&calls), ["remove false: 1"]);
+        assert_eq!(
+            reached(&explained),
+            [
+                "explain absent_insert Full / pending 1: 1",
+                "explain insert_or_update none: 1",
+                "explain remove Refused 1: 1",
+                "explain remove false / local key 0: 1",
+                "explain remove none: 1",
+                "explain update_node Failed TooManyIncoming / incoming limit 0: 1",
             ]
         );
     }

@@ -258,6 +258,7 @@ fn table_arguments(call: &TableCall, answer: usize, record: &mut Record) -> usiz
             room.unwrap_or((*n).max(least)).min(ENTRIES) as usize * entry
         }
         TableCall::TakeAppliedPending => answer,
+        TableCall::Explain { .. } => unreachable!("an explanation has no record"),
     }
 }
 

@@ -1,5 +1,6 @@
 //! Runs commands on lists of calls and holds the answers of two against each other.
 
+use crate::explained::{self, Asked};
 use crate::text;
 use std::io::{BufRead, BufReader, Read, Write};
 use std::process::{Child, ChildStdout, Command, ExitStatus, Stdio};
@@ -9,7 +10,7 @@ use std::thread::JoinHandle;
 #[derive(Clone, Debug)]
 pub struct Program(pub Vec<String>);
 
-/// Where two programs part: the line of the list, and what each wrote.
+/// Where two programs part: the line of the list, and what each wrote. Or where both give a call another answer than they explained.
 #[derive(Clone, Debug)]
 pub struct Disagreement {
     /// The index of the call in the list; the list's length where they part only at the end.
@@ -86,16 +87,18 @@ impl Running {
     }
 }
 
-/// Feeds a list to both programs, with a dump after each call, and finds where they part, or where they end though answers are due.
-/// `answered` sees each answer they agree on.
+/// Feeds a list to both programs, with a dump after each call, and finds where they part, or where they end though answers are due. A call
+/// that stands right behind its explanation must answer as explained. `answered` sees each answer they agree on, and whether it was
+/// explained before.
 pub fn compare(
     programs: &[Program; 2],
     list: &[String],
-    mut answered: impl FnMut(&str, &str),
+    mut answered: impl FnMut(&str, &str, bool),
 ) -> Result<Option<Disagreement>, String> {
     let mut first = programs[0].start(list, true)?;
     let mut second = programs[1].start(list, true)?;
     let (mut one, mut two) = (Vec::new(), Vec::new());
+    let mut explained: Option<(Asked, String)> = None;
     for (at, call) in list.iter().enumerate() {
         let lines = text::parse(call).ok().flatten().map_or(0, |line| line.answer_lines());
         for i in 0..lines {
@@ -106,7 +109,14 @@ pub fn compare(
                 return Ok(Some(Disagreement { at, first, second, both_ended }));
             };
             if i == 0 {
-                answered(call, &String::from_utf8_lossy(answer));
+                let answer = String::from_utf8_lossy(answer);
+                let before = explained.take().filter(|(asked, _)| asked.call == *call);
+                if let Some((_, explanation)) = before.as_ref().filter(|(a, e)| !explained::holds(a, e, &answer)) {
+                    let said = format!("explained as \"{explanation}\", and answered \"{answer}\"");
+                    return parted(at, &said, first, second);
+                }
+                answered(call, &answer, before.is_some());
+                explained = explained::asked(call).map(|asked| (asked, answer.into_owned()));
             }
         }
     }
@@ -116,6 +126,13 @@ pub fn compare(
         return Ok(Some(Disagreement { at: list.len(), first, second, both_ended: false }));
     }
     ended(first, second, list.len())
+}
+
+/// Both programs wrote the same, which cannot be.
+fn parted(at: usize, said: &str, first: Running, second: Running) -> Result<Option<Disagreement>, String> {
+    first.end(true)?;
+    second.end(true)?;
+    Ok(Some(Disagreement { at, first: said.to_string(), second: said.to_string(), both_ended: false }))
 }
 
 /// The programs have written all they had to, and must end well.

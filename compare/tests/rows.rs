@@ -1,4 +1,4 @@
-//! The reference answers the twelve positions and the questions of document 01 as the files say, and refuses bad lines.
+//! The reference answers the twelve positions and the questions of document 01, and explains, as the files say, and refuses bad lines.
 
 mod programs;
 
@@ -22,6 +22,13 @@ fn twelve_positions() {
 fn questions() {
     if has_reference() {
         programs::answers_as_written(REFERENCE, "questions.txt");
+    }
+}
+
+#[test]
+fn explanations() {
+    if has_reference() {
+        programs::answers_as_written(REFERENCE, "explain.txt");
     }
 }
 

@@ -119,6 +119,7 @@ fn sizes() {
         ("CLOSEST_VALUES_ENTRY_BYTES", lent::CLOSEST_VALUES_ENTRY),
         ("CLOSEST_VALUES_PREDICATE_ENTRY_BYTES", lent::CLOSEST_VALUES_PREDICATE_ENTRY),
         ("MAX_COUNT", lent::MAX_COUNT),
+        ("EXPLANATION_BYTES", lent::EXPLANATION_BYTES),
     ] {
         assert_eq!(constants[&format!("KBUCKETS_{name}")], size as u64, "{name}");
     }

@@ -22,6 +22,9 @@ pub const CLOSEST_KEYS_ENTRY: usize = KEY;
 pub const CLOSEST_VALUES_ENTRY: usize = KEY + VALUE;
 pub const CLOSEST_VALUES_PREDICATE_ENTRY: usize = KEY + 1 + VALUE;
 
+/// What the output of an explanation must have room for.
+pub const EXPLANATION_BYTES: usize = 2048;
+
 /// What `answer` must have room for. A call with an `answer` writes a key or a record to its front, or nothing.
 pub const ANSWER_BYTES: usize = RECORD;
 
@@ -264,6 +267,122 @@ pub fn take_applied_pending(storage: &mut [u8], answer: &mut [u8]) -> Result<Opt
     answered(returned).map(|code| yes_or_no(code).then(|| layout::record_in(answer)))
 }
 
+/// The explanations answer how many bytes the line has that they wrote to the front of `output`, its line feed included.
+pub fn explain_update_node_status(
+    storage: &[u8],
+    key: &[u8],
+    state: u8,
+    direction: u8,
+    now: u64,
+    output: &mut [u8],
+) -> Result<usize, Refusal> {
+    let (bytes, length) = (storage.as_ptr(), storage.len());
+    let (key, count) = (key.as_ptr(), key.len());
+    let (line, room) = (output.as_mut_ptr(), output.len());
+    let returned = unsafe {
+        ffi::kbuckets_explain_update_node_status(bytes, length, key, count, state, direction, now, line, room)
+    };
+    answered(returned).map(found)
+}
+
+pub fn explain_update_node(
+    storage: &[u8],
+    key: &[u8],
+    value: ValueCodes,
+    state: u8,
+    now: u64,
+    output: &mut [u8],
+) -> Result<usize, Refusal> {
+    let (bytes, length) = (storage.as_ptr(), storage.len());
+    let (key, count) = (key.as_ptr(), key.len());
+    let (line, room) = (output.as_mut_ptr(), output.len());
+    let ValueCodes { flag, octets: [a, b, c, d], slot } = value;
+    let returned = unsafe {
+        ffi::kbuckets_explain_update_node(bytes, length, key, count, flag, a, b, c, d, slot, state, now, line, room)
+    };
+    answered(returned).map(found)
+}
+
+pub fn explain_insert_or_update(
+    storage: &[u8],
+    key: &[u8],
+    value: ValueCodes,
+    state: u8,
+    direction: u8,
+    now: u64,
+    output: &mut [u8],
+) -> Result<usize, Refusal> {
+    let (bytes, length) = (storage.as_ptr(), storage.len());
+    let (key, count) = (key.as_ptr(), key.len());
+    let (line, room) = (output.as_mut_ptr(), output.len());
+    let ValueCodes { flag, octets: [a, b, c, d], slot } = value;
+    let returned = unsafe {
+        ffi::kbuckets_explain_insert_or_update(
+            bytes, length, key, count, flag, a, b, c, d, slot, state, direction, now, line, room,
+        )
+    };
+    answered(returned).map(found)
+}
+
+pub fn explain_remove(storage: &[u8], key: &[u8], now: u64, output: &mut [u8]) -> Result<usize, Refusal> {
+    let (bytes, length) = (storage.as_ptr(), storage.len());
+    let (key, count) = (key.as_ptr(), key.len());
+    let (line, room) = (output.as_mut_ptr(), output.len());
+    let returned = unsafe { ffi::kbuckets_explain_remove(bytes, length, key, count, now, line, room) };
+    answered(returned).map(found)
+}
+
+pub fn explain_present_update(
+    storage: &[u8],
+    key: &[u8],
+    state: u8,
+    direction: u8,
+    output: &mut [u8],
+) -> Result<usize, Refusal> {
+    let (bytes, length) = (storage.as_ptr(), storage.len());
+    let (key, count) = (key.as_ptr(), key.len());
+    let (line, room) = (output.as_mut_ptr(), output.len());
+    let returned =
+        unsafe { ffi::kbuckets_explain_present_update(bytes, length, key, count, state, direction, line, room) };
+    answered(returned).map(found)
+}
+
+pub fn explain_pending_update(
+    storage: &[u8],
+    key: &[u8],
+    state: u8,
+    direction: u8,
+    output: &mut [u8],
+) -> Result<usize, Refusal> {
+    let (bytes, length) = (storage.as_ptr(), storage.len());
+    let (key, count) = (key.as_ptr(), key.len());
+    let (line, room) = (output.as_mut_ptr(), output.len());
+    let returned =
+        unsafe { ffi::kbuckets_explain_pending_update(bytes, length, key, count, state, direction, line, room) };
+    answered(returned).map(found)
+}
+
+pub fn explain_absent_insert(
+    storage: &[u8],
+    key: &[u8],
+    value: ValueCodes,
+    state: u8,
+    direction: u8,
+    now: u64,
+    output: &mut [u8],
+) -> Result<usize, Refusal> {
+    let (bytes, length) = (storage.as_ptr(), storage.len());
+    let (key, count) = (key.as_ptr(), key.len());
+    let (line, room) = (output.as_mut_ptr(), output.len());
+    let ValueCodes { flag, octets: [a, b, c, d], slot } = value;
+    let returned = unsafe {
+        ffi::kbuckets_explain_absent_insert(
+            bytes, length, key, count, flag, a, b, c, d, slot, state, direction, now, line, room,
+        )
+    };
+    answered(returned).map(found)
+}
+
 pub fn b_new(bucket: &mut [u8], pending_timeout: u64, max_incoming: u8, filter: u8) -> Result<(), Refusal> {
     let (bytes, length) = (bucket.as_mut_ptr(), bucket.len());
     let returned = unsafe { ffi::kbuckets_b_new(bytes, length, pending_timeout, max_incoming, filter) };
@@ -334,7 +453,7 @@ pub fn b_remove(bucket: &mut [u8], key: &[u8], now: u64) -> Result<bool, Refusal
     answered(returned).map(yes_or_no)
 }
 
-/// A count is at most [`MAX_COUNT`].
+/// A count is at most [`MAX_COUNT`], a line's length at most [`EXPLANATION_BYTES`].
 fn found(count: u32) -> usize {
     count as usize
 }

@@ -1,7 +1,8 @@
 //! A table that owns its storage.
 
 use crate::answers::{AppliedPending, BucketInsertResult, Entry, InsertResult, Refusal, UpdateResult};
-use crate::lent::{self, ANSWER_BYTES, MAX_COUNT, PredicateCodes, RecordCodes, STORAGE_BYTES};
+use crate::explanation::{Explanation, PeerCall};
+use crate::lent::{self, ANSWER_BYTES, EXPLANATION_BYTES, MAX_COUNT, PredicateCodes, RecordCodes, STORAGE_BYTES};
 use crate::node::{
     ClosestValue, ConnectionDirection, ConnectionState, Key, NOT_GIVEN, Node, NodeStatus, PredicateValue, Value,
 };
@@ -184,6 +185,48 @@ impl KBucketsTable {
     /// Takes the oldest record of a pending node that was applied.
     pub fn take_applied_pending(&mut self) -> Result<Option<AppliedPending>, Refusal> {
         Ok(lent::take_applied_pending(&mut self.storage, &mut [0; ANSWER_BYTES])?.map(AppliedPending::from))
+    }
+
+    /// What a call would answer now, and why; refused as the call would be. The table stays as it is.
+    ///
+    /// ```
+    /// use kbuckets::{KBucketsTable, PeerCall, Reason, Settings, Told};
+    ///
+    /// let table = KBucketsTable::new([0; 32], Settings::default())?;
+    /// let explanation = table.explain(&PeerCall::Remove { key: [1; 32], now: 0 })?;
+    /// assert_eq!((explanation.told(), explanation.reason()), (Told::Removed(false), &Reason::NoSuchKey));
+    /// assert_eq!(explanation.to_string(), "false no such key");
+    /// # Ok::<(), kbuckets::Refusal>(())
+    /// ```
+    pub fn explain(&self, call: &PeerCall) -> Result<Explanation, Refusal> {
+        let output = &mut [0; EXPLANATION_BYTES];
+        let storage = &self.storage;
+        let count = match *call {
+            PeerCall::UpdateNodeStatus { key, state, direction, now } => {
+                let direction = given(direction.map(|d| d as u8));
+                lent::explain_update_node_status(storage, &key, state as u8, direction, now, output)
+            }
+            PeerCall::UpdateNode { key, value, state, now } => {
+                lent::explain_update_node(storage, &key, value.into(), given(state.map(|s| s as u8)), now, output)
+            }
+            PeerCall::InsertOrUpdate { key, value, status: NodeStatus { state, direction }, now } => {
+                let (state, direction) = (state as u8, direction as u8);
+                lent::explain_insert_or_update(storage, &key, value.into(), state, direction, now, output)
+            }
+            PeerCall::Remove { key, now } => lent::explain_remove(storage, &key, now, output),
+            PeerCall::PresentUpdate { key, state, direction } => {
+                let direction = given(direction.map(|d| d as u8));
+                lent::explain_present_update(storage, &key, state as u8, direction, output)
+            }
+            PeerCall::PendingUpdate { key, status: NodeStatus { state, direction } } => {
+                lent::explain_pending_update(storage, &key, state as u8, direction as u8, output)
+            }
+            PeerCall::AbsentInsert { key, value, status: NodeStatus { state, direction }, now } => {
+                let (state, direction) = (state as u8, direction as u8);
+                lent::explain_absent_insert(storage, &key, value.into(), state, direction, now, output)
+            }
+        }?;
+        Ok(Explanation::written(&output[..count]))
     }
 }
 

@@ -1,4 +1,4 @@
-//! The tool answers the twelve positions and the questions of document 01, refuses bad lines, and explains itself.
+//! The tool answers the twelve positions and the questions of document 01, explains calls, refuses bad lines, and explains itself.
 
 #[path = "../../compare/tests/programs/mod.rs"]
 mod programs;
@@ -21,7 +21,12 @@ fn questions() {
     programs::answers_as_written(KBTABLE, "questions.txt");
 }
 
-/// Each outcome of each call, by the fewest lines that reach it, as the Rust answers them.
+#[test]
+fn explanations() {
+    programs::answers_as_written(KBTABLE, "explain.txt");
+}
+
+/// Each outcome of each call and of each explanation, by the fewest lines that reach it, as the Rust answers them.
 #[test]
 fn outcomes() {
     programs::answers_as_written(KBTABLE, "../../host/tests/outcomes.txt");
@@ -56,7 +61,15 @@ fn a_message_says_what_is_wrong() {
 #[test]
 fn help() {
     let help = answers(&["--help"], "");
-    for name in ["insert_or_update", "closest_values_predicate", "b_apply_pending", "raw_record", "--dump", "out=K"] {
+    for name in [
+        "insert_or_update",
+        "closest_values_predicate",
+        "explain CALL",
+        "b_apply_pending",
+        "raw_record",
+        "--dump",
+        "out=K",
+    ] {
         assert!(help.contains(name), "{name}");
     }
     let example = help.lines().find(|line| line.ends_with("| kbtable")).unwrap();
@@ -79,13 +92,14 @@ fn version() {
 fn dumps() {
     let answers = answers(
         &["--dump"],
-        "raw_node b :1 0:0.0.0.0:1 0 0\nraw_fcp b -\ndump\nb_remove 0 :1\nbdump\nentry 0 :0\n! b_new 1 1 1\n! new :1 1 1 1 1\n",
+        "raw_node b :1 0:0.0.0.0:1 0 0\nraw_fcp b -\ndump\nb_remove 0 :1\nbdump\nentry 0 :0\n! b_new 1 1 1\n! new :1 1 1 1 1\nexplain remove 0 :0\nexplain remove 0 :0 out=9\n",
     );
     let dump = format!("dump local={:0>64} timeout=0 max=0 tf=0 bf=0 queue=[]", 0);
     let bdump = "bdump timeout=0 max=0 bf=0 {fcp=- nodes=[] pending=-}";
     let expected =
         ["Raw", "Raw", &dump, "true", bdump, bdump, "SelfEntry", &dump, "Refused 1", bdump, "Refused 1", &dump];
-    assert_eq!(answers.lines().collect::<Vec<_>>(), expected);
+    let explained = ["false local key", &dump, "Refused 6", &dump];
+    assert_eq!(answers.lines().collect::<Vec<_>>(), [&expected[..], &explained[..]].concat());
 }
 
 /// An answer comes before the next line is read.

@@ -2,9 +2,9 @@
 
 use kbuckets::lent::{self, PredicateCodes, ValueCodes};
 use kbuckets::{
-    AppliedPending, BucketInsertResult, ClosestValue, ConnectionDirection, ConnectionState, Entry, FailureReason,
-    InsertResult, KBucket, KBucketsTable, Node, NodeStatus, Predicate, PredicateValue, Refusal, Settings, UpdateResult,
-    Value,
+    AppliedPending, BucketInsertResult, ClosestValue, ConnectionDirection, ConnectionState, Entry, Explanation,
+    FailureReason, InsertResult, KBucket, KBucketsTable, Node, NodeStatus, PeerCall, Predicate, PredicateValue, Reason,
+    Refusal, Settings, Told, UpdateResult, Value,
 };
 
 fn key(first: u8, last: u8) -> [u8; 32] {
@@ -67,6 +67,71 @@ fn updates() -> Result<(), Refusal> {
     let result = table.update_node_status(&one, ConnectionState::Connected, incoming, 0)?;
     assert_eq!(result, UpdateResult::Failed(FailureReason::TooManyIncoming));
     assert_eq!(table.entry(&one, 0)?, Entry::Absent);
+    Ok(())
+}
+
+/// Each call is explained before it is made; the line is read back, and the table stays.
+#[test]
+fn explanations() -> Result<(), Refusal> {
+    let settings = Settings { pending_timeout: 50, max_incoming: 1, bucket_filter: true, table_filter: true };
+    let mut table = KBucketsTable::new([0; 32], settings)?;
+    let none = |slot| Value { address: None, slot };
+    assert_eq!(table.insert_or_update(&key(128, 0), value(0), DISCONNECTED, 0)?, InsertResult::Inserted);
+    assert_eq!(table.insert_or_update(&key(128, 1), value(1), DISCONNECTED, 0)?, InsertResult::Inserted);
+    for i in 2..16 {
+        assert_eq!(table.absent_insert(&key(128, i), none(i.into()), CONNECTED, 0)?, BucketInsertResult::Inserted);
+    }
+    let explain = |table: &KBucketsTable, call: PeerCall| {
+        let before = table.clone();
+        let explanation = table.explain(&call)?;
+        assert!(*table == before);
+        assert_eq!(explanation.to_string().parse(), Ok(explanation.clone()));
+        Ok::<Explanation, Refusal>(explanation)
+    };
+    let told = |explanation: Explanation| (explanation.told(), explanation.reason().clone());
+    let (first, waiting, now) = (key(128, 0), key(128, 16), 100);
+    let call = PeerCall::InsertOrUpdate { key: waiting, value: none(16), status: CONNECTED, now };
+    assert_eq!(told(explain(&table, call)?), (Told::Pending { disconnected: first }, Reason::None));
+    let result = table.insert_or_update(&waiting, none(16), CONNECTED, now)?;
+    assert_eq!(result, InsertResult::Pending { disconnected: first });
+    let call = PeerCall::AbsentInsert { key: key(128, 17), value: none(17), status: CONNECTED, now };
+    let explanation = explain(&table, call)?;
+    assert_eq!(explanation.keys(), [waiting]);
+    assert_eq!(explanation.to_string(), format!("Full pending 80{:0>62}", 10));
+    assert_eq!(told(explanation), (Told::Full, Reason::Pending(waiting)));
+    let call = PeerCall::PendingUpdate { key: waiting, status: DISCONNECTED };
+    assert_eq!(told(explain(&table, call)?), (Told::UpdatedPending, Reason::None));
+    let call = PeerCall::UpdateNode { key: key(128, 2), value: value(2), state: None, now };
+    let filter = Reason::BucketFilter(vec![first, key(128, 1)]);
+    assert_eq!(told(explain(&table, call)?), (Told::Failed(FailureReason::BucketFilter), filter));
+    let (state, direction) = (ConnectionState::Connected, Some(ConnectionDirection::Incoming));
+    assert_eq!(table.update_node_status(&key(128, 3), state, direction, now)?, UpdateResult::Updated);
+    let call = PeerCall::UpdateNodeStatus { key: key(128, 4), state, direction, now };
+    let limit = Reason::IncomingLimit(vec![key(128, 3)]);
+    assert_eq!(told(explain(&table, call)?), (Told::Failed(FailureReason::TooManyIncoming), limit.clone()));
+    let call = PeerCall::PresentUpdate { key: key(128, 4), state, direction };
+    assert_eq!(told(explain(&table, call)?), (Told::Failed(FailureReason::TooManyIncoming), limit));
+    let call = PeerCall::Remove { key: [0; 32], now };
+    assert_eq!(told(explain(&table, call)?), (Told::Removed(false), Reason::LocalKey));
+    assert_eq!(explain(&table, PeerCall::Remove { key: first, now: u64::MAX }), Err(Refusal::Time));
+    assert_eq!(explain(&table, PeerCall::PendingUpdate { key: first, status: CONNECTED }), Err(Refusal::Kind));
+    Ok(())
+}
+
+/// Bytes behind the line stay; where the output is too short, all do.
+#[test]
+fn lent_explanation() -> Result<(), Refusal> {
+    let storage = vec![0; lent::STORAGE_BYTES];
+    let mut output = [0xaa; lent::EXPLANATION_BYTES + 1];
+    let short = &mut output[..lent::EXPLANATION_BYTES - 1];
+    assert_eq!(lent::explain_remove(&storage, &key(0, 2), 0, short), Err(Refusal::Output));
+    assert_eq!(lent::explain_remove(&storage, &[0; 31], 0, short), Err(Refusal::Key));
+    assert!(output.iter().all(|byte| *byte == 0xaa));
+    let line = b"false no such key\n";
+    assert_eq!(lent::explain_remove(&storage, &key(0, 2), 0, &mut output)?, line.len());
+    assert_eq!(output[..line.len()], line[..]);
+    assert!(output[line.len()..].iter().all(|byte| *byte == 0xaa));
+    assert!(storage.iter().all(|byte| *byte == 0));
     Ok(())
 }
 

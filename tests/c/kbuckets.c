@@ -18,6 +18,7 @@ ASSERT_SIZE(KBUCKETS_NODES_BY_DISTANCES_ENTRY_BYTES, 41);
 ASSERT_SIZE(KBUCKETS_CLOSEST_KEYS_ENTRY_BYTES, 32);
 ASSERT_SIZE(KBUCKETS_CLOSEST_VALUES_ENTRY_BYTES, 39);
 ASSERT_SIZE(KBUCKETS_CLOSEST_VALUES_PREDICATE_ENTRY_BYTES, 40);
+ASSERT_SIZE(KBUCKETS_EXPLANATION_BYTES, 2048);
 
 /* A host may test the header's version while it compiles. */
 #if KBUCKETS_VERSION < 0x000200 || KBUCKETS_VERSION >= 0x010000
@@ -235,6 +236,88 @@ static void buckets(void) {
     CHECK(kbuckets_b_insert(bucket, sizeof bucket, of(3), 32, 1, 10, 1, 2, 4, 2, 0, 0, 0, answer, 74), 0);
 }
 
+/* An explanation of this length stands at the front of the output, and no other byte of output or table has changed. A # in the line
+ * is a key of three hexadecimal digits. */
+static void says(int line, uint32_t length, const char *expected) {
+    char text[KBUCKETS_EXPLANATION_BYTES] = {0};
+    size_t n = 0, changed = 0;
+    for (const char *c = expected; *c; c++) {
+        if (*c == '#') {
+            memset(text + n, '0', 61);
+            n += 61;
+        } else {
+            text[n++] = *c;
+        }
+    }
+    check(line, length, n);
+    check(line, memcmp(output, text, n) != 0, 0);
+    for (size_t i = n; i < sizeof output; i++) changed += output[i] != UNTOUCHED;
+    check(line, changed, 0);
+    check(line, memcmp(before, table, sizeof table) != 0, 0);
+    memset(output, UNTOUCHED, n);
+}
+
+#define SAYS(length, expected) says(__LINE__, length, expected)
+
+/* Each call explained, and a line of each reason that the C program's tables can give. */
+static void explanations(void) {
+    enum { ROOM = KBUCKETS_EXPLANATION_BYTES };
+    uint8_t zero[KBUCKETS_KEY_BYTES] = {0};
+    memset(output, UNTOUCHED, sizeof output);
+    CHECK(kbuckets_new(table, sizeof table, zero, sizeof zero, TIMEOUT, 1, KBUCKETS_FILTER_ON, KBUCKETS_FILTER_ON), 0);
+    CHECK(kbuckets_absent_insert(table, sizeof table, of(256), 32, 1, 10, 0, 0, 1, 0, 0, 0, 100, answer, 74), 0);
+    CHECK(kbuckets_absent_insert(table, sizeof table, of(257), 32, 1, 10, 0, 0, 2, 0, 1, 1, 100, answer, 74), 0);
+    for (unsigned i = 258; i < 271; i++) CHECK(put(i, 1, 0, 100), KBUCKETS_INSERT_INSERTED);
+    memcpy(before, table, sizeof table);
+    SAYS(kbuckets_explain_insert_or_update(table, sizeof table, of(271), 32, 0, 0, 0, 0, 0, 0, 1, 0, 100, output, ROOM), "Inserted none\n");
+    SAYS(
+        kbuckets_explain_insert_or_update(table, sizeof table, of(271), 32, 1, 10, 0, 0, 3, 0, 1, 0, 100, output, ROOM),
+        "Failed BucketFilter bucket filter #100 #101\n");
+    SAYS(
+        kbuckets_explain_update_node(table, sizeof table, of(258), 32, 1, 10, 0, 0, 3, 0, KBUCKETS_NOT_GIVEN, 100, output, ROOM),
+        "Failed BucketFilter bucket filter #100 #101\n");
+    SAYS(
+        kbuckets_explain_update_node_status(table, sizeof table, of(258), 32, 1, 1, 100, output, ROOM),
+        "Failed TooManyIncoming incoming limit #101\n");
+    SAYS(
+        kbuckets_explain_present_update(table, sizeof table, of(256), 32, 1, KBUCKETS_NOT_GIVEN, output, ROOM),
+        "UpdatedAndPromoted none\n");
+    SAYS(kbuckets_explain_insert_or_update(table, sizeof table, of(256), 32, 0, 0, 0, 0, 0, 9, 1, 0, 100, output, ROOM), "Updated true none\n");
+    SAYS(kbuckets_explain_remove(table, sizeof table, of(256), 32, 100, output, ROOM), "true none\n");
+    SAYS(kbuckets_explain_remove(table, sizeof table, of(300), 32, 100, output, ROOM), "false no such key\n");
+    SAYS(kbuckets_explain_remove(table, sizeof table, zero, 32, 100, output, ROOM), "false local key\n");
+
+    /* Full: the newcomer waits for place 0, and is the reason that another cannot. */
+    CHECK(put(271, 1, 0, 100), KBUCKETS_INSERT_INSERTED);
+    memcpy(before, table, sizeof table);
+    SAYS(kbuckets_explain_absent_insert(table, sizeof table, of(300), 32, 0, 0, 0, 0, 0, 7, 1, 0, 100, output, ROOM), "Pending #100 none\n");
+    SAYS(
+        kbuckets_explain_absent_insert(table, sizeof table, of(300), 32, 0, 0, 0, 0, 0, 7, 0, 0, 100, output, ROOM),
+        "Full newcomer disconnected\n");
+    CHECK(put(300, 1, 0, 100), KBUCKETS_INSERT_PENDING);
+    memcpy(before, table, sizeof table);
+    SAYS(
+        kbuckets_explain_insert_or_update(table, sizeof table, of(301), 32, 0, 0, 0, 0, 0, 7, 1, 0, 100, output, ROOM),
+        "Failed BucketFull pending #12c\n");
+    SAYS(kbuckets_explain_pending_update(table, sizeof table, of(300), 32, 1, 0, output, ROOM), "UpdatedPending none\n");
+    CHECK(kbuckets_update_node_status(table, sizeof table, of(256), 32, 1, 0, 100), KBUCKETS_UPDATE_UPDATED_AND_PROMOTED);
+    memcpy(before, table, sizeof table);
+    SAYS(kbuckets_explain_absent_insert(table, sizeof table, of(301), 32, 0, 0, 0, 0, 0, 7, 1, 0, 100, output, ROOM), "Full all connected\n");
+
+    /* Refused as the call, and with OUTPUT in its turn. */
+    CHECK(kbuckets_explain_remove(table, sizeof table, of(1), 32, 100, output, ROOM - 1), KBUCKETS_REFUSED_OUTPUT);
+    CHECK(kbuckets_explain_remove(table, sizeof table - 1, of(1), 31, 100, output, 0), KBUCKETS_REFUSED_SIZE);
+    CHECK(kbuckets_explain_remove(table, sizeof table, of(1), 31, UINT64_MAX, output, 0), KBUCKETS_REFUSED_KEY);
+    CHECK(kbuckets_explain_remove(table, sizeof table, of(1), 32, UINT64_MAX, output, 0), KBUCKETS_REFUSED_TIME);
+    CHECK(kbuckets_explain_update_node_status(table, sizeof table, of(1), 32, 2, 0, UINT64_MAX, output, 0), KBUCKETS_REFUSED_CODE);
+    CHECK(kbuckets_explain_update_node(table, sizeof table, of(1), 32, 0, 0, 0, 0, 1, 0, 2, 0, output, ROOM), KBUCKETS_REFUSED_CODE);
+    CHECK(kbuckets_explain_present_update(table, sizeof table, of(1), 32, 1, 0, output, ROOM - 1), KBUCKETS_REFUSED_OUTPUT);
+    CHECK(kbuckets_explain_present_update(table, sizeof table, of(1), 32, 1, 0, output, ROOM), KBUCKETS_REFUSED_KIND);
+    CHECK(kbuckets_explain_pending_update(table, sizeof table, of(1), 32, 1, 0, output, ROOM), KBUCKETS_REFUSED_KIND);
+    CHECK(kbuckets_explain_absent_insert(table, sizeof table, zero, 32, 0, 0, 0, 0, 0, 7, 1, 0, 100, output, ROOM), KBUCKETS_REFUSED_KIND);
+    SAYS(0, "");
+}
+
 /* Header and library belong together: what a host asks at its start. */
 static inline int same_version(void) { return kbuckets_version() == KBUCKETS_VERSION; }
 
@@ -247,6 +330,7 @@ int main(void) {
     listings();
     pendings();
     buckets();
+    explanations();
     printf("kbuckets.c: %u of %u checks passed\n", checks - failures, checks);
     return failures != 0;
 }

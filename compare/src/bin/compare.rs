@@ -1,5 +1,6 @@
 //! Compares two implementations of the routing table on random lists of calls, or writes such a list with its answers.
 
+use compare::explained::asked;
 use compare::generate::Generator;
 use compare::outcome::{Counts, outcome};
 use compare::run::{self, Disagreement, Program};
@@ -11,12 +12,14 @@ const HELP: &str = "compare [OPTIONS] [FIRST] SECOND
 compare [OPTIONS] --replay-out FILE [FIRST]
 
 Feeds seeded random lists of calls to two commands, each started with --dump, and holds their answers and dumps against each other
-line by line. FIRST is the `reference` beside this program where it is not given. A command may have arguments, parted by spaces.
+line by line. Most of the calls that can be explained stand behind their explanation, and must answer as it says. FIRST is the `reference` beside this program where it is not given. A command may have arguments, parted by spaces.
 Exits with 0 where they agree on all calls, with 2 where it cannot run, and with 1 otherwise: after a disagreement, which is shrunk to its
-fewest lines, and a command that ends before its answers are through is one, whatever the other does; where fewer calls ran than were asked
-for; and, from 200,000 calls on, where an outcome of a call is not reached (from 2,000,000 on also what listings are to be asked for).
+fewest lines, and a command that ends before its answers are through is one, whatever the other does; where fewer calls or explanations
+ran than were asked for; and, from 200,000 calls on, where an outcome of a call or an explanation is not reached (from 2,000,000 on also what
+listings and explanations are to be asked for).
 
-  --calls N          calls to compare (100,000) or to write (3,000)
+  --calls N          calls to compare (100,000) or to write (3,000); explanations are not counted
+  --explanations N   explanations to compare, each with its call, at least (0)
   --seconds N        stop after N seconds; calls that have not run by then are a failure
   --seed N           the seed (1)
   --replay-out FILE  write a list of calls that reaches every outcome, with the answers of FIRST after '#= '
@@ -25,6 +28,7 @@ for; and, from 200,000 calls on, where an outcome of a call is not reached (from
 
 struct Options {
     calls: Option<u64>,
+    explanations: u64,
     seconds: u64,
     seed: u64,
     replay: Option<String>,
@@ -58,7 +62,8 @@ fn cannot(message: &str) -> ExitCode {
 }
 
 fn options() -> Result<Option<Options>, String> {
-    let mut options = Options { calls: None, seconds: u64::MAX, seed: 1, replay: None, programs: Vec::new() };
+    let mut options =
+        Options { calls: None, explanations: 0, seconds: u64::MAX, seed: 1, replay: None, programs: Vec::new() };
     let mut arguments = std::env::args().skip(1);
     while let Some(argument) = arguments.next() {
         let mut following = || arguments.next().ok_or_else(|| format!("{argument} lacks its value"));
@@ -66,6 +71,7 @@ fn options() -> Result<Option<Options>, String> {
         match argument.as_str() {
             "--help" | "-h" => return Ok(None),
             "--calls" => options.calls = Some(number(following()?)?),
+            "--explanations" => options.explanations = number(following()?)?,
             "--seconds" => options.seconds = number(following()?)?,
             "--seed" => options.seed = number(following()?)?,
             "--replay-out" => options.replay = Some(following()?),
@@ -104,18 +110,20 @@ fn compare(options: &Options, programs: &[Program; 2]) -> Result<bool, String> {
     for program in programs {
         program.answers(&[])?;
     }
-    let mut generator = Generator::new(options.seed);
-    let (mut counts, mut asked) = (Counts::outcomes(), Counts::asked());
-    let mut calls = 0;
+    let mut generator = Generator::explaining(options.seed);
+    let (mut counts, mut explained, mut asked) = (Counts::outcomes(), Counts::explained(), Counts::asked());
+    let (mut calls, mut explanations) = (0, 0);
     let mut shown = start;
-    while calls < wanted && start.elapsed() < limit {
+    while (calls < wanted || explanations < options.explanations) && start.elapsed() < limit {
         let mut list = Vec::new();
         while list.len() < BATCH {
             list.extend(generator.list());
         }
-        let disagreement = run::compare(programs, &list, |line, answer| {
-            calls += u64::from(!line.starts_with("raw_"));
+        let disagreement = run::compare(programs, &list, |line, answer, as_explained| {
+            calls += u64::from(is_call(line));
+            explanations += u64::from(as_explained);
             counts.add_outcome(line, answer);
+            explained.add_outcome(line, answer);
             asked.add_asked(line, answer);
         })?;
         if let Some(disagreement) = disagreement {
@@ -126,25 +134,29 @@ fn compare(options: &Options, programs: &[Program; 2]) -> Result<bool, String> {
         if shown.elapsed() > Duration::from_secs(5) {
             shown = Instant::now();
             let rate = calls as f64 / start.elapsed().as_secs_f64();
-            eprintln!("{calls} calls, {rate:.0} a second, {} to go", wanted.saturating_sub(calls));
+            let to_go = (wanted.saturating_sub(calls), options.explanations.saturating_sub(explanations));
+            eprintln!("{calls} calls, {rate:.0} a second, {} to go, and {} explanations", to_go.0, to_go.1);
         }
     }
     print_counts(&counts);
-    println!("Asked of the listings:");
+    println!("Explained, by answer and reason with the number of its keys:");
+    print_counts(&explained);
+    println!("Asked of the listings, and of explanations:");
     print_counts(&asked);
     let (seed, seconds) = (options.seed, start.elapsed().as_secs_f64());
     let missing = |counts: &Counts, from| if wanted < from { 0 } else { counts.rare(1).len() };
-    let missing = missing(&counts, ALL_OUTCOMES) + missing(&asked, ALL_ASKED);
+    let missing = missing(&counts, ALL_OUTCOMES) + missing(&explained, ALL_OUTCOMES) + missing(&asked, ALL_ASKED);
+    let agree = format!("{calls} calls agree, {explanations} of them as explained before, in {seconds:.1} s");
     if calls < wanted {
         println!("seed {seed}: FAILED: only {calls} of {wanted} calls ran, in {seconds:.1} s; they agree");
+    } else if explanations < options.explanations {
+        println!("seed {seed}: FAILED: {agree}, and {} were to be explained", options.explanations);
     } else if missing > 0 {
-        println!(
-            "seed {seed}: FAILED: {calls} calls agree, in {seconds:.1} s, and {missing} outcomes that must be reached are not"
-        );
+        println!("seed {seed}: FAILED: {agree}, and {missing} outcomes that must be reached are not");
     } else {
-        println!("seed {seed}: {calls} calls agree, in {seconds:.1} s");
+        println!("seed {seed}: {agree}");
     }
-    Ok(calls >= wanted && missing == 0)
+    Ok(calls >= wanted && explanations >= options.explanations && missing == 0)
 }
 
 /// Shrinks a disagreement to one of its kind, and prints it.
@@ -156,11 +168,11 @@ fn report(programs: &[Program; 2], list: &[String], disagreement: &Disagreement)
         if trials % 200 == 0 {
             eprintln!("shrinking: {trials} trials, {} lines", part.len());
         }
-        let parted = run::compare(programs, part, |_, _| ());
+        let parted = run::compare(programs, part, |_, _, _| ());
         parted.is_ok_and(|parted| parted.is_some_and(|parted| parted.both_ended == disagreement.both_ended))
     };
     let lines = if parts(upto) { shrink(upto, parts) } else { shrink(list, parts) };
-    let Some(disagreement) = run::compare(programs, &lines, |_, _| ())? else {
+    let Some(disagreement) = run::compare(programs, &lines, |_, _, _| ())? else {
         return Err("the disagreement does not come back when the lines are run again".to_string());
     };
     println!("the fewest lines that show it:\n");
@@ -176,9 +188,9 @@ fn report(programs: &[Program; 2], list: &[String], disagreement: &Disagreement)
 fn replay(options: &Options, program: &Program, file: &str) -> Result<bool, String> {
     let start = Instant::now();
     let limit = Duration::from_secs(options.seconds);
-    let mut generator = Generator::new(options.seed);
+    let mut generator = Generator::explaining(options.seed);
     generator.small = true;
-    let mut counts = Counts::outcomes();
+    let mut counts = Counts::all();
     let mut lines: Vec<String> = Vec::new();
     let wanted = options.calls.unwrap_or(REPLAYED);
     let mut calls = 0;
@@ -190,7 +202,7 @@ fn replay(options: &Options, program: &Program, file: &str) -> Result<bool, Stri
         let mut list = generator.list();
         let answers = program.answers(&list)?;
         let unseen =
-            list.iter().zip(&answers).find_map(|(line, answer)| outcome(line, answer).filter(|o| counts.of(o) == 0));
+            list.iter().zip(&answers).find_map(|(line, answer)| outcome(line, answer).filter(|o| counts.lacks(o)));
         if let Some(unseen) = unseen {
             list = fewest(program, &list, &answers, &unseen);
         } else if !counts.rare(1).is_empty() {
@@ -232,8 +244,13 @@ fn fewest(program: &Program, list: &[String], answers: &[String], wanted: &(&'st
     whole(&between)
 }
 
+/// No raw line and no explanation.
+fn is_call(line: &str) -> bool {
+    !line.starts_with("raw_") && asked(line).is_none()
+}
+
 fn count_calls(list: &[String]) -> u64 {
-    list.iter().filter(|line| !line.starts_with("raw_")).count() as u64
+    list.iter().filter(|line| is_call(line)).count() as u64
 }
 
 fn print_counts(counts: &Counts) {

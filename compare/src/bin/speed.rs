@@ -42,7 +42,10 @@ mod measure {
 
 Prints nanoseconds per call of the proved library and of sigp/discv5. Question 2 and the reference: the least time of ROUNDS (60)
 rounds. Rest: the median, over all calls of all rounds, of the call's time less question 2's just before and after it. Library: the
-sum of question 2 and rest. A call of the reference is too short to be timed by itself; a pass of 64 (32, 4) calls is.";
+sum of question 2 and rest. A call of the reference is too short to be timed by itself; a pass of 64 (32, 4) calls is.
+
+On the tables of 1,008 nodes also the explanations of these calls: question 2, the rest, and how many times the call's own rest that is. Their
+lines name no key.";
 
     const ROUNDS: usize = 60;
     /// Calls in a timed pass: on one key, of `iter`.
@@ -56,6 +59,9 @@ sum of question 2 and rest. A call of the reference is too short to be timed by 
     const KEY: usize = 32;
     const NODE: usize = 41;
     const ANSWER: usize = 74;
+    const EXPLANATION: usize = 2048;
+    /// The nodes of the tables on which explanations are timed.
+    const EXPLAINED_NODES: usize = 1008;
     const NOW: u64 = 1;
     const TIMEOUT: u64 = 60_000;
 
@@ -121,6 +127,43 @@ sum of question 2 and rest. A call of the reference is too short to be timed by 
             storage_len: usize,
             answer: *mut u8,
             answer_len: usize,
+        ) -> u32;
+        fn kbuckets_explain_update_node_status(
+            storage: *const u8,
+            storage_len: usize,
+            key: *const u8,
+            key_len: usize,
+            state: u8,
+            direction: u8,
+            now: u64,
+            output: *mut u8,
+            output_len: usize,
+        ) -> u32;
+        fn kbuckets_explain_insert_or_update(
+            storage: *const u8,
+            storage_len: usize,
+            key: *const u8,
+            key_len: usize,
+            flag: u8,
+            a: u8,
+            b: u8,
+            c: u8,
+            d: u8,
+            slot: u16,
+            state: u8,
+            direction: u8,
+            now: u64,
+            output: *mut u8,
+            output_len: usize,
+        ) -> u32;
+        fn kbuckets_explain_remove(
+            storage: *const u8,
+            storage_len: usize,
+            key: *const u8,
+            key_len: usize,
+            now: u64,
+            output: *mut u8,
+            output_len: usize,
         ) -> u32;
     }
 
@@ -199,6 +242,7 @@ sum of question 2 and rest. A call of the reference is too short to be timed by 
     struct Library {
         storage: Vec<u8>,
         answer: [u8; ANSWER],
+        line: [u8; EXPLANATION],
     }
 
     impl Library {
@@ -218,7 +262,25 @@ sum of question 2 and rest. A call of the reference is too short to be timed by 
                 )
             };
             assert!(answer == 0);
-            Library { storage, answer: [0; ANSWER] }
+            Library { storage, answer: [0; ANSWER], line: [0; EXPLANATION] }
+        }
+
+        /// Explains a call on a peer, given this slot.
+        fn explain(&mut self, call: Call, peer: &Peer, slot: u16) -> u32 {
+            let [a, b, c, d] = peer.octets;
+            let (storage, key, line) = (self.storage.as_ptr(), peer.key.as_ptr(), self.line.as_mut_ptr());
+            let room = EXPLANATION;
+            unsafe {
+                match call {
+                    Call::UpdateNodeStatus => {
+                        kbuckets_explain_update_node_status(storage, STORAGE, key, KEY, 1, 0, NOW, line, room)
+                    }
+                    Call::Remove => kbuckets_explain_remove(storage, STORAGE, key, KEY, NOW, line, room),
+                    _ => kbuckets_explain_insert_or_update(
+                        storage, STORAGE, key, KEY, 1, a, b, c, d, slot, 1, 0, NOW, line, room,
+                    ),
+                }
+            }
         }
 
         /// The queue is empty: take_applied_pending asks questions 1 and 2 and does nothing more.
@@ -444,6 +506,19 @@ sum of question 2 and rest. A call of the reference is too short to be timed by 
             }
         }
 
+        /// The line of its explanation, where it has one.
+        fn line(self) -> Option<&'static str> {
+            match self {
+                Call::UpdateNodeStatus => Some("NotModified none\n"),
+                Call::SameValue => Some("Updated false none\n"),
+                Call::OtherValue => Some("ValueUpdated none\n"),
+                Call::Insert => Some("Inserted none\n"),
+                Call::Full => Some("Failed BucketFull all connected\n"),
+                Call::Remove => Some("true none\n"),
+                Call::ClosestKeys | Call::Iter => None,
+            }
+        }
+
         /// A call that a filter can make slower.
         fn filtered(self) -> bool {
             matches!(self, Call::UpdateNodeStatus | Call::SameValue | Call::OtherValue | Call::Insert | Call::Full)
@@ -471,6 +546,7 @@ sum of question 2 and rest. A call of the reference is too short to be timed by 
         call: Call,
         library: LibraryTimes,
         reference: Least,
+        explanation: LibraryTimes,
     }
 
     impl Setup {
@@ -537,7 +613,12 @@ sum of question 2 and rest. A call of the reference is too short to be timed by 
                     _ => true,
                 })
                 .filter(|call| filter == 0 || call.filtered())
-                .map(|call| Row { call, library: LibraryTimes::default(), reference: Least::default() })
+                .map(|call| Row {
+                    call,
+                    library: LibraryTimes::default(),
+                    reference: Least::default(),
+                    explanation: LibraryTimes::default(),
+                })
                 .collect();
             let buckets = peers.len();
             let name = format!(
@@ -564,6 +645,15 @@ sum of question 2 and rest. A call of the reference is too short to be timed by 
                 peers.timed(reference, row.call, other, &mut row.reference);
                 assert!(one.answers == other.answers, "{}: the answers differ", row.call.name());
                 assert!(one.bytes == other.bytes, "{}: the outputs differ", row.call.name());
+                if self.held == EXPLAINED_NODES
+                    && let Some(line) = row.call.line()
+                {
+                    peers.explained(library, row.call, line, &mut one.answers, &mut row.explanation);
+                    // The same removes and inserts on the other side, so that the buckets keep one order.
+                    if row.call == Call::Insert {
+                        peers.changes(reference, &mut other.answers, &mut Least::default(), &mut Least::default());
+                    }
+                }
             }
         }
     }
@@ -606,6 +696,34 @@ sum of question 2 and rest. A call of the reference is too short to be timed by 
                         side.pass(&self.targets[..ITER_CALLS], answers, times, |s, _| s.iter(bytes))
                     }
                 }
+            }
+        }
+
+        /// A pass of explanations, each of which must write this line. Where a new key is to be inserted, the changing peers are out meanwhile.
+        fn explained(
+            &self,
+            library: &mut Library,
+            call: Call,
+            line: &str,
+            answers: &mut Vec<u32>,
+            times: &mut LibraryTimes,
+        ) {
+            let untimed = &mut LibraryTimes::default();
+            let of_call = match call {
+                Call::Insert | Call::Remove => self.changing,
+                Call::Full => self.outside,
+                _ => self.drawn,
+            };
+            let other = if call == Call::OtherValue { 1 << 15 } else { 0 };
+            if call == Call::Insert {
+                library.pass(self.changing, answers, untimed, |library, peer| library.remove(peer));
+            }
+            library.pass(of_call, answers, times, |library, peer| library.explain(call, peer, peer.slot ^ other));
+            let as_expected = answers.iter().all(|length| *length == line.len() as u32);
+            assert!(as_expected && library.line.starts_with(line.as_bytes()), "{}: another line", call.name());
+            if call == Call::Insert {
+                library
+                    .pass(self.changing, answers, untimed, |library, peer| library.insert_or_update(peer, peer.slot));
             }
         }
 
@@ -685,6 +803,23 @@ sum of question 2 and rest. A call of the reference is too short to be timed by 
                 );
             }
             println!("  bytes: library {STORAGE}, reference {}", setup.reference_bytes);
+            if setup.held == EXPLAINED_NODES {
+                println!(
+                    "  {:<40} {:>8} {:>10} {:>8} {:>18}",
+                    "explained", "library", "question 2", "rest", "rest / call's rest"
+                );
+                for row in setup.rows.iter_mut().filter(|row| row.call.line().is_some()) {
+                    let (question_2, rest) =
+                        (row.explanation.question_2.0 - reading, median(&mut row.explanation.rest));
+                    let of_call = median(&mut row.library.rest);
+                    let whole = question_2 + rest;
+                    println!(
+                        "  {:<40} {whole:>8.0} {question_2:>10.0} {rest:>8.0} {:>18.2}",
+                        row.call.name(),
+                        rest / of_call
+                    );
+                }
+            }
         }
         ExitCode::SUCCESS
     }

@@ -36,7 +36,7 @@ pub fn answers_as_written(program: &str, file: &str) {
 }
 
 /// Lines that are no call, and raw lines that do not fit.
-const BAD_LINES: [&str; 26] = [
+const BAD_LINES: [&str; 41] = [
     "no_such_call",
     "entry 0",
     "entry 0 :1 2",
@@ -58,6 +58,21 @@ const BAD_LINES: [&str; 26] = [
     "closest_values_predicate 0 :1 2 1",
     "closest_values_predicate 0 :1 3:65536 1",
     "! dump",
+    "explain",
+    "! explain",
+    "explain dump",
+    "explain entry 0 :1",
+    "explain new :0 10 16 0 0",
+    "explain iter 0 1",
+    "explain take_applied_pending",
+    "explain b_remove 0 :1",
+    "explain explain remove 0 :1",
+    "explain ! remove 0 :1",
+    "explain remove 0",
+    "explain remove 0 :1 2048",
+    "explain remove 0 :1 out=-1",
+    "explain remove 0 :1 out=2048 ",
+    "explain  remove 0 :1",
     "raw_node 256 :1 0:0.0.0.0:0 0 0",
     "raw_node 0 01 0:0.0.0.0:0 0 0",
     "raw_fcp 0 256",

@@ -7,12 +7,13 @@ use mathlib.Core.List.{List}
 use mathlib.Core.Option.{Option, none, some}
 use lib.Dec.{eqb}
 use borrow.Author.Tests.{le-leb, lt-leb}
+use Rattle.model.specs.Result.{Reply}
 use Rattle.model.specs.Bucket.{Bucket}
 use Rattle.model.specs.Question.{firstFailed}
 use Rattle.laws.proofs.Tests.{clash}
 use Rattle.bucket.specs.declared.KBucket.{KBucket}
 use Rattle.bucket.specs.Bucket.{settingsOf, sound, Becomes}
-use Rattle.bucket.specs.Calls.{Reply, answered, refusalNumber, questions, timely}
+use Rattle.bucket.specs.Calls.{answered, refusalNumber, questions, timely}
 use Rattle.bucket.proofs.Sound.{becomes-stored}
 
 module _ (b : KBucket) (codes : Bool) (rest : List (ℕ × Bool)) where

@@ -6,6 +6,7 @@ use mathlib.Core.Option.{Option, none, some}
 use lib.Dec.{leb}
 use Rattle.model.specs.Node as model
 use Rattle.model.specs.Result as result
+use Rattle.model.specs.Result.{Reply}
 use Rattle.model.specs.Bucket as bucket
 use Rattle.model.specs.Call.{isOne, optional}
 use Rattle.model.specs.Question.{firstFailed, deadlineFits}
@@ -74,11 +75,6 @@ abbrev pub appliedCodes : AppliedPending → Bool
 appliedCodes applied.Nothing = true
 appliedCodes (applied.Inserted k) = true
 appliedCodes (applied.Replaced k n) = nodeCodes n
-
--- an answer of a call: the number of the question that failed, or what the call answers
-pub data Reply (A : Type 0) : Type 0 where
-  Refused : (question : ℕ) → Reply A
-  Answered : A → Reply A
 
 abbrev pub insertAnswerOf : InsertAnswer → Reply result.BucketInsertResult
 insertAnswerOf (insert-answer.Refused q) = Reply.Refused q

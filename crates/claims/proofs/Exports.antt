@@ -12,7 +12,7 @@ use Rattle.model.specs.Bytes.{Bytes}
 use Rattle.model.specs.Table.{Answer}
 use Rattle.model.specs.Call.{Listing, Call}
 use Rattle.model.specs.Listing.{found}
-use Rattle.model.specs.Question.{firstFailed, maxCount}
+use Rattle.model.specs.Question.{firstFailed, maxCount, withRoom}
 use Rattle.model.specs.Layout.{tableOf}
 use Rattle.model.specs.Step.{act}
 use Rattle.model.specs.StepBytes
@@ -25,7 +25,7 @@ use Rattle.theorem.proofs.Theorem.{theorem-closest}
 use Rattle.items.specs.declared.ListAnswer.the-variants as list-answer
 use Rattle.codes.specs.Codes.{refusedCode, answerCode, answerSize}
 use Rattle.codes.specs.Exported
-use Rattle.codes.specs.Exported.{Leaves, Writes, exported, withRoom, exportedWith}
+use Rattle.codes.specs.Exported.{Leaves, Writes, exported, exportedWith}
 use Rattle.codes.proofs.Thin.{few}
 use Rattle.claims.specs.Listed.{canAnswer}
 use Rattle.claims.specs.Runs.{ClosestList}

@@ -33,8 +33,9 @@ use Rattle.theorem.proofs.Literal.{fold-literal}
 use Rattle.theorem.proofs.Theorem.{theorem}
 use Rattle.codes.specs.Codes.{refusedCode, answerCode, answerBytes, answerSize}
 use Rattle.codes.specs.Exported.{Writes, exported, exportedWith}
+use Rattle.laws.proofs.Questions.{upToFive}
 use Rattle.codes.proofs.Thin
-use Rattle.codes.proofs.Thin.{upToFive, too-short}
+use Rattle.codes.proofs.Thin.{too-short}
 use Rattle.claims.specs.Runs.{behind, fed}
 use Rattle.claims.specs.Exports.{Called, carries, answerOf, HostRuns}
 use Rattle.claims.proofs.Ran.{lists}

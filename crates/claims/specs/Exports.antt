@@ -16,7 +16,8 @@ use Rattle.model.specs.Call.{Listing, Call, KeyCall, isOne}
 use Rattle.model.specs.Layout.{recordIn}
 use Rattle.model.specs.StepBytes.{allQuestions, outputOf}
 use Rattle.codes.specs.Codes.{refusedCode, answerSize}
-use Rattle.codes.specs.Exported.{Exported, exported, withRoom, exportedWith}
+use Rattle.model.specs.Question.{withRoom}
+use Rattle.codes.specs.Exported.{Exported, exported, exportedWith}
 use Rattle.log.specs.Log.{Entry}
 use Rattle.kbuckets.proofs.kbuckets_new.Reads as New
 use Rattle.kbuckets.proofs.kbuckets_update_node_status.Reads as UpdateNodeStatus

@@ -2,3 +2,4 @@
 pub mod Thin
 pub mod Put
 pub mod Apart
+pub mod Explained

@@ -3,44 +3,33 @@ use Prim.Native.Nat.{ℕ, _≤_, _<_}
 use native.Mathlib.Nat.{min-le-left}
 use native.Mathlib.Omega.{arith}
 use mathlib.Core.Path.{_≡_, refl, sym, ap, _∙_}
-use mathlib.Core.Bool.{Bool, true, false, _&&_, and-true, and-false}
-use mathlib.Core.List.{List, [], _∷_, _++_}
+use mathlib.Core.Bool.{Bool, true, false, _&&_, and-true}
+use mathlib.Core.List.{List}
 use mathlib.Core.Option.{Option, none, some}
 use lib.ListN.{length, length-take}
-use lib.Dec.{eqb, leb}
+use lib.Dec.{leb}
 use borrow.Author.Tests.{le-leb, lt-leb, leb-true}
 use Rattle.model.specs.Base.{given, joined}
 use Rattle.model.specs.Bytes.{splice}
 use Rattle.model.specs.Table.{Answer}
-use Rattle.model.specs.Sizes.{storageSize}
 use Rattle.model.specs.Call.{ValueArgument, Listing, Call, KeyCall}
-use Rattle.model.specs.Question.{firstFailed, valueInRange, maxCount, keysFit, codesInRange, clockFits, outputFits, kindFits}
+use Rattle.model.specs.Question.{firstFailed, withRoom, valueInRange, maxCount, keysFit, codesInRange, clockFits, outputFits}
 use Rattle.model.specs.Listing.{most, visitOrder, shown, found}
-use Rattle.model.specs.Step.{act, queueFits}
+use Rattle.model.specs.Step.{act}
 use Rattle.model.specs.Layout.{tableOf}
-use Rattle.model.specs.StepBytes.{holdsTable, allQuestions, stepBytes}
+use Rattle.model.specs.StepBytes.{allQuestions, stepBytes}
 use Rattle.laws.proofs.Parts.{splice-nil}
-use Rattle.laws.proofs.Tests.{split, and-left}
+use Rattle.laws.proofs.Tests.{and-left}
 use Rattle.laws.proofs.Listing.{most-few}
 use Rattle.on_key.specs.Answers.{Answers, failedOfTwo, failedOfFive}
-use Rattle.laws.proofs.Questions.{front-fails, front-passes, accepted-bytes}
+use Rattle.laws.proofs.Questions.{accepted-bytes, with-room, upToFive, short-of-room}
 use Rattle.on_key.proofs.OneKey.{refused-bytes}
 use Rattle.items.specs.declared.ListAnswer.{ListAnswer}
 use Rattle.items.specs.declared.ListAnswer.the-variants as list-answer
 use Rattle.items.specs.Lists.{Lists, listAnswer}
 use Rattle.codes.specs.Codes.{refusedCode, answerCode, answerBytes, answerSize}
 use Rattle.codes.specs.Few.{fewFound}
-use Rattle.codes.specs.Exported.{Leaves, Writes, exported, withRoom, exportedWith}
-
--- the questions 1 to 5
-abbrev pub upToFive : Call → List ℕ → List (ℕ × Bool)
-upToFive c s =
-    (1, eqb (length s) storageSize) ∷ (2, holdsTable c s) ∷ (3, keysFit c) ∷ (4, codesInRange c) ∷ (5, clockFits c (tableOf s)) ∷ []
-
-with-room : (qs : List (ℕ × Bool)) → withRoom true qs ≡ qs
-with-room [] = refl
-with-room (q ∷ qs) =
-    ap (λ (b : Bool). (q .0, b) ∷ withRoom true qs) (split (eqb (q .0) 6) (λ e. rw (e, and-true)) (λ e. rw e)) ∙ ap (λ (l : List (ℕ × Bool)). q ∷ l) (with-room qs)
+use Rattle.codes.specs.Exported.{Leaves, Writes, exported, exportedWith}
 
 cases : {P : Type 0} (o : Option ℕ) → ((n : ℕ) → o ≡ some n → P) → (o ≡ none → P) → P
 cases none f g = g refl
@@ -87,9 +76,7 @@ module _ (c : Call) (s : List ℕ) where
     unfolding exportedWith
     too-short l {o} e p =
         let m : leb answerSize (length answer) ≡ false = lt-leb _ _ l in
-        let rest : List (ℕ × Bool) = (6, outputFits c && false) ∷ (7, kindFits c (tableOf s)) ∷ (8, queueFits c (tableOf s)) ∷ [] in
-        let g : firstFailed (upToFive c s ++ rest) ≡ some (given o 6) =
-        cases o (λ n h. front-fails (upToFive c s) rest n (e ∙ h) ∙ (rw h)) (λ h. front-passes (upToFive c s) rest (e ∙ h) ∙ (rw (and-false, h))) in
+        let g : firstFailed (withRoom false (allQuestions c s)) ≡ some (given o 6) = short-of-room c s o e in
         record { code = p ∙ (rw (m, g)); storage = rw (m, g); output = rw (m, g) }
 
 -- take_applied_pending has no key, codes or time

@@ -1,15 +1,16 @@
 -- What an export returns and leaves, for every storage and every argument.
 use Prim.Native.Nat.{ℕ}
 use mathlib.Core.Path.{_≡_}
-use mathlib.Core.Bool.{Bool, cond, _&&_}
-use mathlib.Core.List.{List, [], _∷_}
+use mathlib.Core.List.{List}
 use mathlib.Core.Option.{Option, none, some}
 use lib.ListN.{length}
-use lib.Dec.{eqb, leb}
+use lib.Dec.{leb}
 use Rattle.model.specs.Bytes.{splice}
+use Rattle.model.specs.Result.{Reply}
 use Rattle.model.specs.Call.{Call}
-use Rattle.model.specs.Question.{firstFailed}
+use Rattle.model.specs.Question.{firstFailed, withRoom}
 use Rattle.model.specs.StepBytes.{allQuestions, stepBytes}
+use Rattle.model.specs.Explain.{Explained}
 use Rattle.codes.specs.Codes.{refusedCode, answerCode, answerBytes, answerSize}
 
 -- the return code, and what the lent memory holds after the call
@@ -33,11 +34,6 @@ pub record Writes (r : ℕ) (s out : List ℕ) (o : Exported) : Type 0 where
 unfoldable pub exported : Call → List ℕ → Exported
 exported c s = let o = stepBytes c s in record { code = answerCode (o .answer); storage = o .storage; output = o .output }
 
--- the questions, with room for the answer's bytes asked in 6's turn
-abbrev pub withRoom : Bool → List (ℕ × Bool) → List (ℕ × Bool)
-withRoom room [] = []
-withRoom room (q ∷ qs) = (q .0, cond (eqb (q .0) 6) (q .1 && room) (q .1)) ∷ withRoom room qs
-
 -- a refusal is its number alone; all lent memory keeps its bytes
 abbrev pub unlessRefusedExport : Option ℕ → Call → List ℕ → List ℕ → Exported
 unlessRefusedExport (some q) c answer s = record { code = refusedCode q; storage = s; output = answer }
@@ -48,3 +44,13 @@ unlessRefusedExport none c answer s =
 -- a call whose answer can carry a key or a record: its bytes stand at the front of `answer`
 unfoldable pub exportedWith : Call → List ℕ → List ℕ → Exported
 exportedWith c answer s = unlessRefusedExport (firstFailed (withRoom (leb answerSize (length answer)) (allQuestions c s))) c answer s
+
+-- 02, slip 1: a query's code is a refusal's or the number of bytes of the line
+abbrev pub replyCode : Reply ℕ → ℕ
+replyCode (Reply.Refused q) = refusedCode q
+replyCode (Reply.Answered n) = n
+
+-- the code and the output are those of the query, which writes no storage
+pub record Tells (r : ℕ) (out : List ℕ) (x : Explained) : Type 0 where
+  pub code : r ≡ replyCode (x .answer)
+  pub output : out ≡ x .output

@@ -16,7 +16,9 @@ ghost use Rattle.table.specs.Calls.{removeAnswer, takeAnswer, newAnswer, takeCo
 ghost use Rattle.entry.specs.Kind.{kindOf, entryAnswer, insertAnswer};
 ghost use Rattle.update.specs.Calls.{insertOrUpdateAnswer};
 ghost use Rattle.items.specs.Lists.{listAnswer};
-ghost use Rattle.codes.specs.Few.{fewFound};
+ghost use Rattle.explain.specs.Calls.{explainAnswerOf};
+ghost use Rattle.codes.specs.Exported.{replyCode};
+ghost use Rattle.codes.specs.Few.{fewFound, shortLine};
 use bucket::InsertAnswer;
 use bucket::NewAnswer;
 use bucket::RemoveAnswer;
@@ -24,6 +26,7 @@ use bucket::UpdateAnswer;
 use bucket_update::InsertResult;
 use entry::EntryAnswer;
 use entry::EntryKind;
+use explain::ExplainAnswer;
 use items::ListAnswer;
 use node::NodeStatus;
 use node::Value;
@@ -96,6 +99,17 @@ pub fn list_code(answer: ListAnswer) -> u32
     match answer {
         ListAnswer::Refused(q) => crate::refused(q),
         ListAnswer::Found(n) => n as u32,
+    }
+}
+
+// Internal: what an explanation returns.
+pub fn explain_code(answer: ExplainAnswer) -> u32
+    requires { ⌜ shortLine answer ≡ true ⌝ }
+    ensures { λ r. ⌜ r ≡ replyCode (explainAnswerOf answer) ⌝ }
+{
+    match answer {
+        ExplainAnswer::Refused(q) => crate::refused(q),
+        ExplainAnswer::Answered(n) => n as u32,
     }
 }
 

@@ -2,7 +2,9 @@
 ghost use mathlib.Core.Path.{_≡_};
 ghost use mathlib.Core.List.{[]};
 ghost use Rattle.model.specs.Call.{Listing, Call, KeyCall};
-ghost use Rattle.codes.specs.Exported.{Leaves, Writes, exported, exportedWith};
+ghost use Rattle.model.specs.Explain.{explainBytes};
+ghost use Rattle.node.specs.Node.{argumentOf};
+ghost use Rattle.codes.specs.Exported.{Leaves, Writes, exported, exportedWith, Tells};
 ghost use Rattle.bucket_calls.specs.Calls.{BucketCall, bucketStep, bucketNew};
 ghost use Rattle.kbuckets.specs.Version.{version};
 use codes::Answer;
@@ -277,6 +279,166 @@ pub extern "C" fn kbuckets_take_applied_pending(storage: &mut [u8], answer: &mut
     }
     let taken = table::take_applied_pending(storage);
     codes::answers::put_taken(answer, taken)
+}
+
+// Why the peer is missing: the line of a call that was not made.
+
+#[no_mangle]
+pub extern "C" fn kbuckets_explain_update_node_status(
+    storage: &[u8],
+    key: &[u8],
+    state: u8,
+    direction: u8,
+    time: u64,
+    output: &mut [u8],
+) -> u32
+    ensures { λ r. ⌜ Tells r (now (output .exit)) (explainBytes (now (key .entry)) (KeyCall.updateNodeStatus state direction time) (now (output .entry)) (now (storage .entry))) ⌝ }
+{
+    let answer = explain::explain_update_node_status(storage, key, state, direction, time, output);
+    codes::answers::explain_code(answer)
+}
+
+#[no_mangle]
+pub extern "C" fn kbuckets_explain_update_node(
+    storage: &[u8],
+    key: &[u8],
+    flag: u8,
+    a: u8,
+    b: u8,
+    c: u8,
+    d: u8,
+    slot: u16,
+    state: u8,
+    time: u64,
+    output: &mut [u8],
+) -> u32
+    ensures { λ r. ⌜ Tells r (now (output .exit)) (explainBytes (now (key .entry)) (KeyCall.updateNode (record { flag = flag; a = a; b = b; c = c; d = d; slot = slot }) state time) (now (output .entry)) (now (storage .entry))) ⌝ }
+{
+    let value = Value {
+        flag,
+        a,
+        b,
+        c,
+        d,
+        slot,
+    };
+    let answer = explain::explain_update_node(storage, key, value, state, time, output);
+    codes::answers::explain_code(answer)
+}
+
+#[no_mangle]
+pub extern "C" fn kbuckets_explain_insert_or_update(
+    storage: &[u8],
+    key: &[u8],
+    flag: u8,
+    a: u8,
+    b: u8,
+    c: u8,
+    d: u8,
+    slot: u16,
+    state: u8,
+    direction: u8,
+    time: u64,
+    output: &mut [u8],
+) -> u32
+    ensures { λ r. ⌜ Tells r (now (output .exit)) (explainBytes (now (key .entry)) (KeyCall.insertOrUpdate (record { flag = flag; a = a; b = b; c = c; d = d; slot = slot }) state direction time) (now (output .entry)) (now (storage .entry))) ⌝ }
+{
+    let value = Value {
+        flag,
+        a,
+        b,
+        c,
+        d,
+        slot,
+    };
+    let answer = explain::explain_insert_or_update(
+        storage,
+        key,
+        value,
+        state,
+        direction,
+        time,
+        output,
+    );
+    codes::answers::explain_code(answer)
+}
+
+#[no_mangle]
+pub extern "C" fn kbuckets_explain_remove(
+    storage: &[u8],
+    key: &[u8],
+    time: u64,
+    output: &mut [u8],
+) -> u32
+    ensures { λ r. ⌜ Tells r (now (output .exit)) (explainBytes (now (key .entry)) (KeyCall.remove time) (now (output .entry)) (now (storage .entry))) ⌝ }
+{
+    let answer = explain::explain_remove(storage, key, time, output);
+    codes::answers::explain_code(answer)
+}
+
+#[no_mangle]
+pub extern "C" fn kbuckets_explain_present_update(
+    storage: &[u8],
+    key: &[u8],
+    state: u8,
+    direction: u8,
+    output: &mut [u8],
+) -> u32
+    ensures { λ r. ⌜ Tells r (now (output .exit)) (explainBytes (now (key .entry)) (KeyCall.presentUpdate state direction) (now (output .entry)) (now (storage .entry))) ⌝ }
+{
+    let answer = explain::explain_present_update(storage, key, state, direction, output);
+    codes::answers::explain_code(answer)
+}
+
+#[no_mangle]
+pub extern "C" fn kbuckets_explain_pending_update(
+    storage: &[u8],
+    key: &[u8],
+    state: u8,
+    direction: u8,
+    output: &mut [u8],
+) -> u32
+    ensures { λ r. ⌜ Tells r (now (output .exit)) (explainBytes (now (key .entry)) (KeyCall.pendingUpdate state direction) (now (output .entry)) (now (storage .entry))) ⌝ }
+{
+    let answer = explain::explain_pending_update(storage, key, state, direction, output);
+    codes::answers::explain_code(answer)
+}
+
+#[no_mangle]
+pub extern "C" fn kbuckets_explain_absent_insert(
+    storage: &[u8],
+    key: &[u8],
+    flag: u8,
+    a: u8,
+    b: u8,
+    c: u8,
+    d: u8,
+    slot: u16,
+    state: u8,
+    direction: u8,
+    time: u64,
+    output: &mut [u8],
+) -> u32
+    ensures { λ r. ⌜ Tells r (now (output .exit)) (explainBytes (now (key .entry)) (KeyCall.absentInsert (record { flag = flag; a = a; b = b; c = c; d = d; slot = slot }) state direction time) (now (output .entry)) (now (storage .entry))) ⌝ }
+{
+    let value = Value {
+        flag,
+        a,
+        b,
+        c,
+        d,
+        slot,
+    };
+    let answer = explain::explain_absent_insert(
+        storage,
+        key,
+        value,
+        state,
+        direction,
+        time,
+        output,
+    );
+    codes::answers::explain_code(answer)
 }
 
 // A bucket by itself.

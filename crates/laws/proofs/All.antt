@@ -2,11 +2,14 @@
 use Prim.Native.Nat.{ℕ, zero, suc, _<_}
 use native.Mathlib.Omega.{arith}
 use native.Mathlib.Nat.{not-suc-le-zero, le-of-suc-le-suc}
+use mathlib.Core.Path.{_≡_}
+use mathlib.Core.Bool.{Bool, true}
 use mathlib.Core.List.{List, [], _∷_, _++_}
 use mathlib.Core.Option.{Option, none, some}
-use lib.ListN.{length, getD}
-use Rattle.model.specs.Base.{tabulate}
+use lib.ListN.{length, getD, take}
+use Rattle.model.specs.Base.{select, tabulate}
 use Rattle.model.specs.Fits.{All, Opt}
+use Rattle.laws.proofs.Tests.{cases}
 
 pub all-append : {A : Type 0} (P : A → Type 0) (xs ys : List A) → All P xs → All P ys → All P (xs ++ ys)
 all-append P [] ys p q = q
@@ -60,3 +63,17 @@ opt-map P Q f (some a) h = f a h
 pub opt-both : {A : Type 0} (P Q : A → Type 0) (o : Option A) → Opt P o → Opt Q o → Opt (λ (a : A). P a × Q a) o
 opt-both P Q none h k = tt
 opt-both P Q (some a) h k = (h, k)
+
+pub all-take : {A : Type 0} (P : A → Type 0) (m : ℕ) (xs : List A) → All P xs → All P (take m xs)
+all-take P zero xs h = tt
+all-take P (suc m) [] h = tt
+all-take P (suc m) (x ∷ xs) h = (h .0, all-take P m xs (h .1))
+
+-- the elements that pass a test keep what they have, and pass it
+pub all-select : {A : Type 0} (P : A → Type 0) (p : A → Bool) (xs : List A) → All P xs → All P (select p xs)
+all-select P p [] h = tt
+all-select P p (x ∷ xs) h = cases (All P) (p x) (λ _. (h .0, all-select P p xs (h .1))) (λ _. all-select P p xs (h .1))
+
+pub all-pass : {A : Type 0} (p : A → Bool) (xs : List A) → All (λ (x : A). p x ≡ true) (select p xs)
+all-pass p [] = tt
+all-pass {A} p (x ∷ xs) = cases (All (λ (y : A). p y ≡ true)) (p x) (λ e. (e, all-pass p xs)) (λ _. all-pass p xs)

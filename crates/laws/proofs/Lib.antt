@@ -34,3 +34,11 @@ pub mod TableBytes
 pub mod Restore
 pub mod Touched
 pub mod TableStep
+pub mod ExplainLine
+pub mod ExplainRead
+pub mod ExplainAnswer
+pub mod ExplainTold
+pub mod ExplainReason
+pub mod ExplainNames
+pub mod ExplainSize
+pub mod Explain

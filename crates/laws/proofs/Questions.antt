@@ -1,17 +1,17 @@
 -- The questions, one behind the other, and what they say of an accepted call.
 use Prim.Native.Nat.{ℕ}
 use mathlib.Core.Path.{_≡_, refl, sym, ap, _∙_}
-use mathlib.Core.Bool.{Bool, true, false, cond}
+use mathlib.Core.Bool.{Bool, true, false, cond, _&&_, and-true, and-false}
 use mathlib.Core.List.{List, [], _∷_, _++_}
 use mathlib.Core.Option.{Option, none, some}
 use lib.ListN.{length}
 use lib.Dec.{eqb}
 use borrow.Author.Tests.{eqb-true}
-use Rattle.model.specs.Base.{isSome}
+use Rattle.model.specs.Base.{isSome, given}
 use Rattle.model.specs.Table.{Table}
 use Rattle.model.specs.Sizes.{storageSize}
 use Rattle.model.specs.Call.{Call}
-use Rattle.model.specs.Question.{firstFailed, keysFit, codesInRange, clockFits, outputFits, kindFits}
+use Rattle.model.specs.Question.{firstFailed, withRoom, keysFit, codesInRange, clockFits, outputFits, kindFits}
 use Rattle.model.specs.Step.{queueFits, late, questions}
 use Rattle.model.specs.Layout.{tableOf}
 use Rattle.model.specs.StepBytes.{holdsTable, allQuestions}
@@ -78,3 +78,23 @@ accepted-bytes c s e =
     let q1 = passed 1 (eqb (length s) storageSize) ((2, holdsTable c s) ∷ questions c (tableOf s)) e in
     let q2 = passed 2 (holdsTable c s) (questions c (tableOf s)) (q1 .1) in
     record { size = eqb-true (length s) storageSize (q1 .0); formed = q2 .0; passes = q2 .1; answers = accepted c (tableOf s) (q2 .1) }
+
+-- Room in a lent output, asked in 6's turn.
+
+-- with room the questions are the call's own
+pub with-room : (qs : List (ℕ × Bool)) → withRoom true qs ≡ qs
+with-room [] = refl
+with-room (q ∷ qs) =
+    ap (λ (b : Bool). (q .0, b) ∷ withRoom true qs) (split (eqb (q .0) 6) (λ e. rw (e, and-true)) (λ e. rw e)) ∙ ap (λ (l : List (ℕ × Bool)). q ∷ l) (with-room qs)
+
+-- the questions 1 to 5
+abbrev pub upToFive : Call → List ℕ → List (ℕ × Bool)
+upToFive c s =
+    (1, eqb (length s) storageSize) ∷ (2, holdsTable c s) ∷ (3, keysFit c) ∷ (4, codesInRange c) ∷ (5, clockFits c (tableOf s)) ∷ []
+
+-- without it the first of those that fails, else 6
+pub short-of-room : (c : Call) (s : List ℕ) (o : Option ℕ) → firstFailed (upToFive c s) ≡ o → firstFailed (withRoom false (allQuestions c s)) ≡ some (given o 6)
+short-of-room c s (some n) e =
+    front-fails (upToFive c s) ((6, outputFits c && false) ∷ (7, kindFits c (tableOf s)) ∷ (8, queueFits c (tableOf s)) ∷ []) n e
+short-of-room c s none e =
+    front-passes (upToFive c s) ((6, outputFits c && false) ∷ (7, kindFits c (tableOf s)) ∷ (8, queueFits c (tableOf s)) ∷ []) e ∙ (rw and-false)

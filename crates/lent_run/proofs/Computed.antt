@@ -4,13 +4,13 @@ use Rattle.model.specs.Base.{same}
 use Rattle.model.specs.Filter.{counts, ipFilterFails}
 use Rattle.model.specs.Value.{sameNet, sameValue}
 use Rattle.model.specs.Bucket as model
-use Rattle.model.specs.Result.{BucketInsertResult, UpdateResult}
+use Rattle.model.specs.Result.{BucketInsertResult, UpdateResult, Reply}
 use Rattle.key.specs.declared.Key.{Key}
 use Rattle.key.specs.Key.{num, keyOf}
 use Rattle.node.specs.declared.Node.{Node}
 use Rattle.bucket.specs.declared.KBucket.{KBucket}
 use Rattle.bucket.specs.Bucket.{keyAt, sound}
-use Rattle.bucket.specs.Calls.{Reply, insertCall, newCall, updateStatusCall}
+use Rattle.bucket.specs.Calls.{insertCall, newCall, updateStatusCall}
 use Rattle.lent_run.specs.Lends.{keyFrom, nodeFrom, emptied, two, malformed}
 
 -- a call's answer and bucket, from its contract, are those of the definition at equal arguments

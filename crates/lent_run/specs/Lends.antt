@@ -3,7 +3,8 @@ use Prim.Native.Nat.{ℕ}
 use Rattle.key.specs.declared.Key.{Key}
 use Rattle.node.specs.declared.Node.{Node}
 use Rattle.bucket.specs.declared.KBucket.{KBucket}
-use Rattle.bucket.specs.Calls.{Reply, insertCall, newCall}
+use Rattle.model.specs.Result.{Reply}
+use Rattle.bucket.specs.Calls.{insertCall, newCall}
 
 -- the key of a number below 2 ^ 64
 abbrev pub keyFrom : ℕ → Key

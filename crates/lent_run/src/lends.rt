@@ -1,8 +1,8 @@
 // Buckets that are lent, and what the calls on them answer and leave.
 ghost use mathlib.Core.Path.{_≡_};
-ghost use Rattle.model.specs.Result.{BucketInsertResult, UpdateResult};
+ghost use Rattle.model.specs.Result.{BucketInsertResult, UpdateResult, Reply};
 ghost use Rattle.bucket.specs.Bucket.{keyAt};
-ghost use Rattle.bucket.specs.Calls.{Reply, insertAnswerOf, updateAnswerOf};
+ghost use Rattle.bucket.specs.Calls.{insertAnswerOf, updateAnswerOf};
 ghost use Rattle.lent_run.specs.Lends.{keyFrom, nodeFrom, emptied, two, malformed, question};
 use bucket::InsertAnswer;
 use bucket::InsertReply;

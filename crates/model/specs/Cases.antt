@@ -46,18 +46,18 @@ noRecord = Answer.TakeAppliedPending none
 -- Calls and lists of calls.
 
 -- a disconnected node with the address 10.0.0.k and slot 0
-abbrev member : ℕ → Call
+abbrev pub member : ℕ → Call
 member k = Call.onKey (key k) (KeyCall.absentInsert (addressed k 0) 0 0 0)
 
 abbrev memberNode : ℕ → Node
 memberNode k = nodeOf (key k) (addressed k 0) 0 0
 
 -- the n keys from k on
-abbrev numbers : ℕ → ℕ → List ℕ
+abbrev pub numbers : ℕ → ℕ → List ℕ
 numbers k n = from (λ x. x) k n
 
 -- table filter on; n nodes of one /24 from key 32 on
-abbrev members : ℕ → List Call
+abbrev pub members : ℕ → List Call
 members n = start 16 1 0 ∷ from member 32 n
 
 -- table filter on; bucket 5 full of disconnected nodes, ten of one /24, and 48 pending since time 0 with an eleventh value of it
@@ -66,15 +66,15 @@ eleventhPending =
     start 16 1 0 ∷ (from disconnected 32 6 ++ (from member 38 10 ++ (Call.onKey (key 48) (KeyCall.absentInsert (addressed 48 0) 1 0 0) ∷ [])))
 
 -- bucket filter on; 10.0.0.1 is held by 32 and 34, 10.0.0.2 by 33
-abbrev oneBetweenEquals : List Call
+abbrev pub oneBetweenEquals : List Call
 oneBetweenEquals = twoOfANet ++ (Call.onKey (key 34) (KeyCall.absentInsert (addressed 1 0) 0 0 0) ∷ [])
 
 -- one disconnected and 15 connected nodes, and 48 pending since time 0
-abbrev pendingOverOne : List Call
+abbrev pub pendingOverOne : List Call
 pendingOverOne = start 16 0 0 ∷ disconnected 32 ∷ (from connected 33 15 ++ (connected 48 ∷ []))
 
 -- timeout 0, bucket 8 full of disconnected nodes
-abbrev fullAtOnce : List Call
+abbrev pub fullAtOnce : List Call
 fullAtOnce = Call.new (key 0) 0 16 0 0 ∷ from disconnected 256 16
 
 -- applies the due pending k, then sets it disconnected
@@ -82,7 +82,7 @@ abbrev settle : ℕ → Call
 settle k = Call.onKey (key k) (KeyCall.updateNodeStatus 0 2 0)
 
 -- n keys from k on, each made pending and applied by the next call: each leaves a record, and the bucket full of disconnected nodes
-abbrev applied : ℕ → ℕ → List Call
+abbrev pub applied : ℕ → ℕ → List Call
 applied k zero = []
 applied k (suc n) = connected k ∷ settle k ∷ applied (suc k) n
 

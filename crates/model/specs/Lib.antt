@@ -19,7 +19,9 @@ pub mod Layout
 pub mod Formed
 pub mod Nearest
 pub mod StepBytes
+pub mod Explain
 pub mod Fits
 pub mod Numbers
 pub mod Rows
 pub mod Cases
+pub mod ExplainCases

@@ -19,6 +19,11 @@ abbrev pub firstFailed : List (ℕ × Bool) → Option ℕ
 firstFailed [] = none
 firstFailed (q ∷ qs) = cond (q .1) (firstFailed qs) (some (q .0))
 
+-- the questions, with room in a lent output asked in 6's turn
+abbrev pub withRoom : Bool → List (ℕ × Bool) → List (ℕ × Bool)
+withRoom room [] = []
+withRoom room (q ∷ qs) = (q .0, cond (eqb (q .0) 6) (q .1 && room) (q .1)) ∷ withRoom room qs
+
 -- 3: the target of a listing
 abbrev pub targets : Listing → List (List ℕ)
 targets Listing.iter = []

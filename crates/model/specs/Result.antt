@@ -52,3 +52,8 @@ isFailed UpdateResult.UpdatedAndPromoted = false
 isFailed UpdateResult.UpdatedPending = false
 isFailed (UpdateResult.Failed r) = true
 isFailed UpdateResult.NotModified = false
+
+-- what a query, or a call on a bucket by itself, answers: the number of the question that failed, or its answer
+pub data Reply (A : Type 0) : Type 0 where
+  Refused : (question : ℕ) → Reply A
+  Answered : A → Reply A

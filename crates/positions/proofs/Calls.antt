@@ -3,10 +3,10 @@ use Prim.Native.Nat.{ℕ, zero, suc, _+_, _-_, _<_}
 use native.Mathlib.Omega.{arith}
 use native.Mathlib.Numerals.{add-one}
 use mathlib.Core.Path.{_≡_, sym, ap, _∙_}
-use Rattle.model.specs.Result.{BucketInsertResult}
+use Rattle.model.specs.Result.{BucketInsertResult, Reply}
 use Rattle.node.specs.declared.Node.{Node}
 use Rattle.bucket.specs.declared.KBucket.{KBucket}
-use Rattle.bucket.specs.Calls.{Reply, insertCall}
+use Rattle.bucket.specs.Calls.{insertCall}
 use Rattle.positions.specs.Positions.{plain, nodeFrom, filled}
 
 -- what a call answers, and the bucket that it leaves, from its contract

@@ -11,12 +11,12 @@ use Rattle.model.specs.Visit.{setsDown, clearsUp, visits}
 use Rattle.model.specs.Filter.{counts, ipFilterFails}
 use Rattle.model.specs.Value.{sameNet, sameValue}
 use Rattle.model.specs.Bucket.{firstConnectedPos, isFull, failsBucketFilter, isMaxIncoming, insert, applyDue, applyPending, reinsert, updateStatus, remove}
-use Rattle.model.specs.Result.{BucketInsertResult, UpdateResult}
+use Rattle.model.specs.Result.{BucketInsertResult, UpdateResult, Reply}
 use Rattle.key.specs.Key.{num, keyOf}
 use Rattle.node.specs.Node.{nodeOf}
 use Rattle.bucket.specs.declared.KBucket.{KBucket}
 use Rattle.bucket.specs.Bucket.{bucketOf, keyAt, sound}
-use Rattle.bucket.specs.Calls.{Reply, insertCall, newCall, updateStatusCall, applyPendingCall, removeCall}
+use Rattle.bucket.specs.Calls.{insertCall, newCall, updateStatusCall, applyPendingCall, removeCall}
 use Rattle.positions.specs.Positions.{keyFrom, indexOf, plain, addressed, nodeFrom, emptied, filled}
 
 -- rows 1 and 2

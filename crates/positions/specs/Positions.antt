@@ -6,13 +6,13 @@ use mathlib.Core.Option.{Option, none, some}
 use Rattle.model.specs.Base.{same}
 use Rattle.model.specs.Key.{bucketIndex}
 use Rattle.model.specs.Node.{AppliedPending}
-use Rattle.model.specs.Result.{BucketInsertResult, UpdateResult}
+use Rattle.model.specs.Result.{BucketInsertResult, UpdateResult, Reply}
 use Rattle.key.specs.declared.Key.{Key}
 use Rattle.key.specs.Key.{num}
 use Rattle.node.specs.declared.Value.{Value}
 use Rattle.node.specs.declared.Node.{Node}
 use Rattle.bucket.specs.declared.KBucket.{KBucket}
-use Rattle.bucket.specs.Calls.{Reply, insertCall, newCall}
+use Rattle.bucket.specs.Calls.{insertCall, newCall}
 
 -- the key of a number below 2 ^ 64
 abbrev pub keyFrom : ℕ → Key

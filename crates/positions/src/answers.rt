@@ -2,7 +2,8 @@
 ghost use mathlib.Core.Path.{_≡_};
 ghost use Rattle.key.specs.Key.{num};
 ghost use Rattle.key.specs.Answers.{bucketIndexOf};
-ghost use Rattle.bucket.specs.Calls.{insertAnswerOf, applyAnswerOf, updateAnswerOf, insertResultOf, updateResultOf, Reply};
+ghost use Rattle.model.specs.Result.{Reply};
+ghost use Rattle.bucket.specs.Calls.{insertAnswerOf, applyAnswerOf, updateAnswerOf, insertResultOf, updateResultOf};
 ghost use Rattle.positions.specs.Positions.{indexNumber, insertNumber, namesKey, updateNumber, noneApplied, appliedKey};
 use bucket::AppliedPending;
 use bucket::ApplyAnswer;

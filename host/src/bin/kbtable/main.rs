@@ -3,10 +3,10 @@
 use calls::layout::{self, AloneBytes, KEY, Settings, TableBytes};
 use calls::program::{self, Implementation, Unanswered};
 use calls::text::{
-    BUCKET_FORMS, BucketCall, Listing, Predicate, RAW_FORMS, RecordCodes, TABLE_FORMS, TableCall, Write,
+    BUCKET_FORMS, BucketCall, Listing, PEER_CALLS, Predicate, RAW_FORMS, RecordCodes, TABLE_FORMS, TableCall, Write,
 };
-use kbuckets::lent::{self, ANSWER_BYTES, MAX_COUNT, PredicateCodes};
-use kbuckets::{BucketInsertResult, Entry, FailureReason, InsertResult, NodeStatus, UpdateResult};
+use kbuckets::lent::{self, ANSWER_BYTES, EXPLANATION_BYTES, MAX_COUNT, PredicateCodes};
+use kbuckets::{BucketInsertResult, Entry, Explanation, FailureReason, InsertResult, NodeStatus, UpdateResult};
 use output::{Output, changed};
 use std::process::ExitCode;
 
@@ -51,13 +51,15 @@ DIRECTION):
   DISTANCES          log2 distances joined by commas, '-' for none; distance D, 1 to 256, is bucket D - 1, others are dropped
   PREDICATE          0 always, 1 has an address, 2:a.b.c address in that /24, 3:SLOT slot equals
   PLACE              the first connected place, '-' for none
-  out=K              after a listing: its output has room for K entries, and not for N
+  CALL               {}
+  out=K              after a listing: its output has room for K entries, and not for K + 1; after an explanation: it has K bytes
   ! CALL             the call gets its storage, or bucket, one byte short
 
 'Refused Q' is a call that changed nothing, since question Q failed: 1 the storage's length, 2 its form, 3 a key's length, 4 a code,
 5 NOW + TIMEOUT, 6 N or the output's length, 7 the entry's kind, 8 room in the queue of records.
 
-Other answers are sigp/discv5's names; host/CALLS.md has them all, and the form of a dump.
+Other answers are sigp/discv5's names; host/CALLS.md has them all, and the form of a dump. 'explain' gives a call's answer before it is made,
+the reason, and the keys behind it: 'Failed BucketFull pending KEY'. The table stays as it is.
 
 An example: a table that holds one node, and the keys nearest to the key 5:
 
@@ -65,8 +67,14 @@ An example: a table that holds one node, and the keys nearest to the key 5:
 ",
         forms(&TABLE_FORMS),
         forms(&BUCKET_FORMS),
-        forms(&RAW_FORMS)
+        forms(&RAW_FORMS),
+        explained_calls()
     )
+}
+
+fn explained_calls() -> String {
+    let (last, others) = PEER_CALLS.split_last().unwrap();
+    format!("a line of {} or {last}", others.join(", "))
 }
 
 /// The storage of a table, a bucket by itself, and what the calls are lent besides.
@@ -88,18 +96,21 @@ impl Tool {
         Tool {
             table: TableBytes::new(&[0; KEY], &settings),
             bucket: AloneBytes::new(&settings),
-            lent: Lent { before: Vec::new(), output: Output::new((MOST_ENTRIES + 1) * lent::ITER_ENTRY) },
+            lent: Lent { before: Vec::new(), output: Output::new(MOST_BYTES) },
         }
     }
 }
 
 impl Implementation for Tool {
     fn table_call(&mut self, short: bool, call: &TableCall, out: &mut Vec<u8>) -> Result<(), Unanswered> {
-        self.lent.call(&mut self.table.0, short, call, |storage, output| table_call(storage, call, output, out))
+        let may_write = !matches!(call, TableCall::Explain { .. });
+        let run = |storage: &mut [u8], output: &mut Output| table_call(storage, call, output, out);
+        self.lent.call(&mut self.table.0, short, may_write, call, run)
     }
 
     fn bucket_call(&mut self, short: bool, call: &BucketCall, out: &mut Vec<u8>) -> Result<(), Unanswered> {
-        self.lent.call(&mut self.bucket.0, short, call, |bucket, output| bucket_call(bucket, call, output, out))
+        let run = |bucket: &mut [u8], output: &mut Output| bucket_call(bucket, call, output, out);
+        self.lent.call(&mut self.bucket.0, short, true, call, run)
     }
 
     fn table_bytes(&mut self) -> &mut TableBytes {
@@ -121,11 +132,12 @@ impl Implementation for Tool {
 
 impl Lent {
     /// Runs a call on the bytes, or on all but the last, and looks at what it changed: arguments never, in a refusal nothing, and of its
-    /// output only what it says it wrote.
+    /// output only what it says it wrote. `may_write`: an accepted call may change the bytes; an explanation may not.
     fn call<Call: Clone + PartialEq>(
         &mut self,
         bytes: &mut Vec<u8>,
         short: bool,
+        may_write: bool,
         call: &Call,
         run: impl FnOnce(&mut [u8], &mut Output) -> Result<(), Unanswered>,
     ) -> Result<(), Unanswered> {
@@ -137,10 +149,15 @@ impl Lent {
         if *call != given {
             return broken("an argument changed".to_string());
         }
-        if let Err(Unanswered::Refused(question)) = answered
+        let kept = match &answered {
+            Err(Unanswered::Refused(question)) => Some(format!("refused with {question}")),
+            Ok(()) if !may_write => Some("explained".to_string()),
+            _ => None,
+        };
+        if let Some(kept) = kept
             && let Some(at) = changed(&self.before, bytes, 0..0)
         {
-            return broken(format!("refused with {question}, and byte {at} of the storage changed"));
+            return broken(format!("{kept}, and byte {at} of the storage changed"));
         }
         self.output.check().or_else(broken)?;
         answered
@@ -182,6 +199,7 @@ fn table_call(storage: &mut [u8], call: &TableCall, output: &mut Output, out: &m
             let record = lent::take_applied_pending(storage, answer(output))?;
             applied(record, output, out)?;
         }
+        TableCall::Explain { call, room } => explain(storage, call, *room, output, out)?,
     }
     Ok(())
 }
@@ -221,6 +239,9 @@ fn answer(output: &mut Output) -> &mut [u8] {
 
 /// The entries that an output has room for, at most. More than [`MAX_COUNT`] are never written.
 const MOST_ENTRIES: usize = MAX_COUNT + 8;
+
+/// The bytes that an output has, at most.
+const MOST_BYTES: usize = (MOST_ENTRIES + 1) * lent::ITER_ENTRY;
 
 /// A listing, with an output for as many entries as `room` says, or for those that n asks for and some more.
 fn list(
@@ -272,6 +293,55 @@ fn list(
             }
         }
     }
+    Ok(())
+}
+
+/// An explanation, with an output of as many bytes as `room` says, or of those that it needs and some more.
+fn explain(
+    storage: &[u8],
+    call: &TableCall,
+    room: Option<u64>,
+    output: &mut Output,
+    out: &mut Vec<u8>,
+) -> Result<(), Unanswered> {
+    let lent = match room {
+        Some(room) => output.lend(room.min(MOST_BYTES as u64) as usize, 1),
+        None => output.lend(1, EXPLANATION_BYTES),
+    };
+    let count = match call {
+        TableCall::UpdateNodeStatus { now, key, state, direction } => {
+            lent::explain_update_node_status(storage, key, *state, *direction, *now, lent)
+        }
+        TableCall::UpdateNode { now, key, value, state } => {
+            lent::explain_update_node(storage, key, *value, *state, *now, lent)
+        }
+        TableCall::InsertOrUpdate { now, key, value, state, direction } => {
+            lent::explain_insert_or_update(storage, key, *value, *state, *direction, *now, lent)
+        }
+        TableCall::Remove { now, key } => lent::explain_remove(storage, key, *now, lent),
+        TableCall::PresentUpdate { key, state, direction } => {
+            lent::explain_present_update(storage, key, *state, *direction, lent)
+        }
+        TableCall::PendingUpdate { key, state, direction } => {
+            lent::explain_pending_update(storage, key, *state, *direction, lent)
+        }
+        TableCall::AbsentInsert { now, key, value, state, direction } => {
+            lent::explain_absent_insert(storage, key, *value, *state, *direction, *now, lent)
+        }
+        _ => unreachable!("the text has no explanation of another call"),
+    }?;
+    explained(output.wrote(count), out)
+}
+
+/// The line that an explanation wrote, without its line feed. The package's reader must give it back.
+fn explained(written: &[u8], out: &mut Vec<u8>) -> Result<(), Unanswered> {
+    let line = written.strip_suffix(b"\n").and_then(|line| str::from_utf8(line).ok());
+    let is_read = |line: &&str| line.parse::<Explanation>().is_ok_and(|explanation| explanation.to_string() == *line);
+    let Some(line) = line.filter(is_read) else {
+        let written = String::from_utf8_lossy(written);
+        return Err(Unanswered::Broken(format!("what was written is not the line of an explanation: {written:?}")));
+    };
+    out.text(line);
     Ok(())
 }
 
@@ -384,7 +454,7 @@ mod tests {
         run: impl FnOnce(&mut [u8], &mut Output) -> Result<(), Unanswered>,
     ) -> Result<(), Unanswered> {
         let mut lent = Lent { before: Vec::new(), output: Output::new(2 * ANSWER_BYTES) };
-        lent.call(&mut vec![1, 2, 3, 4], short, &(), run)
+        lent.call(&mut vec![1, 2, 3, 4], short, true, &(), run)
     }
 
     fn broken(message: &str) -> Result<(), Unanswered> {
@@ -426,6 +496,41 @@ mod tests {
         assert!(inserted(pending, KEY + 1).is_err());
         assert_eq!(inserted(InsertResult::Inserted, 0), Ok(()));
         assert!(inserted(InsertResult::Inserted, 1).is_err());
+    }
+
+    /// An explanation changes the front of its output, as far as its line goes, and no byte of the storage.
+    #[test]
+    fn an_explanation_changes_its_line_alone() {
+        let line = b"false no such key\n";
+        let run = |storage_changes: bool, more: usize, room: usize| {
+            let mut lent = Lent { before: Vec::new(), output: Output::new(2 * EXPLANATION_BYTES) };
+            lent.call(&mut vec![1, 2, 3, 4], false, false, &(), |bytes, output| {
+                bytes[1] ^= u8::from(storage_changes);
+                let lent = output.lend(1, room);
+                lent[..line.len()].copy_from_slice(line);
+                lent[line.len()..][..more].fill(0);
+                explained(output.wrote(line.len()), &mut Vec::new())
+            })
+        };
+        for room in [EXPLANATION_BYTES, line.len() + 3] {
+            assert_eq!(run(false, 0, room), Ok(()));
+            assert_eq!(run(true, 0, room), broken("explained, and byte 1 of the storage changed"));
+            let message = "byte 18 of the output changed; it has";
+            let Err(Unanswered::Broken(said)) = run(false, 1, room) else { panic!() };
+            assert!(said.starts_with(message), "{said}");
+        }
+    }
+
+    #[test]
+    fn what_is_no_line_is_no_answer() {
+        let mut out = Vec::new();
+        assert_eq!(explained(b"false no such key\n", &mut out), Ok(()));
+        assert_eq!(out, b"false no such key");
+        for written in
+            [&b""[..], b"\n", b"false no such key", b"false no such key \n", b"false\nnone\n", b"false \xff\n"]
+        {
+            assert!(matches!(explained(written, &mut out), Err(Unanswered::Broken(_))));
+        }
     }
 
     /// Where a record has no evicted node, the bytes for it are zero.

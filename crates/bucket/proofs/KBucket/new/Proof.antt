@@ -1,7 +1,8 @@
 use mathlib.Core.Path.{sym, ap}
 use borrow.Author.Tests.{le-leb, lt-leb}
 use Rattle.bucket.specs.declared.KBucket.{KBucket}
-use Rattle.bucket.specs.Calls.{Reply, newCall}
+use Rattle.model.specs.Result.{Reply}
+use Rattle.bucket.specs.Calls.{newCall}
 use borrow.Author.Needs.{needs}
 use Rattle.bucket.proofs.KBucket.new.Statement.{statement}
 use Rattle.bucket.proofs.KBucket.new.Tie as tie

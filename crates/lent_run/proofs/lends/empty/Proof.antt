@@ -1,6 +1,6 @@
 use mathlib.Core.Path.{sym, ap}
 use Rattle.bucket.specs.declared.KBucket.{KBucket}
-use Rattle.bucket.specs.Calls.{Reply}
+use Rattle.model.specs.Result.{Reply}
 use borrow.Author.Needs.{needs}
 use Rattle.lent_run.proofs.lends.empty.Statement.{statement}
 use Rattle.lent_run.proofs.lends.empty.Tie as tie

@@ -1,8 +1,7 @@
 use mathlib.Core.Path.{ap, _∙_}
-use Rattle.model.specs.Result.{UpdateResult}
+use Rattle.model.specs.Result.{UpdateResult, Reply}
 use Rattle.bucket.specs.declared.KBucket.{KBucket}
 use Rattle.bucket.specs.Bucket.{keyAt}
-use Rattle.bucket.specs.Calls.{Reply}
 use Rattle.lent_run.proofs.Computed.{steps, moved}
 use borrow.Author.Needs.{needs}
 use Rattle.lent_run.proofs.lends.moved.Statement.{statement}

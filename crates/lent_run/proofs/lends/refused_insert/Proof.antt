@@ -1,7 +1,6 @@
 use mathlib.Core.Path.{ap, _∙_}
-use Rattle.model.specs.Result.{BucketInsertResult}
+use Rattle.model.specs.Result.{BucketInsertResult, Reply}
 use Rattle.bucket.specs.declared.KBucket.{KBucket}
-use Rattle.bucket.specs.Calls.{Reply}
 use Rattle.lent_run.proofs.Computed.{inserts, insert-refused}
 use borrow.Author.Needs.{needs}
 use Rattle.lent_run.proofs.lends.refused_insert.Statement.{statement}

@@ -2,7 +2,8 @@ use mathlib.Core.Path.{sym, ap, _∙_}
 use Rattle.key.specs.Key.{num}
 use Rattle.bucket.specs.declared.AppliedPending.{AppliedPending}
 use Rattle.bucket.specs.declared.ApplyAnswer.{ApplyAnswer}
-use Rattle.bucket.specs.Calls.{Reply, recordsOf, applyAnswerOf}
+use Rattle.model.specs.Result.{Reply}
+use Rattle.bucket.specs.Calls.{recordsOf, applyAnswerOf}
 use Rattle.positions.specs.Positions.{appliedKey}
 use borrow.Author.Needs.{needs}
 use Rattle.positions.proofs.answers.applied_key.Statement.{statement}

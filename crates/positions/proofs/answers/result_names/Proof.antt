@@ -1,7 +1,8 @@
 use mathlib.Core.Path.{sym, ap, _∙_}
 use Rattle.key.specs.Key.{num}
 use Rattle.bucket.specs.declared.InsertResult.{InsertResult}
-use Rattle.bucket.specs.Calls.{Reply, insertResultOf}
+use Rattle.model.specs.Result.{Reply}
+use Rattle.bucket.specs.Calls.{insertResultOf}
 use Rattle.positions.specs.Positions.{namesKey}
 use borrow.Author.Needs.{needs}
 use Rattle.positions.proofs.answers.result_names.Statement.{statement}

@@ -1,9 +1,9 @@
 use mathlib.Core.Path.{ap, _∙_}
 use Rattle.bucket.specs.declared.KBucket.{KBucket}
-use Rattle.model.specs.Result.{UpdateResult}
+use Rattle.model.specs.Result.{UpdateResult, Reply}
 use Rattle.key.specs.declared.Key.{Key}
 use Rattle.bucket.specs.Bucket.{keyAt}
-use Rattle.bucket.specs.Calls.{Reply, updateStatusCall}
+use Rattle.bucket.specs.Calls.{updateStatusCall}
 use Rattle.positions.specs.Positions.{emptied, filled}
 use Rattle.positions.proofs.Calls.{answer-of, bucket-of}
 use Rattle.positions.proofs.Computed.{moved}

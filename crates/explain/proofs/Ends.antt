@@ -1,0 +1,132 @@
+-- The query, by the questions, by the key's index, and by what the call does to the key's bucket.
+use Prim.Native.Nat.{ℕ, _+_, _≤_, _<_}
+use native.Mathlib.Nat.{add-zero}
+use mathlib.Core.Path.{_≡_, sym, ap, _∙_, subst}
+use mathlib.Core.Bool.{Bool, true, false, cond, and-true}
+use mathlib.Core.List.{List, [], _∷_, _++_}
+use mathlib.Core.Option.{Option, none, some}
+use lib.ListN.{length, length-append}
+use lib.Dec.{leb}
+use borrow.Author.Tests.{le-leb, lt-leb}
+use Rattle.model.specs.Bytes.{number, splice}
+use Rattle.model.specs.Node.{AppliedPending}
+use Rattle.model.specs.Bucket.{Bucket, BucketSettings}
+use Rattle.model.specs.Table.{Table, Effect, maxRecords, indexIn}
+use Rattle.model.specs.Result.{Reply}
+use Rattle.model.specs.Call.{Call, KeyCall}
+use Rattle.model.specs.Question.{firstFailed, withRoom, keyArguments, kindOfKey, keysFit, codesInRange, clockFits, outputFits, kindFits}
+use Rattle.model.specs.Step.{Outcome, onKey, ownAnswer, effect, act, queueFits, late}
+use Rattle.model.specs.Layout.{tableOf}
+use Rattle.model.specs.StepBytes.{allQuestions}
+use Rattle.model.specs.Explain.{Told, told, Reason, bucketReason, keyReason, reason, Explanation, explanation, line, Explained, explanationRoom, lineUnlessRefused, explainBytes}
+use Rattle.laws.proofs.Questions.{front-fails, front-passes}
+use Rattle.bucket.specs.declared.KBucket.{KBucket}
+use Rattle.bucket.specs.Bucket.{bucketOf, settingsOf, Becomes}
+use Rattle.on_key.specs.Answers.{firstFive, failedOfFive, roomFor}
+use Rattle.explanation.specs.declared.Why.{Why}
+use Rattle.explanation.specs.Explanation.{whyOf}
+use Rattle.explain.specs.declared.ExplainAnswer.{ExplainAnswer}
+use Rattle.reasons.specs.Reasons.{Tells}
+use Rattle.explain.specs.Calls.{Explains, lastThree}
+
+-- the last three questions, in turn
+
+module _ (kind room : Bool) (l out : List ℕ) where
+  pub refused-room : length out < explanationRoom → Explains (ExplainAnswer.Refused 6) out (lastThree kind room l out)
+  unfolding lastThree
+  refused-room h = let e = lt-leb explanationRoom (length out) h in record { answer = rw e; output = rw e }
+
+  module _ (h : explanationRoom ≤ length out) where
+    pub refused-kind : kind ≡ false → Explains (ExplainAnswer.Refused 7) out (lastThree kind room l out)
+    unfolding lastThree
+    refused-kind k = let e = le-leb explanationRoom (length out) h in record { answer = rw (e, k); output = rw (e, k) }
+
+    module _ (k : kind ≡ true) where
+      pub refused-queue : room ≡ false → Explains (ExplainAnswer.Refused 8) out (lastThree kind room l out)
+      unfolding lastThree
+      refused-queue q = let e = le-leb explanationRoom (length out) h in record { answer = rw (e, k, q); output = rw (e, k, q) }
+
+      pub answered : room ≡ true → {n : ℕ} {out′ : List ℕ} → n ≡ length l → out′ ≡ splice out 0 l → Explains (ExplainAnswer.Answered n) out′ (lastThree kind room l out)
+      unfolding lastThree
+      answered q {n} {out′} p w =
+          let e = le-leb explanationRoom (length out) h in
+          record { answer = ap (λ (m : ℕ). Reply.Answered m) p ∙ rw (e, k, q); output = w ∙ rw (e, k, q) }
+
+-- a reason under another name
+pub as-reason : {r : ExplainAnswer} {out′ : List ℕ} (kind room : Bool) (d : Told) (out : List ℕ) {w w′ : Reason} → w ≡ w′
+    → Explains r out′ (lastThree kind room (line (record { told = d; reason = w })) out) → Explains r out′ (lastThree kind room (line (record { told = d; reason = w′ })) out)
+as-reason {r} {out′} kind room d out e x = subst (λ (v : Reason). Explains r out′ (lastThree kind room (line (record { told = d; reason = v })) out)) e x
+
+-- a call on one key
+
+module _ (s key : List ℕ) (c : KeyCall) (out : List ℕ) where
+  abbrev t : Table
+  t = tableOf s
+
+  abbrev call : Call
+  call = Call.onKey key c
+
+  abbrev failed : Option ℕ
+  failed = failedOfFive key (keyArguments c .codes) (keyArguments c .now) s
+
+  abbrev room : Bool
+  room = leb explanationRoom (length out)
+
+  asked-are : firstFailed (withRoom room (allQuestions call s)) ≡ firstFailed (firstFive key (keyArguments c .codes) (keyArguments c .now) s ++ ((6, room) ∷ late call t))
+  unfolding keysFit codesInRange clockFits outputFits
+  asked-are = rw and-true
+
+  pub refused-early : {n : ℕ} → failed ≡ some n → Explains (ExplainAnswer.Refused n) out (explainBytes key c out s)
+  unfolding explainBytes failedOfFive
+  refused-early {n} e =
+      let f = sym (asked-are ∙ front-fails (firstFive key (keyArguments c .codes) (keyArguments c .now) s) ((6, room) ∷ late call t) n e) in
+      record {
+        answer = ap (λ (o : Option ℕ). lineUnlessRefused o (line (explanation c key t)) out .answer) f;
+        output = ap (λ (o : Option ℕ). lineUnlessRefused o (line (explanation c key t)) out .output) f;
+      }
+
+  module _ (e : failed ≡ none) where
+    asked-last : explainBytes key c out s ≡ lastThree (keyArguments c .kind (kindOfKey key t)) (queueFits call t) (line (explanation c key t)) out
+    unfolding explainBytes lastThree failedOfFive kindFits
+    asked-last =
+        ap (λ (o : Option ℕ). lineUnlessRefused o (line (explanation c key t)) out)
+        (asked-are ∙ front-passes (firstFive key (keyArguments c .codes) (keyArguments c .now) s) ((6, room) ∷ late call t) e)
+
+    -- by what was asked and explained
+    module _ {kind : Bool} (k : kind ≡ keyArguments c .kind (kindOfKey key t)) {d : Told} {w : Reason} {r : ExplainAnswer} {out′ : List ℕ} where
+      ends : {fits : Bool} → fits ≡ queueFits call t → d ≡ told (act call t .answer) → w ≡ reason c key t
+          → Explains r out′ (lastThree kind fits (line (record { told = d; reason = w })) out) → Explains r out′ (explainBytes key c out s)
+      unfolding explanation
+      ends {fits} f p q x =
+          let z : lastThree kind fits (line (record { told = d; reason = w })) out ≡ explainBytes key c out s = rw (k, f, p, q) (sym asked-last) in
+          record { answer = x .answer ∙ ap (λ (y : Explained). y .answer) z; output = x .output ∙ ap (λ (y : Explained). y .output) z }
+
+      -- the local key
+      pub ends-local : indexIn t (number key) ≡ none → d ≡ told (ownAnswer c) → w ≡ Reason.LocalKey
+          → Explains r out′ (lastThree kind (roomFor s []) (line (record { told = d; reason = w })) out) → Explains r out′ (explainBytes key c out s)
+      unfolding queueFits roomFor act reason
+      ends-local i p q x =
+          let a = ap (onKey t (ownAnswer c) (effect c key t)) (sym i) in
+          ends (ap (λ (n : ℕ). leb n maxRecords) (add-zero (length (t .queue))) ∙ ap (λ (o : Outcome). leb (length (o .table .queue)) maxRecords) a)
+          (p ∙ ap (λ (o : Outcome). told (o .answer)) a) (q ∙ ap (keyReason (bucketReason c key t)) (sym i)) x
+
+      -- any other key
+      pub ends-at : {i : ℕ} → indexIn t (number key) ≡ some i → {rs : List AppliedPending} → rs ≡ effect c key t i (t .buckets i) .records
+          → d ≡ told (effect c key t i (t .buckets i) .answer) → w ≡ bucketReason c key t i
+          → Explains r out′ (lastThree kind (roomFor s rs) (line (record { told = d; reason = w })) out) → Explains r out′ (explainBytes key c out s)
+      unfolding queueFits roomFor act reason
+      ends-at {i} j {rs} m p q x =
+          let a = ap (onKey t (ownAnswer c) (effect c key t)) (sym j) in
+          ends
+          (ap (λ (l : List AppliedPending). leb (length (t .queue) + length l) maxRecords) m
+          ∙ ap (λ (n : ℕ). leb n maxRecords) (sym (length-append (t .queue) (effect c key t i (t .buckets i) .records)))
+          ∙ ap (λ (o : Outcome). leb (length (o .table .queue)) maxRecords) a)
+          (p ∙ ap (λ (o : Outcome). told (o .answer)) a) (q ∙ ap (keyReason (bucketReason c key t)) (sym j)) x
+
+-- the reason found on a bucket by value, as a reason on the model's bucket, with the key as the bytes that were given
+pub reason-told : {s : BucketSettings} {m : Bucket} {b : KBucket} {k n : ℕ} {w : Why} → Becomes s m b → (F : (ℕ → Bucket) → BucketSettings → ℕ → Bucket → Reason) → k ≡ n
+    → Tells (λ bs. F bs (settingsOf b) k (bucketOf b)) w → (bs : ℕ → Bucket) → whyOf bs w ≡ F bs s n m
+reason-told {s} {m} {b} {k} {n} {w} x F e r bs = r .reason bs ∙ told-by x (F bs) e
+  where
+    told-by : {s : BucketSettings} {m : Bucket} {b : KBucket} {k n : ℕ} → Becomes s m b → (G : BucketSettings → ℕ → Bucket → Reason) → k ≡ n → G (settingsOf b) k (bucketOf b) ≡ G s n m
+    told-by x G e = rw (x .settings, x .bucket, e)

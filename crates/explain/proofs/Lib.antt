@@ -1,0 +1,2 @@
+-- Laws of the query.
+pub mod Ends

@@ -1,0 +1,36 @@
+-- The calls that are explained, what the query answers, and what it owes.
+use Prim.Native.Nat.{ℕ}
+use mathlib.Core.Path.{_≡_}
+use mathlib.Core.Bool.{Bool}
+use mathlib.Core.List.{List, [], _∷_}
+use lib.ListN.{length}
+use lib.Dec.{leb}
+use Rattle.model.specs.Result.{Reply}
+use Rattle.model.specs.Call.{KeyCall}
+use Rattle.model.specs.Question.{firstFailed}
+use Rattle.model.specs.Explain.{Explained, explanationRoom, lineUnlessRefused}
+use Rattle.node.specs.Node.{argumentOf}
+use Rattle.explain.specs.declared.PeerCall.{PeerCall}
+use Rattle.explain.specs.declared.ExplainAnswer.{ExplainAnswer}
+
+abbrev pub callOf : PeerCall → KeyCall
+callOf (PeerCall.InsertOrUpdate v state direction now) = KeyCall.insertOrUpdate (argumentOf v) state direction now
+callOf (PeerCall.UpdateNodeStatus state direction now) = KeyCall.updateNodeStatus state direction now
+callOf (PeerCall.UpdateNode v state now) = KeyCall.updateNode (argumentOf v) state now
+callOf (PeerCall.Remove now) = KeyCall.remove now
+callOf (PeerCall.PresentUpdate state direction) = KeyCall.presentUpdate state direction
+callOf (PeerCall.PendingUpdate state direction) = KeyCall.pendingUpdate state direction
+callOf (PeerCall.AbsentInsert v state direction now) = KeyCall.absentInsert (argumentOf v) state direction now
+
+abbrev pub explainAnswerOf : ExplainAnswer → Reply ℕ
+explainAnswerOf (ExplainAnswer.Refused q) = Reply.Refused q
+explainAnswerOf (ExplainAnswer.Answered n) = Reply.Answered n
+
+-- the answer and the output are those of the query
+pub record Explains (r : ExplainAnswer) (out : List ℕ) (x : Explained) : Type 0 where
+  pub answer : explainAnswerOf r ≡ x .answer
+  pub output : out ≡ x .output
+
+-- 01, questions 6 to 8, and the line where none of them fails
+unfoldable pub lastThree : (kind room : Bool) (line output : List ℕ) → Explained
+lastThree kind room l out = lineUnlessRefused (firstFailed ((6, leb explanationRoom (length out)) ∷ (7, kind) ∷ (8, room) ∷ [])) l out

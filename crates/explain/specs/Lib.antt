@@ -1,0 +1,2 @@
+-- What the contracts of `explain` cite beside the model.
+pub mod Calls

@@ -1,0 +1,356 @@
+// What a call that inserts, updates or removes a peer would answer, the true reason and the keys behind it, in one line (document 02, slip 1).
+// A query: it is asked what the call is asked, and nothing but the lent output is written.
+ghost use mathlib.Core.Path.{_≡_};
+ghost use mathlib.Core.Bool.{Bool, true};
+ghost use mathlib.Core.List.{[]};
+ghost use lib.ListN.{length};
+ghost use Rattle.model.specs.Sizes.{storageSize};
+ghost use Rattle.model.specs.Layout.{tableOf};
+ghost use Rattle.model.specs.Formed.{formed};
+ghost use Rattle.model.specs.Call.{KeyCall};
+ghost use Rattle.model.specs.Explain as model;
+ghost use Rattle.model.specs.Explain.{line, explainBytes};
+ghost use Rattle.node.specs.Node.{argumentOf};
+ghost use Rattle.bucket.specs.Bucket.{Sound};
+ghost use Rattle.bucket.specs.Calls.{recordsOf};
+ghost use Rattle.on_key.specs.Answers.{roomFor};
+ghost use Rattle.explanation.specs.Explanation.{toldOf, whyOf};
+ghost use Rattle.reasons.specs.Reasons.{Tells};
+ghost use Rattle.explain.specs.Calls.{callOf, Explains, lastThree};
+use bucket::AppliedPending;
+use bucket::FailureReason;
+use bucket::KBucket;
+use explanation::Reason;
+use explanation::Told;
+use explanation::Why;
+use node::Node;
+use node::NodeStatus;
+use node::Value;
+use on_key::Start;
+
+// A call on a peer's key, with its arguments: value, state, direction, time.
+pub enum PeerCall {
+    InsertOrUpdate(Value, u8, u8, u64),
+    UpdateNodeStatus(u8, u8, u64),
+    UpdateNode(Value, u8, u64),
+    Remove(u64),
+    PresentUpdate(u8, u8),
+    PendingUpdate(u8, u8),
+    AbsentInsert(Value, u8, u8, u64),
+}
+
+// The number of the question that failed, or the length of the line.
+pub enum ExplainAnswer {
+    Refused(u8),
+    Answered(usize),
+}
+
+// The bytes that an output has at the least.
+pub const ROOM: usize = 2048;
+
+// How an explanation ends: questions 6 to 8, then the line. `kind` is question 7's answer, `applied` the record of the call.
+fn ended(
+    s: &[u8],
+    out: &mut [u8],
+    kind: bool,
+    applied: AppliedPending,
+    told: Told,
+    why: Why,
+) -> ExplainAnswer
+    requires { ⌜ (length (now s) ≡ storageSize) × (formed (now s) ≡ true) ⌝ }
+    requires { ⌜ Sound (why .bucket) ⌝ }
+    ensures { λ r. ⌜ Explains r (now (out .exit)) (lastThree kind (roomFor (now (s .entry)) (recordsOf applied)) (line (record { told = toldOf told; reason = whyOf (tableOf (now (s .entry)) .buckets) why })) (now (out .entry))) ⌝ }
+{
+    if out.len() < ROOM {
+        return ExplainAnswer::Refused(6);
+    }
+    if !kind {
+        return ExplainAnswer::Refused(7);
+    }
+    if !on_key::has_room(s, applied) {
+        return ExplainAnswer::Refused(8);
+    }
+    let n = explanation::put_line(s, out, told, why);
+    ExplainAnswer::Answered(n)
+}
+
+// The reason of the local key.
+fn local_why() -> Why
+    ensures { λ r. ⌜ Tells (λ _. model.Reason.LocalKey) r ⌝ }
+{
+    let z = Node::zero();
+    let value = z.value;
+    let b = KBucket::empty(0, 0, 0);
+    Why {
+        reason: Reason::LocalKey,
+        bucket: b,
+        value: value,
+    }
+}
+
+// How the explanation of a call on the local key ends: it looks at no bucket.
+fn ended_local(s: &[u8], out: &mut [u8], kind: bool, told: Told) -> ExplainAnswer
+    requires { ⌜ (length (now s) ≡ storageSize) × (formed (now s) ≡ true) ⌝ }
+    ensures { λ r. ⌜ Explains r (now (out .exit)) (lastThree kind (roomFor (now (s .entry)) []) (line (record { told = toldOf told; reason = model.Reason.LocalKey })) (now (out .entry))) ⌝ }
+{
+    let nothing = AppliedPending::Nothing;
+    let why = local_why();
+    ended(s, out, kind, nothing, told, why)
+}
+
+// remove.
+pub fn explain_remove(s: &[u8], key: &[u8], time: u64, out: &mut [u8]) -> ExplainAnswer
+    ensures { λ r. ⌜ Explains r (now (out .exit)) (explainBytes (now (key .entry)) (KeyCall.remove time) (now (out .entry)) (now (s .entry))) ⌝ }
+{
+    let start = on_key::begin_at(s, key, true, time);
+    match start {
+        Start::Refused(q) => ExplainAnswer::Refused(q),
+        Start::Local => {
+            let told = Told::Removed(false);
+            ended_local(s, out, true, told)
+        }
+        Start::At(k, i) => {
+            let a = on_key::apply_at(s, i, time);
+            let applied = a.applied;
+            let b = a.bucket;
+            let r = b.remove_sound(k, time);
+            let told = Told::Removed(r.found);
+            let why = reasons::remove_reason(b, k);
+            ended(s, out, true, applied, told, why)
+        }
+    }
+}
+
+// update_node_status; direction 2 is none given.
+pub fn explain_update_node_status(
+    s: &[u8],
+    key: &[u8],
+    state: u8,
+    direction: u8,
+    time: u64,
+    out: &mut [u8],
+) -> ExplainAnswer
+    ensures { λ r. ⌜ Explains r (now (out .exit)) (explainBytes (now (key .entry)) (KeyCall.updateNodeStatus state direction time) (now (out .entry)) (now (s .entry))) ⌝ }
+{
+    let codes = (state <= 1) & (direction <= 2);
+    let start = on_key::begin_at(s, key, codes, time);
+    match start {
+        Start::Refused(q) => ExplainAnswer::Refused(q),
+        Start::Local => {
+            let told = Told::NotModified;
+            ended_local(s, out, true, told)
+        }
+        Start::At(k, i) => {
+            let a = on_key::apply_at(s, i, time);
+            let applied = a.applied;
+            let b = a.bucket;
+            let r = b.update_status_sound(k, state, direction);
+            let result = r.result;
+            let told = explanation::told_update(result);
+            let why = reasons::status_reason(b, k, state, direction);
+            ended(s, out, true, applied, told, why)
+        }
+    }
+}
+
+// update_node; state 2 is none given. The table filter is tested on the storage as it is.
+pub fn explain_update_node(
+    s: &[u8],
+    key: &[u8],
+    value: Value,
+    state: u8,
+    time: u64,
+    out: &mut [u8],
+) -> ExplainAnswer
+    ensures { λ r. ⌜ Explains r (now (out .exit)) (explainBytes (now (key .entry)) (KeyCall.updateNode (argumentOf value) state time) (now (out .entry)) (now (s .entry))) ⌝ }
+{
+    let codes = value.in_range() & (state <= 2);
+    let start = on_key::begin_at(s, key, codes, time);
+    match start {
+        Start::Refused(q) => ExplainAnswer::Refused(q),
+        Start::Local => {
+            let told = Told::NotModified;
+            ended_local(s, out, true, told)
+        }
+        Start::At(k, i) => {
+            let fails = table_filter::table_filter_fails(s, i, k, value);
+            let a = on_key::apply_at(s, i, time);
+            let applied = a.applied;
+            let b = a.bucket;
+            let r = bucket_update::update_node_in(b, fails, k, value, state, time);
+            let result = r.result;
+            let told = explanation::told_update(result);
+            let why = reasons::update_node_why(b, fails, k, value, state);
+            ended(s, out, true, applied, told, why)
+        }
+    }
+}
+
+// insert_or_update. The table filter is tested on the storage as it is.
+pub fn explain_insert_or_update(
+    s: &[u8],
+    key: &[u8],
+    value: Value,
+    state: u8,
+    direction: u8,
+    time: u64,
+    out: &mut [u8],
+) -> ExplainAnswer
+    ensures { λ r. ⌜ Explains r (now (out .exit)) (explainBytes (now (key .entry)) (KeyCall.insertOrUpdate (argumentOf value) state direction time) (now (out .entry)) (now (s .entry))) ⌝ }
+{
+    let codes = value.in_range() & ((state <= 1) & (direction <= 1));
+    let start = on_key::begin_at(s, key, codes, time);
+    match start {
+        Start::Refused(q) => ExplainAnswer::Refused(q),
+        Start::Local => {
+            let told = Told::Failed(FailureReason::InvalidSelfUpdate);
+            ended_local(s, out, true, told)
+        }
+        Start::At(k, i) => {
+            let fails = table_filter::table_filter_fails(s, i, k, value);
+            let a = on_key::apply_at(s, i, time);
+            let applied = a.applied;
+            let b = a.bucket;
+            let status = NodeStatus { state, direction };
+            let node = Node {
+                key: k,
+                value,
+                status,
+            };
+            let r = bucket_update::insert_or_update_in(b, fails, node, time);
+            let result = r.result;
+            let told = explanation::told_insert_or_update(result);
+            let why = reasons::insert_or_update_why(b, fails, node);
+            ended(s, out, true, applied, told, why)
+        }
+    }
+}
+
+// Present: update; direction 2 is none given. An entry action applies no pending.
+pub fn explain_present_update(
+    s: &[u8],
+    key: &[u8],
+    state: u8,
+    direction: u8,
+    out: &mut [u8],
+) -> ExplainAnswer
+    ensures { λ r. ⌜ Explains r (now (out .exit)) (explainBytes (now (key .entry)) (KeyCall.presentUpdate state direction) (now (out .entry)) (now (s .entry))) ⌝ }
+{
+    let codes = (state <= 1) & (direction <= 2);
+    let start = on_key::begin(s, key, codes);
+    match start {
+        Start::Refused(q) => ExplainAnswer::Refused(q),
+        Start::Local => {
+            let told = Told::NotModified;
+            ended_local(s, out, false, told)
+        }
+        Start::At(k, i) => {
+            let stored = buckets::load_bucket(s, i);
+            let found = entry::kind_of(stored, k);
+            let present = entry::is_present(found);
+            let r = stored.update_status_sound(k, state, direction);
+            let result = r.result;
+            let told = explanation::told_update(result);
+            let why = reasons::status_reason(stored, k, state, direction);
+            let nothing = AppliedPending::Nothing;
+            ended(s, out, present, nothing, told, why)
+        }
+    }
+}
+
+// Pending: update.
+pub fn explain_pending_update(
+    s: &[u8],
+    key: &[u8],
+    state: u8,
+    direction: u8,
+    out: &mut [u8],
+) -> ExplainAnswer
+    ensures { λ r. ⌜ Explains r (now (out .exit)) (explainBytes (now (key .entry)) (KeyCall.pendingUpdate state direction) (now (out .entry)) (now (s .entry))) ⌝ }
+{
+    let codes = (state <= 1) & (direction <= 1);
+    let start = on_key::begin(s, key, codes);
+    match start {
+        Start::Refused(q) => ExplainAnswer::Refused(q),
+        Start::Local => {
+            let told = Told::NotModified;
+            ended_local(s, out, false, told)
+        }
+        Start::At(k, i) => {
+            let stored = buckets::load_bucket(s, i);
+            let found = entry::kind_of(stored, k);
+            let pending = entry::is_pending(found);
+            let told = Told::UpdatedPending;
+            let why = reasons::no_reason(stored);
+            let nothing = AppliedPending::Nothing;
+            ended(s, out, pending, nothing, told, why)
+        }
+    }
+}
+
+// Absent: insert. The table filter is skipped.
+pub fn explain_absent_insert(
+    s: &[u8],
+    key: &[u8],
+    value: Value,
+    state: u8,
+    direction: u8,
+    time: u64,
+    out: &mut [u8],
+) -> ExplainAnswer
+    ensures { λ r. ⌜ Explains r (now (out .exit)) (explainBytes (now (key .entry)) (KeyCall.absentInsert (argumentOf value) state direction time) (now (out .entry)) (now (s .entry))) ⌝ }
+{
+    let codes = value.in_range() & ((state <= 1) & (direction <= 1));
+    let start = on_key::begin_at(s, key, codes, time);
+    match start {
+        Start::Refused(q) => ExplainAnswer::Refused(q),
+        Start::Local => {
+            let told = Told::NotModified;
+            ended_local(s, out, false, told)
+        }
+        Start::At(k, i) => {
+            let stored = buckets::load_bucket(s, i);
+            let found = entry::kind_of(stored, k);
+            let absent = entry::is_absent(found);
+            let status = NodeStatus { state, direction };
+            let node = Node {
+                key: k,
+                value,
+                status,
+            };
+            let r = stored.insert_sound(node, time);
+            let result = r.result;
+            let told = explanation::told_insert(result);
+            let why = reasons::insert_reason(stored, node);
+            let nothing = AppliedPending::Nothing;
+            ended(s, out, absent, nothing, told, why)
+        }
+    }
+}
+
+// The line of a call: what it would answer, and why.
+pub fn explain(s: &[u8], key: &[u8], call: PeerCall, out: &mut [u8]) -> ExplainAnswer
+    ensures { λ r. ⌜ Explains r (now (out .exit)) (explainBytes (now (key .entry)) (callOf call) (now (out .entry)) (now (s .entry))) ⌝ }
+{
+    match call {
+        PeerCall::InsertOrUpdate(value, state, direction, time) => {
+            explain_insert_or_update(s, key, value, state, direction, time, out)
+        }
+        PeerCall::UpdateNodeStatus(state, direction, time) => {
+            explain_update_node_status(s, key, state, direction, time, out)
+        }
+        PeerCall::UpdateNode(value, state, time) => {
+            explain_update_node(s, key, value, state, time, out)
+        }
+        PeerCall::Remove(time) => explain_remove(s, key, time, out),
+        PeerCall::PresentUpdate(state, direction) => {
+            explain_present_update(s, key, state, direction, out)
+        }
+        PeerCall::PendingUpdate(state, direction) => {
+            explain_pending_update(s, key, state, direction, out)
+        }
+        PeerCall::AbsentInsert(value, state, direction, time) => {
+            explain_absent_insert(s, key, value, state, direction, time, out)
+        }
+    }
+}

@@ -1,0 +1,4 @@
+-- Laws of `explanation`.
+pub mod Text
+pub mod Keys
+pub mod Short

@@ -1,0 +1,2 @@
+-- What the contracts of `reasons` cite beside the model.
+pub mod Reasons
