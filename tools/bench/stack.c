@@ -89,6 +89,13 @@ static volatile uint32_t answered;
     call(closest_values, (STORAGE, KEY, with.n, with.now, OUTPUT)) \
     call(closest_values_predicate, (STORAGE, KEY, with.predicate, with.a, with.b, with.c, with.slot, with.n, with.now, OUTPUT)) \
     call(take_applied_pending, (STORAGE, ANSWER)) \
+    call(explain_update_node_status, (STORAGE, KEY, with.state, with.given_direction, with.now, OUTPUT)) \
+    call(explain_update_node, (STORAGE, KEY, VALUE, with.given_state, with.now, OUTPUT)) \
+    call(explain_insert_or_update, (STORAGE, KEY, VALUE, STATUS, with.now, OUTPUT)) \
+    call(explain_remove, (STORAGE, KEY, with.now, OUTPUT)) \
+    call(explain_present_update, (STORAGE, KEY, with.state, with.given_direction, OUTPUT)) \
+    call(explain_pending_update, (STORAGE, KEY, STATUS, OUTPUT)) \
+    call(explain_absent_insert, (STORAGE, KEY, VALUE, STATUS, with.now, OUTPUT)) \
     call(b_new, (BUCKET, TIMEOUT, 16, 1)) \
     call(b_insert, (BUCKET, KEY, VALUE, STATUS, with.now, ANSWER)) \
     call(b_apply_pending, (BUCKET, with.now, ANSWER)) \
