@@ -42,8 +42,8 @@ pub struct InsertedOrUpdated {
     pub result: InsertResult,
 }
 
-// Did the step fail?
-fn is_failed(r: UpdateResult) -> bool
+// Internal: did the step fail?
+pub fn is_failed(r: UpdateResult) -> bool
     ensures { λ f. ⌜ f ≡ isFailed (updateResultOf r) ⌝ }
 {
     match r {

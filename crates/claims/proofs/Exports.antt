@@ -2,11 +2,11 @@
 use Prim.Native.Nat.{ℕ, _-_, _≤_, _<_}
 use native.Mathlib.Omega.{arith}
 use mathlib.Core.Path.{_≡_, refl, sym, ap, _∙_, subst⁻¹}
-use mathlib.Core.Bool.{Bool, true, false, cond, _&&_}
+use mathlib.Core.Bool.{Bool, true, false, cond}
 use mathlib.Core.List.{List, [], _∷_}
 use mathlib.Core.Option.{Option, none, some}
 use lib.ListN.{length}
-use lib.Dec.{eqb, leb}
+use lib.Dec.{leb}
 use borrow.Author.Tests.{le-leb, lt-leb, leb-true}
 use Rattle.model.specs.Bytes.{Bytes}
 use Rattle.model.specs.Table.{Answer}
@@ -19,8 +19,8 @@ use Rattle.model.specs.StepBytes
 use Rattle.model.specs.StepBytes.{allQuestions, outputOf, stepBytes}
 use Rattle.log.specs.Log.{isRefused}
 use Rattle.log.specs.Closest.{target, ClosestClaim}
-use Rattle.laws.proofs.Tests.{clash, split, and-left}
-use Rattle.laws.proofs.Questions.{passed}
+use Rattle.laws.proofs.Tests.{clash}
+use Rattle.laws.proofs.Questions.{without-room}
 use Rattle.theorem.proofs.Theorem.{theorem-closest}
 use Rattle.items.specs.declared.ListAnswer.the-variants as list-answer
 use Rattle.codes.specs.Codes.{refusedCode, answerCode, answerSize}
@@ -117,15 +117,6 @@ few-found (Call.new k timeout m tf bf) s n h e = clash h refl
 few-found (Call.onKey k c) s n h e = clash h refl
 few-found (Call.list l m time out) s n h e = leb-true n maxCount (few l m time out s (list-answer.Found n) e)
 few-found Call.takeAppliedPending s n h e = clash h refl
-
--- the questions pass where they pass with room asked too
-without-room : (room : Bool) (qs : List (ℕ × Bool)) → firstFailed (withRoom room qs) ≡ none → firstFailed qs ≡ none
-without-room room [] e = refl
-without-room room (q ∷ qs) e =
-    let p = passed (q .0) (cond (eqb (q .0) 6) (q .1 && room) (q .1)) (withRoom room qs) e in
-    let t : q .1 ≡ true = split (eqb (q .0) 6) (λ s. and-left (q .1) room (ap (λ (b : Bool). cond b (q .1 && room) (q .1)) (sym s) ∙ p .0))
-    (λ s. ap (λ (b : Bool). cond b (q .1 && room) (q .1)) (sym s) ∙ p .0) in
-    ap (λ (b : Bool). cond b (firstFailed qs) (some (q .0))) t ∙ without-room room qs (p .1)
 
 -- where no question fails, the code is no refusal's
 pub export-not-refused : {c : Call} {answer s : List ℕ} {code : ℕ} {s′ out′ : List ℕ} → Called c answer s code s′ out′

@@ -10,16 +10,16 @@ use Rattle.model.specs.Node.{Node, PendingNode, AppliedPending, withStatus, wit
 use Rattle.model.specs.Value.{Value, sameValue}
 use Rattle.model.specs.Result.{FailureReason, BucketInsertResult, UpdateResult, isFailed}
 use Rattle.model.specs.Bucket.{Bucket, BucketSettings, holds, get, failsBucketFilter, isMaxIncoming, takeOut, insert, reinsert, takenOut, statusResult, updateIfPending, updateStatusOf, updateStatus, updateValueOf, updateValue}
-use Rattle.model.specs.Table.{Table, EntryKind, Answer, failsTableFilter, kindOfNode, kindOf, kindIn, indexIn, bothUpdates, insertUpdates, inserts, thenStatus, updateNodeIn, insertOrUpdateIn}
+use Rattle.model.specs.Table.{Table, EntryKind, Answer, failsTableFilter, kindOf, kindIn, indexIn, bothUpdates, insertUpdates, inserts, thenStatus, updateNodeIn, insertOrUpdateIn}
 use Rattle.model.specs.Call.{Call, KeyCall, isOne, optional, valueOf}
-use Rattle.model.specs.Question.{firstFailed, isAbsent, keyArguments, kindFits}
+use Rattle.model.specs.Question.{firstFailed, keyArguments, kindFits}
 use Rattle.model.specs.Layout.{tableOf}
 use Rattle.model.specs.Step.{onKey, nodeOf, ownAnswer, effect, takeOldest, act}
 use Rattle.model.specs.StepBytes.{allQuestions, unlessRefusedBytes, stepBytes}
 use Rattle.log.specs.Log.{isRefused}
 use Rattle.laws.proofs.Tests.{clash, cases, or-second}
 use Rattle.laws.proofs.Questions.{accepted-bytes}
-use Rattle.laws.proofs.Unreachable.{absent-not-exists, present-held, present-stays}
+use Rattle.laws.proofs.Unreachable.{absent-not-held, absent-not-exists, present-held, present-stays}
 use Rattle.claims.specs.Listed
 use Rattle.claims.specs.Listed.{reasons, updates, statusUpdates, nodeUpdates, presentUpdates, valueUpdates, insertResults, absentInserts, no, kinds, among, keyKinds, kindsOf, canAnswer}
 use Rattle.claims.specs.Ran.{Ran}
@@ -196,14 +196,6 @@ insert-or-update s fails now n b =
     (held-value s (n .key) (n .value) (r .1) (present-stays s (n .key) (n .connected) (some (n .incoming)) b h f))
     (held-status s (n .key) (n .connected) (some (n .incoming)) b h) f))
     (λ h. inserted (insert s now n b .0) (new-insert s now n b h)))
-
--- Absent: the key is not held
-absent-not-held : (k : ℕ) (b : Bucket) → isAbsent (kindOf k b) ≡ true → holds k b ≡ false
-absent-not-held k b h = found (get k b) h
-  where
-    found : (o : Option Node) → isAbsent (kindOfNode k b o) ≡ true → isSome o ≡ false
-    found none h = refl
-    found (some n) h = clash h refl
 
 -- what a call on one key answers, of the key's bucket and of the local key
 effect-listed : (c : KeyCall) (k : List ℕ) (t : Table) (i : ℕ) (b : Bucket) → keyArguments c .kind (kindOf (number k) b) ≡ true

@@ -3,27 +3,22 @@ use mathlib.Core.Path.{_≡_, refl, _∙_}
 use mathlib.Core.Bool.{Bool}
 use mathlib.Core.List.{List, [], _∷_, _++_, map, map-append, append-nil}
 use Prim.Native.Nat.{ℕ, _+_, _*_, _-_, _≤_, _<_}
-use native.Mathlib.Nat.{add-zero}
 use native.Mathlib.Numerals.{add-one}
 use native.Mathlib.Omega.{arith}
 use lib.ListN.{length, getD, take, length-append, length-take, length-map, take-append-drop}
 use lib.Seq.{take-nil, take-suc, take-all}
 use Rattle.model.specs.Base.{select, joined, tabulate}
-use Rattle.model.specs.Bytes.{part, splice}
+use Rattle.model.specs.Bytes.{splice}
 use Rattle.model.specs.Node as model
 use Rattle.model.specs.Bucket.{nodes}
 use Rattle.model.specs.Value.{Value}
 use Rattle.model.specs.Filter.{counted}
 use Rattle.model.specs.Table.{heldNodes}
-use Rattle.model.specs.Sizes.{bucketSize}
-use Rattle.model.specs.Layout.{nodesIn, bucketIn}
 use Rattle.model.specs.Explain.{space, keyText, keysText, keysOf, filterKeys}
 use Rattle.laws.proofs.Tests.{split}
 use Rattle.laws.proofs.All.{all-any}
 use Rattle.laws.proofs.Lists.{joined-append, length-joined, tabulate-one-more}
 use Rattle.laws.proofs.Join.{take-append}
-use Rattle.laws.proofs.Parts.{getD-part}
-use Rattle.laws.proofs.BucketBack.{nodes-in}
 use Rattle.node.specs.declared.Node.{Node}
 use Rattle.node.specs.Node.{nodeOf}
 use Rattle.places.proofs.Model.{map-take}
@@ -118,10 +113,6 @@ module _ (p : model.Node → Bool) where
 
 pub held-nodes : (b : KBucket) → nodes (bucketOf b) ≡ map nodeOf (heldOf b)
 held-nodes b = take-append-drop (b .«first_connected_pos») (map nodeOf (heldOf b))
-
-pub stored-nodes : (s : List ℕ) (at : ℕ) → nodes (bucketIn (part s at bucketSize)) ≡ tabulate (getD s at 0) (nodeAt (part s at bucketSize))
-unfolding nodesIn nodeAt
-stored-nodes s at = nodes-in (part s at bucketSize) ∙ rw (getD-part s at bucketSize 0 (omega arith), add-zero)
 
 pub held-few : (b : KBucket) → b .count ≤ 16 → length (nodes (bucketOf b)) ≤ 16
 held-few b h = rw (held-nodes, length-map (heldOf b) nodeOf, length-take) (omega arith)

@@ -10,13 +10,14 @@ use Rattle.model.specs.Value.{Value, sameValue}
 use Rattle.model.specs.Node.{Node, PendingNode, withStatus, withValue, sameStatus, promotes}
 use Rattle.model.specs.Result.{FailureReason, BucketInsertResult, UpdateResult, isFailed}
 use Rattle.model.specs.Bucket.{Bucket, BucketSettings, get, holds, isFull, failsBucketFilter, isMaxIncoming, takeOut, takenOut, insertFull, insert, reinsert, statusResult, updateIfPending, updateStatusOf, updateStatus, updateValueOf, updateValue, remove}
-use Rattle.model.specs.Table.{Table, kindOf, kindOfNode, kindIn, failsTableFilter, bothUpdates, thenStatus, updateNodeIn, insertUpdates, inserts, thenValue, insertOrUpdateIn, indexIn}
+use Rattle.model.specs.Table.{Table, kindIn, failsTableFilter, bothUpdates, thenStatus, updateNodeIn, insertUpdates, inserts, thenValue, insertOrUpdateIn, indexIn}
 use Rattle.model.specs.Call.{Call, KeyCall, isOne, optional, valueOf}
 use Rattle.model.specs.Listing.{applied}
-use Rattle.model.specs.Question.{isAbsent, keyArguments, kindFits}
+use Rattle.model.specs.Question.{keyArguments, kindFits}
 use Rattle.model.specs.Step.{onKey, nodeOf, ownAnswer, effect, act}
 use Rattle.model.specs.Explain.{Told, Reason, toldUpdate, toldInsertOrUpdate, toldInsert, told, tableFilterReason, fullReason, insertReason, reinsertReason, ifPendingReason, statusReasonOf, statusReason, valueReasonOf, valueReason, thenStatusReason, updateNodeReason, insertOrUpdateReason, removeReason, bucketReason, keyReason, reason}
 use Rattle.laws.proofs.Tests.{clash, split}
+use Rattle.laws.proofs.Unreachable.{absent-not-held}
 
 -- Which reason stands with which answer.
 
@@ -353,14 +354,6 @@ insert-or-update-fits s false now n b bs =
 remove-fits : (s : BucketSettings) (now k : ℕ) (b : Bucket) → Fit (Told.Removed (remove s now k b .0)) (removeReason k b)
 unfolding remove removeReason
 remove-fits s now k b = split (holds k b) (λ e. rw e) (λ e. rw e)
-
--- Absent: the key is not held
-absent-not-held : (k : ℕ) (b : Bucket) → isAbsent (kindOf k b) ≡ true → holds k b ≡ false
-absent-not-held k b h = found (get k b) h
-  where
-    found : (o : Option Node) → isAbsent (kindOfNode k b o) ≡ true → isSome o ≡ false
-    found none h = refl
-    found (some n) h = clash h refl
 
 own-fits : (c : KeyCall) → ownTold (told (ownAnswer c)) ≡ true
 own-fits (KeyCall.updateNodeStatus st dr now) = refl

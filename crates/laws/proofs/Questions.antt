@@ -15,7 +15,7 @@ use Rattle.model.specs.Question.{firstFailed, withRoom, keysFit, codesInRange, 
 use Rattle.model.specs.Step.{queueFits, late, questions}
 use Rattle.model.specs.Layout.{tableOf}
 use Rattle.model.specs.StepBytes.{holdsTable, allQuestions}
-use Rattle.laws.proofs.Tests.{split, clash}
+use Rattle.laws.proofs.Tests.{split, clash, and-left}
 
 -- a question passed, and those after it
 pub passed : (n : ℕ) (q : Bool) (qs : List (ℕ × Bool)) → firstFailed ((n, q) ∷ qs) ≡ none → (q ≡ true) × (firstFailed qs ≡ none)
@@ -45,6 +45,18 @@ front-none [] ys e = refl
 front-none (q ∷ xs) ys e =
     let p = passed (q .0) (q .1) (xs ++ ys) e in
     ap (λ (b : Bool). cond b (firstFailed xs) (some (q .0))) (p .0) ∙ front-none xs ys (p .1)
+
+pub first-two : (a b : Bool) (qs : List (ℕ × Bool)) → a ≡ true → b ≡ true → firstFailed ((1, a) ∷ (2, b) ∷ qs) ≡ firstFailed qs
+first-two a b qs p q = rw (p, q)
+
+-- the questions pass where they pass with room asked too
+pub without-room : (room : Bool) (qs : List (ℕ × Bool)) → firstFailed (withRoom room qs) ≡ none → firstFailed qs ≡ none
+without-room room [] e = refl
+without-room room (q ∷ qs) e =
+    let p = passed (q .0) (cond (eqb (q .0) 6) (q .1 && room) (q .1)) (withRoom room qs) e in
+    let t : q .1 ≡ true = split (eqb (q .0) 6) (λ s. and-left (q .1) room (ap (λ (b : Bool). cond b (q .1 && room) (q .1)) (sym s) ∙ p .0))
+    (λ s. ap (λ (b : Bool). cond b (q .1 && room) (q .1)) (sym s) ∙ p .0) in
+    ap (λ (b : Bool). cond b (firstFailed qs) (some (q .0))) t ∙ without-room room qs (p .1)
 
 -- what the questions say of an accepted call
 pub record Accepted (c : Call) (t : Table) : Type 0 where

@@ -18,7 +18,7 @@ use Rattle.model.specs.Formed.{formed}
 use Rattle.model.specs.StepBytes.{BytesOutcome, allQuestions, touched, restore, unlessRefusedBytes, stepBytes}
 use Rattle.model.specs.Fits.{Fits, FitsCall}
 use Rattle.laws.proofs.Tests.{clash, split, or-second}
-use Rattle.laws.proofs.Questions.{accepted-bytes}
+use Rattle.laws.proofs.Questions.{first-two, accepted-bytes}
 use Rattle.laws.proofs.KeepStep.{step-accepted, step-refused, step-fits, new-fits}
 use Rattle.laws.proofs.Frame.{isNew, act-frame}
 use Rattle.laws.proofs.Touched.{touched-below}
@@ -30,9 +30,6 @@ pub record Same (o : BytesOutcome) (p : Outcome) : Type 0 where
   pub answer : o .answer ≡ p .answer
   pub storage : o .storage ≡ bytesOf (p .table)
   pub records : o .records ≡ p .records
-
-first-two : (a b : Bool) (qs : List (ℕ × Bool)) → a ≡ true → b ≡ true → firstFailed ((1, a) ∷ (2, b) ∷ qs) ≡ firstFailed qs
-first-two a b qs p q = rw (p, q)
 
 -- the storage that an accepted call leaves
 new-storage : (c : Call) (t t′ : Table) (s : List ℕ) → length s ≡ storageSize → Fits t′ → isNew c ≡ true → restore s (touched c t) t′ ≡ bytesOf t′

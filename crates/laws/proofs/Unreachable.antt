@@ -12,7 +12,7 @@ use Rattle.model.specs.Node.{Node, PendingNode, withStatus, withValue, sameStat
 use Rattle.model.specs.Result.{FailureReason, BucketInsertResult, UpdateResult, InsertResult, isFailed}
 use Rattle.model.specs.Bucket.{Bucket, BucketSettings, maxNodesPerBucket, numEntries, isFull, find, holds, get, failsBucketFilter, isMaxIncoming, withPending, cleared, placed, takeOut, insertFull, insert, reinsert, statusResult, takenOut, updateIfPending, updateStatusOf, updateStatus, updateValueOf, updateValue, pendingWithStatus, updatePending}
 use Rattle.model.specs.Table.{Table, EntryKind, Answer, insertUpdates, thenValue, kindIn, kindIfPending, kindOfNode, kindOf}
-use Rattle.model.specs.Question.{isPresent, isPending}
+use Rattle.model.specs.Question.{isPresent, isPending, isAbsent}
 use Rattle.model.specs.Fits.{Opt, Formed}
 use Rattle.laws.proofs.Tests.{clash, cases, split, same-true}
 use Rattle.laws.proofs.KeepLists.{find-insert, get-nodes, get-key}
@@ -233,6 +233,14 @@ present-held k b h = found (get k b) h
     found : (o : Option Node) → isPresent (kindOfNode k b o) ≡ true → isSome o ≡ true
     found none h = clash h (waiting-not-present k (b .pending))
     found (some n) h = refl
+
+-- Absent: the key is not held
+pub absent-not-held : (k : ℕ) (b : Bucket) → isAbsent (kindOf k b) ≡ true → holds k b ≡ false
+absent-not-held k b h = found (get k b) h
+  where
+    found : (o : Option Node) → isAbsent (kindOfNode k b o) ≡ true → isSome o ≡ false
+    found none h = refl
+    found (some n) h = clash h refl
 
 placed-held : (k : ℕ) (n : Node) (b : Bucket) → n .key ≡ k → holds k (placed n b) ≡ true
 placed-held k n b e =

@@ -2,18 +2,15 @@
 ghost use mathlib.Core.Path.{_≡_};
 ghost use mathlib.Core.Bool.{true, cond};
 ghost use Prim.Native.Nat.{_≤_, _<_};
-ghost use Rattle.model.specs.Result.{isFailed};
 ghost use Rattle.model.specs.Call.{isOne, optional};
 ghost use Rattle.model.specs.Explain as model;
 ghost use Rattle.model.specs.Explain.{fullReason, insertReason, reinsertReason, ifPendingReason, statusReason, valueReason, updateNodeReason, insertOrUpdateReason, removeReason, tableFilterReason};
 ghost use Rattle.key.specs.Key.{num};
 ghost use Rattle.node.specs.Node.{valueOf, nodeOf, valueCodes, nodeCodes};
 ghost use Rattle.bucket.specs.Bucket.{keyAt, bucketOf, settingsOf, Sound};
-ghost use Rattle.bucket.specs.Calls.{updateResultOf};
 ghost use Rattle.reasons.specs.Reasons.{Plain, Tells};
 use bucket::KBucket;
 use bucket::Pending;
-use bucket::UpdateResult;
 use explanation::Reason;
 use explanation::Why;
 use key::Key;
@@ -210,19 +207,6 @@ pub fn value_reason(b: KBucket, key: Key, value: Value) -> Why
     pending_reason(b, key)
 }
 
-// Did the step fail?
-fn is_failed(r: UpdateResult) -> bool
-    ensures { λ f. ⌜ f ≡ isFailed (updateResultOf r) ⌝ }
-{
-    match r {
-        UpdateResult::Updated => false,
-        UpdateResult::UpdatedAndPromoted => false,
-        UpdateResult::UpdatedPending => false,
-        UpdateResult::Failed(_) => true,
-        UpdateResult::NotModified => false,
-    }
-}
-
 // Internal: update_node behind the table filter; state 2 is none given.
 pub fn update_node_reason(b: KBucket, key: Key, value: Value, state: u8) -> Why
     requires { ⌜ Sound b ⌝ }
@@ -233,7 +217,7 @@ pub fn update_node_reason(b: KBucket, key: Key, value: Value, state: u8) -> Why
     let v = b.update_value_sound(key, value);
     let changed = v.bucket;
     let of_value = v.result;
-    if is_failed(of_value) {
+    if bucket_update::is_failed(of_value) {
         return value_reason(b, key, value);
     }
     if state == 2 {
@@ -279,7 +263,7 @@ pub fn insert_or_update_reason(b: KBucket, node: Node) -> Why
     let u = b.update_status_sound(key, state, direction);
     let changed = u.bucket;
     let of_status = u.result;
-    if is_failed(of_status) {
+    if bucket_update::is_failed(of_status) {
         return status_reason(b, key, state, direction);
     }
     let value = node.value;

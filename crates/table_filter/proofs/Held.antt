@@ -118,7 +118,7 @@ pub table-bucket : (s : List ℕ) (i : ℕ) → tableOf s .buckets i ≡ bucketI
 unfolding tableOf
 table-bucket s i = refl
 
-nodes-at : (s : List ℕ) (at : ℕ) → nodes (bucketIn (part s at bucketSize)) ≡ tabulate (getD s at 0) (nodeAt (part s at bucketSize))
+pub nodes-at : (s : List ℕ) (at : ℕ) → nodes (bucketIn (part s at bucketSize)) ≡ tabulate (getD s at 0) (nodeAt (part s at bucketSize))
 unfolding nodesIn nodeAt
 nodes-at s at = nodes-in (part s at bucketSize) ∙ rw (getD-part s at bucketSize 0 (omega arith), add-zero)
 

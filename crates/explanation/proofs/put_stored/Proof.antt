@@ -11,8 +11,9 @@ use Rattle.node.specs.Node.{nodeOf}
 use Rattle.storage.proofs.Nodes.{nodeOf-read}
 use Rattle.well_formed.specs.Tests.{nodeAt}
 use Rattle.well_formed.proofs.Places.{place-node}
+use Rattle.table_filter.proofs.Held.{nodes-at}
 use Rattle.explanation.specs.Put.{PutKeys, passes}
-use Rattle.explanation.proofs.Keys.{keys-full, keys-none, keys-room, stored-next, stored-nodes}
+use Rattle.explanation.proofs.Keys.{keys-full, keys-none, keys-room, stored-next}
 use Rattle.explanation.proofs.put_stored.Statement.{statement}
 use Rattle.explanation.proofs.put_stored.Tie as tie
 
@@ -72,7 +73,7 @@ returns-2 c =
     let l = c .before .loop in
     let a = c .before .before .before .before .before .before .before .args in
     let e : l .j ≡ getD (a .s .now) (a .at) 0 = omega arith in
-    rw (stored-nodes, ← e) (l .inv .1 .1)
+    rw (nodes-at, ← e) (l .inv .1 .1)
 
 pub put-stored-spec : {M : Type 1} → statement M
 put-stored-spec =
