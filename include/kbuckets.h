@@ -31,7 +31,7 @@
 
 /* The version of this header: 0x00MMmmpp, a byte each for major, minor and patch. */
 #define KBUCKETS_VERSION_MAJOR 0
-#define KBUCKETS_VERSION_MINOR 2
+#define KBUCKETS_VERSION_MINOR 3
 #define KBUCKETS_VERSION_PATCH 0
 #define KBUCKETS_VERSION (KBUCKETS_VERSION_MAJOR * 0x10000 + KBUCKETS_VERSION_MINOR * 0x100 + KBUCKETS_VERSION_PATCH)
 
@@ -42,11 +42,14 @@ extern "C" {
 /* The version of the linked library. Header and library belong together where this is KBUCKETS_VERSION; a host asks once, at its start. */
 KBUCKETS_MUST_USE uint32_t kbuckets_version(void);
 
+/* A slot of the host's record store. */
+typedef uint64_t kbuckets_slot;
+
 /* Sizes in bytes, each from the others. */
 enum {
     KBUCKETS_KEY_BYTES = 32,
     KBUCKETS_TIME_BYTES = 8,
-    KBUCKETS_SLOT_BYTES = 2,
+    KBUCKETS_SLOT_BYTES = 8, /* of a kbuckets_slot */
     /* address flag, four octets, slot */
     KBUCKETS_VALUE_BYTES = 5 + KBUCKETS_SLOT_BYTES,
     /* key, state, direction, value */
@@ -61,15 +64,18 @@ enum {
     /* count, first connected place (the count where no node is connected), the places; pending flag, pending node, deadline */
     KBUCKETS_STORED_BUCKET_BYTES =
         2 + KBUCKETS_MAX_NODES_PER_BUCKET * KBUCKETS_NODE_BYTES + 1 + KBUCKETS_NODE_BYTES + KBUCKETS_TIME_BYTES,
-    /* local key, pending timeout, max_incoming, table filter, bucket filter, record count, records */
-    KBUCKETS_HEADER_BYTES =
-        KBUCKETS_KEY_BYTES + KBUCKETS_TIME_BYTES + 4 + KBUCKETS_MAX_RECORDS * KBUCKETS_RECORD_BYTES,
-    /* the storage of a table, 186028: the header, then the buckets 0 to 255 */
+    /* local key, pending timeout, max_incoming, table filter, bucket filter, record count */
+    KBUCKETS_PADDING_OFFSET = KBUCKETS_KEY_BYTES + KBUCKETS_TIME_BYTES + 4,
+    /* padding, four bytes that are zero: the records begin at a multiple of 16, 48 */
+    KBUCKETS_RECORDS_OFFSET = KBUCKETS_PADDING_OFFSET + 4,
+    /* local key, settings, record count and padding, then the records */
+    KBUCKETS_HEADER_BYTES = KBUCKETS_RECORDS_OFFSET + KBUCKETS_MAX_RECORDS * KBUCKETS_RECORD_BYTES,
+    /* the storage of a table, 212528: the header, then the buckets 0 to 255 */
     KBUCKETS_STORAGE_BYTES = KBUCKETS_HEADER_BYTES + KBUCKETS_NUM_BUCKETS * KBUCKETS_STORED_BUCKET_BYTES,
-    /* a bucket by itself, 718: a bucket, then pending timeout, max_incoming, filter */
+    /* a bucket by itself, 820: a bucket, then pending timeout, max_incoming, filter */
     KBUCKETS_BUCKET_BYTES = KBUCKETS_STORED_BUCKET_BYTES + KBUCKETS_TIME_BYTES + 2,
 
-    /* what `answer` must have room for, 74: a record */
+    /* what `answer` must have room for, 80: a record */
     KBUCKETS_ANSWER_BYTES = KBUCKETS_RECORD_BYTES,
 
     /* one entry of a listing's output: a node; a node; a key; key and value; key, match (0 or 1) and value */
@@ -85,9 +91,6 @@ enum {
     /* what the output of an explanation must have room for, however short its line; no line is longer */
     KBUCKETS_EXPLANATION_BYTES = 2048
 };
-
-/* A slot of the host's record store. */
-typedef uint16_t kbuckets_slot;
 
 /* Codes of the arguments. */
 enum {
@@ -178,7 +181,7 @@ enum {
 /* kbuckets_take_applied_pending, kbuckets_b_apply_pending */
 enum {
     KBUCKETS_APPLIED_NONE = 0,
-    KBUCKETS_APPLIED_RECORD = 1 /* the record's 74 bytes stand in `answer`: inserted key, evicted flag, evicted node */
+    KBUCKETS_APPLIED_RECORD = 1 /* the record stands in the first KBUCKETS_RECORD_BYTES of `answer` */
 };
 
 /* The table. `storage` is KBUCKETS_STORAGE_BYTES; `now` is a count of milliseconds, and may go back. A value is address flag, octets a, b,

@@ -1,6 +1,6 @@
 //! The bytes of a table and of a bucket by itself: offsets, reading and writing, and question 2. All numbers are big-endian.
 
-use crate::text::{NodeCodes, RecordCodes, ValueCodes, Write};
+use crate::text::{NodeCodes, RecordCodes, Slot, ValueCodes, Write};
 
 pub const PLACES: usize = 16;
 pub const BUCKETS: usize = 256;
@@ -8,9 +8,10 @@ pub const RECORDS: usize = 64;
 
 pub const KEY: usize = 32;
 const TIME: usize = 8;
-const SLOT: usize = 2;
 /// Address flag, four octets, slot.
-pub const VALUE: usize = 5 + SLOT;
+const OCTETS_AT: usize = 1;
+const SLOT_AT: usize = OCTETS_AT + 4;
+pub const VALUE: usize = SLOT_AT + size_of::<Slot>();
 /// Key, state, direction, value.
 pub const NODE: usize = KEY + 2 + VALUE;
 /// Inserted key, evicted flag, evicted node.
@@ -20,13 +21,16 @@ pub const RECORD: usize = KEY + 1 + NODE;
 const PENDING_AT: usize = 2 + PLACES * NODE;
 const BUCKET: usize = PENDING_AT + 1 + NODE + TIME;
 
-/// Local key, pending timeout, max_incoming, table filter, bucket filter, record count, records, buckets.
+/// Local key, pending timeout, max_incoming, table filter, bucket filter, record count, padding, records, buckets.
 const TIMEOUT_AT: usize = KEY;
 const MAX_INCOMING_AT: usize = TIMEOUT_AT + TIME;
 const TABLE_FILTER_AT: usize = MAX_INCOMING_AT + 1;
 const BUCKET_FILTER_AT: usize = TABLE_FILTER_AT + 1;
 const RECORD_COUNT_AT: usize = BUCKET_FILTER_AT + 1;
-const RECORDS_AT: usize = RECORD_COUNT_AT + 1;
+pub const PADDING_AT: usize = RECORD_COUNT_AT + 1;
+/// Unused, so that the records begin at a multiple of 16.
+const PADDING: usize = 4;
+pub const RECORDS_AT: usize = PADDING_AT + PADDING;
 const BUCKETS_AT: usize = RECORDS_AT + RECORDS * RECORD;
 pub const STORAGE: usize = BUCKETS_AT + BUCKETS * BUCKET;
 
@@ -49,12 +53,14 @@ pub const BUCKET_OFFSETS: [usize; 11] = [
     PENDING_AT,
     PENDING_AT + 1 + KEY,
 ];
-pub const HEADER_OFFSETS: [usize; 7] = [
+pub const HEADER_OFFSETS: [usize; 9] = [
     KEY - 1,
     MAX_INCOMING_AT,
     TABLE_FILTER_AT,
     BUCKET_FILTER_AT,
     RECORD_COUNT_AT,
+    PADDING_AT,
+    RECORDS_AT - 1,
     RECORDS_AT + KEY,
     RECORDS_AT + KEY + 1 + KEY,
 ];
@@ -83,8 +89,8 @@ pub fn key_in(bytes: &[u8]) -> [u8; 32] {
 pub fn value_in(bytes: &[u8]) -> ValueCodes {
     ValueCodes {
         flag: bytes[0],
-        octets: bytes[1..5].try_into().unwrap(),
-        slot: u16::from_be_bytes(bytes[5..VALUE].try_into().unwrap()),
+        octets: bytes[OCTETS_AT..SLOT_AT].try_into().unwrap(),
+        slot: Slot::from_be_bytes(bytes[SLOT_AT..VALUE].try_into().unwrap()),
     }
 }
 
@@ -100,9 +106,15 @@ fn write_node(node: &NodeCodes, bytes: &mut [u8]) {
     bytes[..KEY].copy_from_slice(&node.key);
     bytes[KEY] = node.state;
     bytes[KEY + 1] = node.direction;
-    bytes[KEY + 2] = node.value.flag;
-    bytes[KEY + 3..KEY + 7].copy_from_slice(&node.value.octets);
-    bytes[KEY + 7..NODE].copy_from_slice(&node.value.slot.to_be_bytes());
+    bytes[KEY + 2..NODE].copy_from_slice(&value_bytes(&node.value));
+}
+
+pub fn value_bytes(value: &ValueCodes) -> [u8; VALUE] {
+    let mut bytes = [0; VALUE];
+    bytes[0] = value.flag;
+    bytes[OCTETS_AT..SLOT_AT].copy_from_slice(&value.octets);
+    bytes[SLOT_AT..].copy_from_slice(&value.slot.to_be_bytes());
+    bytes
 }
 
 /// The bytes of a record; those of the node are zero where none is evicted.
@@ -258,6 +270,7 @@ impl TableBytes {
         usize::from(settings.max_incoming) <= PLACES
             && settings.table_filter <= 1
             && settings.bucket_filter <= 1
+            && all_zero(&self.0[PADDING_AT..RECORDS_AT])
             && count <= RECORDS
             && self.record_parts().all(|bytes| match bytes[KEY] {
                 0 => all_zero(&bytes[KEY..]),

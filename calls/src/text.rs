@@ -1,11 +1,14 @@
 //! The text of calls, answers and dumps: lines read into calls; keys, values, nodes and records written.
 
+/// A slot of the host's record store.
+pub type Slot = u64;
+
 /// A value as a call gives it and as storage keeps it: address flag, four octets, slot.
 #[derive(Clone, Copy, Debug, Default, PartialEq, Eq)]
 pub struct ValueCodes {
     pub flag: u8,
     pub octets: [u8; 4],
-    pub slot: u16,
+    pub slot: Slot,
 }
 
 /// A node as storage keeps it, with codes of any number.
@@ -29,7 +32,7 @@ pub struct RecordCodes {
 pub enum Predicate {
     Code(u8),
     Net([u8; 3]),
-    Slot(u16),
+    Slot(Slot),
 }
 
 #[derive(Clone, Debug, PartialEq, Eq)]
@@ -420,7 +423,7 @@ impl<'a> Words<'a> {
         let bad = || format!("no value: {word:?}");
         let (flag, rest) = word.split_once(':').ok_or_else(bad)?;
         let (octets, slot) = rest.split_once(':').ok_or_else(bad)?;
-        Ok(ValueCodes { flag: octet(flag)?, octets: dotted(octets)?, slot: number(slot, 65535)? as u16 })
+        Ok(ValueCodes { flag: octet(flag)?, octets: dotted(octets)?, slot: number(slot, Slot::MAX)? })
     }
 
     fn node(&mut self) -> Result<NodeCodes, String> {
@@ -464,7 +467,7 @@ impl<'a> Words<'a> {
             return Ok(Predicate::Net(dotted(net)?));
         }
         if let Some(slot) = word.strip_prefix("3:") {
-            return Ok(Predicate::Slot(number(slot, 65535)? as u16));
+            return Ok(Predicate::Slot(number(slot, Slot::MAX)?));
         }
         match octet(word)? {
             2 => Err("predicate 2 is written 2:a.b.c".to_string()),
@@ -532,7 +535,7 @@ pub trait Write {
             self.number((*octet).into());
         }
         self.text(":");
-        self.number(value.slot.into());
+        self.number(value.slot);
     }
 
     fn node(&mut self, node: &NodeCodes) {

@@ -1,8 +1,10 @@
 //! Lines are read as they are written, and bytes are written and dumped where the layout says.
 
-use calls::layout::{ALONE, AloneBytes, NODE, RECORD, STORAGE, Settings, TableBytes, bucket_at};
+use calls::layout::{
+    ALONE, AloneBytes, KEY, NODE, RECORD, RECORDS, STORAGE, Settings, TableBytes, VALUE, bucket_at, value_in,
+};
 use calls::text::{
-    BUCKET_FORMS, BucketCall, Line, Listing, NodeCodes, PEER_CALLS, Predicate, RAW_FORMS, Raw, RecordCodes,
+    BUCKET_FORMS, BucketCall, Line, Listing, NodeCodes, PEER_CALLS, Predicate, RAW_FORMS, Raw, RecordCodes, Slot,
     TABLE_FORMS, TableCall, ValueCodes, Which, Write, parse,
 };
 
@@ -102,14 +104,14 @@ fn lines_that_are_passed_over() {
 #[test]
 fn words() {
     let Line::Table { short: false, call: TableCall::UpdateNode { now, key, value, state } } =
-        read("update_node 18446744073709551615 :1fE 2:10.0.255.1:65535 3")
+        read("update_node 18446744073709551615 :1fE 2:10.0.255.1:65536 3")
     else {
         panic!()
     };
     let mut expected = [0; 32];
     expected[30..].copy_from_slice(&[0x01, 0xfe]);
     assert_eq!((now, key, state), (u64::MAX, expected.to_vec(), 3));
-    assert_eq!(value, ValueCodes { flag: 2, octets: [10, 0, 255, 1], slot: 65535 });
+    assert_eq!(value, ValueCodes { flag: 2, octets: [10, 0, 255, 1], slot: 65536 });
     let Line::Table { short: true, call: TableCall::Remove { key, .. } } = read("! remove 0 0aff") else { panic!() };
     assert_eq!(key, [0x0a, 0xff]);
     let Line::Table { call: TableCall::List { listing, n: 0, room: Some(9), .. }, .. } =
@@ -132,10 +134,40 @@ fn words() {
     let Line::Raw(Raw::FirstConnected(Which::Itself, None)) = read("raw_fcp b -") else { panic!() };
 }
 
+/// A slot, in a value and in predicate 3, is any number up to 2^64 - 1; over it the line is a bad one.
+#[test]
+fn slots() {
+    for slot in [0, 1, 65535, 65536, (1 << 32) - 1, 1 << 32, 1 << 63, Slot::MAX] {
+        let value = ValueCodes { flag: 1, octets: [10, 0, 0, 1], slot };
+        assert_eq!(text(|out| out.value(&value)), format!("1:10.0.0.1:{slot}"));
+        let line = read(&format!("b_update_value :1 1:10.0.0.1:{slot}"));
+        assert!(
+            matches!(line, Line::Bucket { call: BucketCall::UpdateValue { value: read, .. }, .. } if read == value)
+        );
+        let line = read(&format!("raw_record :1 :2 1:10.0.0.1:{slot} 0 0"));
+        assert!(matches!(line, Line::Raw(Raw::Record(RecordCodes { evicted: Some(node), .. })) if node.value == value));
+        let line = read(&format!("closest_values_predicate 0 :1 3:{slot} 2"));
+        let Line::Table { call: TableCall::List { listing, .. }, .. } = line else { panic!() };
+        assert!(matches!(listing, Listing::ClosestValuesPredicate(_, Predicate::Slot(read)) if read == slot));
+    }
+    for over in ["18446744073709551616", "18446744073709617151", "340282366920938463463374607431768211456", "-1", ""] {
+        for line in [
+            format!("update_node 0 :1 1:10.0.0.1:{over} 1"),
+            format!("insert_or_update 0 :1 1:10.0.0.1:{over} 1 0"),
+            format!("b_insert 0 :1 1:10.0.0.1:{over} 1 0"),
+            format!("raw_node 0 :1 1:10.0.0.1:{over} 1 0"),
+            format!("closest_values_predicate 0 :1 3:{over} 2"),
+        ] {
+            assert!(parse(&line).is_err(), "{line}");
+        }
+    }
+}
+
 fn node(last: u8, state: u8) -> NodeCodes {
     let mut key = [0; 32];
     key[31] = last;
-    NodeCodes { key, state, direction: 1, value: ValueCodes { flag: 1, octets: [10, 0, 0, last], slot: 0x0102 } }
+    let value = ValueCodes { flag: 1, octets: [10, 0, 0, last], slot: 0x0102_0304_0506_0708 };
+    NodeCodes { key, state, direction: 1, value }
 }
 
 fn text(write: impl FnOnce(&mut Vec<u8>)) -> String {
@@ -147,29 +179,62 @@ fn text(write: impl FnOnce(&mut Vec<u8>)) -> String {
 /// Sizes and places, written out.
 #[test]
 fn places_of_the_bytes() {
-    assert_eq!((NODE, RECORD, STORAGE, ALONE), (41, 74, 186028, 718));
+    assert_eq!((VALUE, NODE, RECORD, ALONE, STORAGE), (13, 47, 80, 820, 212528));
+    let (settings_end, records_at, stored_bucket) = (44, 48, 810);
     let settings = Settings { timeout: 0x0102030405060708, max_incoming: 9, table_filter: 1, bucket_filter: 1 };
     let mut table = TableBytes::new(&[7; 32], &settings);
     assert_eq!(table.0[..32], [7; 32]);
-    assert_eq!(table.0[32..44], [1, 2, 3, 4, 5, 6, 7, 8, 9, 1, 1, 0]);
+    assert_eq!(table.0[32..settings_end], [1, 2, 3, 4, 5, 6, 7, 8, 9, 1, 1, 0]);
     table.bucket_mut(3).push_node(&node(4, 0)).unwrap();
     table.bucket_mut(3).push_node(&node(5, 1)).unwrap();
-    let bucket = 44 + 64 * 74 + 3 * 708;
+    let bucket = records_at + RECORDS * RECORD + 3 * stored_bucket;
     assert_eq!(bucket_at(3), bucket);
     assert_eq!(table.0[bucket..bucket + 2], [2, 0], "a node leaves the first connected place");
-    assert_eq!(table.0[bucket + 2 + 41 + 31..bucket + 2 + 2 * 41], [5, 1, 1, 1, 10, 0, 0, 5, 1, 2]);
+    let second = [5, 1, 1, 1, 10, 0, 0, 5, 1, 2, 3, 4, 5, 6, 7, 8];
+    assert_eq!(table.0[bucket + 2 + NODE + 31..bucket + 2 + 2 * NODE], second);
     table.bucket_mut(3).set_first_connected(Some(1));
     assert_eq!(table.0[bucket..bucket + 2], [2, 1]);
     table.bucket_mut(3).set_first_connected(None);
     assert_eq!(table.0[bucket..bucket + 2], [2, 2], "no place is the count");
     table.bucket_mut(3).set_pending(&node(6, 1), 0x0f00);
-    let pending = bucket + 2 + 16 * 41;
+    let pending = bucket + 2 + 16 * NODE;
     assert_eq!((table.0[pending], table.0[pending + 1 + 31]), (1, 6));
-    assert_eq!(table.0[pending + 42..pending + 50], [0, 0, 0, 0, 0, 0, 0x0f, 0]);
+    assert_eq!(table.0[pending + 1 + NODE..bucket + stored_bucket], [0, 0, 0, 0, 0, 0, 0x0f, 0]);
     table.push_record(&RecordCodes { inserted: [1; 32], evicted: None }).unwrap();
     table.push_record(&RecordCodes { inserted: [2; 32], evicted: Some(node(4, 0)) }).unwrap();
-    assert_eq!((table.0[43], table.0[44 + 32], table.0[44 + 74 + 32]), (2, 0, 1));
-    assert_eq!(table.0[44 + 74 + 33..44 + 74 + 74], table.0[bucket + 2..bucket + 43]);
+    assert_eq!(table.0[settings_end - 1..records_at], [2, 0, 0, 0, 0]);
+    let (first, second) = (records_at, records_at + RECORD);
+    assert_eq!((table.0[first + KEY], table.0[second + KEY]), (0, 1));
+    assert_eq!(table.0[second + KEY + 1..second + RECORD], table.0[bucket + 2..bucket + 2 + NODE]);
+}
+
+/// The padding before the records is zero, and question 2 asks for it.
+#[test]
+fn padding() {
+    let mut table = TableBytes::new(&[0; 32], &Settings::default());
+    assert!(table.formed());
+    for at in 44..48 {
+        table.set_byte(at, 1).unwrap();
+        assert!(!table.formed(), "byte {at}");
+        table.set_byte(at, 0).unwrap();
+        assert!(table.formed());
+    }
+}
+
+/// Every byte of a slot is a byte of the value, and is read back.
+#[test]
+fn slots_in_bytes() {
+    for i in 0..8 {
+        let mut table = TableBytes::new(&[0; 32], &Settings::default());
+        let mut node = node(4, 0);
+        node.value.slot = 0xa5 << (8 * i);
+        table.bucket_mut(2).push_node(&node).unwrap();
+        let at = bucket_at(2) + 2 + NODE - 1 - i;
+        assert_eq!(table.0[at], 0xa5);
+        assert_eq!(table.bucket(2).nodes().next(), Some(node));
+        table.0[at] = 0;
+        assert_eq!(value_in(&table.0[bucket_at(2) + 2 + NODE - VALUE..]).slot, 0);
+    }
 }
 
 #[test]
@@ -186,21 +251,22 @@ fn dumps() {
     table.push_record(&RecordCodes { inserted: [0; 32], evicted: None }).unwrap();
     let key = |last: &str| format!("{}{last}", "0".repeat(62));
     let (four, five, seventeen) = (key("04"), key("05"), key("11"));
+    let slot = node(4, 0).value.slot;
     assert_eq!(
         text(|out| table.dump(out)),
         format!(
             "dump local={zeros} timeout=5 max=1 tf=0 bf=1 \
-             b2{{fcp=1 nodes=[{four}/1:10.0.0.4:258/0/1 {five}/1:10.0.0.5:258/1/1] pending=-}} \
-             b4{{fcp=- nodes=[] pending={seventeen}/1:10.0.0.17:258/1/1@9}} \
-             queue=[{zeros}^{five}/1:10.0.0.5:258/0/1 {zeros}^-]\n"
+             b2{{fcp=1 nodes=[{four}/1:10.0.0.4:{slot}/0/1 {five}/1:10.0.0.5:{slot}/1/1] pending=-}} \
+             b4{{fcp=- nodes=[] pending={seventeen}/1:10.0.0.17:{slot}/1/1@9}} \
+             queue=[{zeros}^{five}/1:10.0.0.5:{slot}/0/1 {zeros}^-]\n"
         )
     );
     let mut bucket = AloneBytes::new(&settings);
-    assert_eq!(bucket.0[708..], [0, 0, 0, 0, 0, 0, 0, 5, 1, 1]);
+    assert_eq!(bucket.0[810..], [0, 0, 0, 0, 0, 0, 0, 5, 1, 1]);
     bucket.bucket_mut().push_node(&node(4, 1)).unwrap();
     assert_eq!(
         text(|out| bucket.dump(out)),
-        format!("bdump timeout=5 max=1 bf=1 {{fcp=0 nodes=[{four}/1:10.0.0.4:258/1/1] pending=-}}\n")
+        format!("bdump timeout=5 max=1 bf=1 {{fcp=0 nodes=[{four}/1:10.0.0.4:{slot}/1/1] pending=-}}\n")
     );
 }
 
@@ -220,7 +286,7 @@ fn full() {
     table.set_byte(43, 255).unwrap();
     let dump = text(|out| table.dump(out));
     assert_eq!((dump.matches("/0:").count() + dump.matches("/1:").count(), dump.matches('^').count()), (16, 64));
-    assert!(table.set_byte(186027, 1).is_ok() && table.set_byte(186028, 1).is_err());
+    assert!(table.set_byte(STORAGE as u64 - 1, 1).is_ok() && table.set_byte(STORAGE as u64, 1).is_err());
 }
 
 #[test]

@@ -1,9 +1,9 @@
-//! Seeded random lists of calls that reach deep states: full buckets, pendings due and not, clocks that go back, shared /24s, small
-//! maxima, a full queue, tables that no calls reach, malformed storage, and arguments that each question refuses.
+//! Seeded random lists of calls that reach deep states: full buckets, pendings due and not, clocks that go back, shared /24s, slots that
+//! differ in one byte alone, small maxima, a full queue, tables that no calls reach, malformed storage, and arguments that each question refuses.
 
 use crate::explained::ROOM;
 use crate::layout;
-use crate::text::PEER_CALLS;
+use crate::text::{PEER_CALLS, Slot};
 
 /// The splitmix64 generator.
 pub struct Random(u64);
@@ -254,6 +254,30 @@ fn explained(list: Vec<String>, random: &mut Random) -> Vec<String> {
     lines
 }
 
+/// Slots at which a narrower number would end, or the whole one does.
+const EDGES: [Slot; 5] = [0, 1 << 16, 1 << 32, 1 << 63, Slot::MAX];
+
+/// A slot that differs from another in one byte alone.
+fn twin(random: &mut Random, slot: Slot) -> Slot {
+    slot ^ (1 + random.below(255)) << (8 * random.below(size_of::<Slot>() as u64))
+}
+
+/// The slots of a list, around one of [`EDGES`] or all of them: few, so that values meet again, among them some that differ in one byte
+/// alone; or many.
+fn slots(random: &mut Random) -> Vec<Slot> {
+    let mut around = |edge: Slot| edge.wrapping_add(random.below(3)).wrapping_sub(1);
+    let edges = EDGES.map(&mut around);
+    let first = random.pick(&edges);
+    match random.below(6) {
+        0 => vec![first],
+        1 => vec![first, twin(random, first)],
+        2 => vec![first, twin(random, first), twin(random, first), twin(random, first)],
+        3 => (0..Slot::BITS).step_by(8).map(|at| first ^ (1 + random.below(255)) << at).chain([first]).collect(),
+        4 => edges.to_vec(),
+        _ => (0..300).map(|i| first.wrapping_add(i)).collect(),
+    }
+}
+
 /// What a list's calls choose from, and the lines so far.
 struct World<'a> {
     random: &'a mut Random,
@@ -271,7 +295,7 @@ struct World<'a> {
     recent: Vec<Key>,
     nets: Vec<[u8; 3]>,
     hosts: u64,
-    slots: u64,
+    slots: Vec<Slot>,
     /// The value of the last pending written as bytes.
     pending_value: Option<String>,
     /// In percent: values without an address, connected, incoming, calls with a bad argument.
@@ -327,7 +351,7 @@ impl<'a> World<'a> {
             recent: Vec::new(),
             nets,
             hosts: if edge { 40 } else { random.pick(&[1, 2, 3, 8]) },
-            slots: random.pick(&[1, 2, 4, 300]),
+            slots: slots(random),
             plain: match theme {
                 Theme::Nets => 10,
                 Theme::Edge => 35,
@@ -699,10 +723,7 @@ impl<'a> World<'a> {
         {
             return value.clone();
         }
-        let slot = match self.random.below(20) {
-            0 => 65535,
-            _ => self.random.below(self.slots),
-        };
+        let slot = self.slot();
         if self.random.percent(self.plain) {
             return format!("0:0.0.0.0:{slot}");
         }
@@ -713,6 +734,15 @@ impl<'a> World<'a> {
             _ => 1 + self.random.below(self.hosts),
         };
         format!("1:{a}.{b}.{c}.{host}:{slot}")
+    }
+
+    fn slot(&mut self) -> Slot {
+        let slot = self.random.pick(&self.slots);
+        match self.random.below(40) {
+            0 => self.random.pick(&EDGES),
+            1 => twin(self.random, slot),
+            _ => slot,
+        }
     }
 
     fn code(&mut self, percent: u64, first_bad: u64) -> u64 {
@@ -815,7 +845,7 @@ impl<'a> World<'a> {
                 let [a, b, c] = self.random.pick(&self.nets);
                 format!("2:{a}.{b}.{c}")
             }
-            _ => format!("3:{}", self.random.below(self.slots)),
+            _ => format!("3:{}", self.slot()),
         }
     }
 

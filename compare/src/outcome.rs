@@ -1,7 +1,8 @@
 //! The outcomes that a comparison reaches: by call, the answer without what it carries; by explained call, the answer and the reason with
-//! the number of its keys. And what the listings and the explanations were asked for.
+//! the number of its keys. And what the listings and the explanations were asked for, and which slots were told apart.
 
 use crate::explained::{self, Parts};
+use crate::text::{self, BucketCall, Line, Listing, Predicate, Slot, TableCall, ValueCodes, Write};
 use std::collections::BTreeMap;
 use std::str::Split;
 
@@ -347,6 +348,78 @@ const LISTINGS: [&str; 5] =
 /// What explanations are asked for, in bytes of the output.
 const ASKED_TO_EXPLAIN: [&str; 4] = ["out=0 refused", "out=2047 refused", "out=2048 explained", "out=2049 explained"];
 
+/// How two slots differ that a call holds against each other: "slot equals" with the values it lists, and a value that is given to a key with
+/// the value, at the same address, that the key has. Byte 0 is the last.
+const SLOTS: [&str; 9] = [
+    "equal",
+    "byte 0 alone",
+    "byte 1 alone",
+    "byte 2 alone",
+    "byte 3 alone",
+    "byte 4 alone",
+    "byte 5 alone",
+    "byte 6 alone",
+    "byte 7 alone",
+];
+const SLOT_EQUALS: &str = "slot equals";
+const VALUE_GIVEN: &str = "value given";
+
+/// Which of [`SLOTS`] two slots are; none where they differ in more bytes.
+fn difference(one: Slot, other: Slot) -> Option<&'static str> {
+    match one ^ other {
+        0 => Some(SLOTS[0]),
+        bits => {
+            let byte = bits.ilog2() / 8;
+            (bits.trailing_zeros() / 8 == byte).then(|| SLOTS[1 + byte as usize])
+        }
+    }
+}
+
+/// The slot at the end of a value's text.
+fn slot(value: &str) -> Option<Slot> {
+    value.rsplit(':').next()?.parse().ok()
+}
+
+/// The value, in text, that a dump has of a key that is held. Of a pending no value is compared.
+fn value_of<'a>(key: &[u8], dump: &'a [u8]) -> Option<&'a str> {
+    let mut text = Vec::new();
+    text.key(key.try_into().ok()?);
+    text.text("/");
+    let dump = str::from_utf8(dump).ok()?.split(" queue=").next()?;
+    let (front, rest) = dump.split_once(str::from_utf8(&text).ok()?)?;
+    if front.ends_with('=') { None } else { rest.split('/').next() }
+}
+
+/// The key and the value that a call gives it, where it is accepted and does not fail.
+fn given(call: &Line, answer: &str) -> Option<(Vec<u8>, ValueCodes)> {
+    let (key, value) = match call {
+        Line::Table { call: TableCall::UpdateNode { key, value, .. }, .. }
+        | Line::Table { call: TableCall::InsertOrUpdate { key, value, .. }, .. }
+        | Line::Bucket { call: BucketCall::UpdateValue { key, value }, .. } => (key, value),
+        _ => return None,
+    };
+    (!answer.starts_with("Refused ") && !answer.starts_with("Failed(")).then(|| (key.clone(), *value))
+}
+
+/// The pairs of slots that a call holds against each other.
+fn slots(call: &str, answer: &str, before: &[u8]) -> Vec<(&'static str, &'static str)> {
+    let Ok(Some(call)) = text::parse(call) else { return Vec::new() };
+    if let Line::Table { call: TableCall::List { listing, .. }, .. } = &call
+        && let Listing::ClosestValuesPredicate(_, Predicate::Slot(asked)) = listing
+        && let Some(list) = answer.strip_prefix("List ")
+    {
+        let listed = list.split(' ').skip(1).filter_map(|item| item.split('/').nth(1).and_then(slot));
+        return listed.filter_map(|listed| difference(*asked, listed)).map(|one| (SLOT_EQUALS, one)).collect();
+    }
+    let pair = given(&call, answer).and_then(|(key, value)| {
+        let held = value_of(&key, before)?;
+        let mut text = Vec::new();
+        text.value(&ValueCodes { slot: slot(held)?, ..value });
+        if text == held.as_bytes() { difference(value.slot, slot(held)?) } else { None }
+    });
+    pair.map(|one| (VALUE_GIVEN, one)).into_iter().collect()
+}
+
 /// The name of a line's call, and its other words; none for a raw line or a dump.
 fn call(line: &str) -> Option<(&'static str, Split<'_, char>)> {
     let mut words = line.strip_prefix("! ").unwrap_or(line).split(' ');
@@ -459,6 +532,10 @@ impl Counts {
         Counts::none(&all)
     }
 
+    pub fn slots() -> Counts {
+        Counts::none(&[SLOT_EQUALS, VALUE_GIVEN].map(|name| (name, &SLOTS[..])))
+    }
+
     fn none(of: &[(&'static str, &[&str])]) -> Counts {
         Counts {
             names: of.iter().map(|(name, _)| *name).collect(),
@@ -478,6 +555,18 @@ impl Counts {
         let of_listing = asked(line, answer).into_iter().flat_map(|(name, both)| both.map(|one| (name, one)));
         for one in of_listing.chain(asked_to_explain(line, answer)) {
             self.counts.entry(one).and_modify(|count| *count += 1);
+        }
+    }
+
+    /// `before`: the dump before the call.
+    pub fn add_slots(&mut self, call: &str, answer: &str, before: &[u8]) {
+        let name = call.strip_prefix("! ").unwrap_or(call).split(' ').next();
+        if !["closest_values_predicate", "update_node", "insert_or_update", "b_update_value"].map(Some).contains(&name)
+        {
+            return;
+        }
+        for (name, one) in slots(call, answer, before) {
+            *self.counts.entry((name, one.to_string())).or_default() += 1;
         }
     }
 
@@ -548,6 +637,51 @@ mod tests {
                 "nodes_by_distances n 0 listed 1",
                 "nodes_by_distances room for n listed 1",
                 "nodes_by_distances room for one less refused 1",
+            ]
+        );
+    }
+
+    #[test]
+    fn counts_slots_by_how_they_differ() {
+        let mut counts = Counts::slots();
+        let key = |n: u64| format!("{n:0>64x}");
+        let (four, five) = (key(4), key(5));
+        let dump = format!(
+            "dump local={} timeout=0 max=16 tf=0 bf=0 b2{{fcp=0 nodes=[{four}/1:10.0.0.1:256/1/0 {five}/0:0.0.0.0:7/1/0] \
+             pending={}/1:10.0.0.1:1/1/0@9}} queue=[{}^{}/1:10.0.0.1:5/1/0]",
+            key(0),
+            key(6),
+            key(9),
+            key(8)
+        );
+        for (call, answer) in [
+            ("update_node 0 :4 1:10.0.0.1:256 2", "NotModified"),
+            ("update_node 0 :4 1:10.0.0.1:9223372036854776064 2", "Updated"),
+            ("insert_or_update 0 :5 0:0.0.0.0:263 1 0", "ValueUpdated"),
+            // In two bytes; at another address; of a pending; of a key that is not there; of one in the queue; failed; refused.
+            ("update_node 0 :4 1:10.0.0.1:1 2", "Updated"),
+            ("update_node 0 :4 1:10.0.0.2:256 2", "Updated"),
+            ("update_node 0 :6 1:10.0.0.1:2 2", "UpdatedPending"),
+            ("insert_or_update 0 :7 1:10.0.0.1:256 1 0", "Inserted"),
+            ("insert_or_update 0 :8 1:10.0.0.1:5 1 0", "Inserted"),
+            ("update_node 0 :4 1:10.0.0.1:0 2", "Failed(TableFilter)"),
+            ("! update_node 0 :4 1:10.0.0.1:0 2", "Refused 1"),
+        ] {
+            counts.add_slots(call, answer, dump.as_bytes());
+        }
+        let listed = format!("List 3 {four}/1:10.0.0.1:256/0 {five}/0:0.0.0.0:7/1 {five}/0:0.0.0.0:65543/0");
+        counts.add_slots("closest_values_predicate 0 :4 3:7 3", &listed, dump.as_bytes());
+        counts.add_slots("closest_values_predicate 0 :4 0 3", &listed, dump.as_bytes());
+        let reached: Vec<String> =
+            counts.counts.iter().filter(|(_, c)| **c > 0).map(|((n, o), c)| format!("{n} {o} {c}")).collect();
+        assert_eq!(
+            reached,
+            [
+                "slot equals byte 2 alone 1",
+                "slot equals equal 1",
+                "value given byte 1 alone 1",
+                "value given byte 7 alone 1",
+                "value given equal 1",
             ]
         );
     }

@@ -2,21 +2,39 @@
 //! call and its arguments, the code of the answer (include/kbuckets.h) and a checksum of all that the call may write, after the call.
 
 use crate::driver::Driver;
-use crate::text::{self, BucketCall, Line, Listing, Predicate, TableCall, ValueCodes};
+use crate::layout::{KEY, NODE, RECORD, VALUE};
+use crate::text::{self, BucketCall, Line, Listing, Predicate, Slot, TableCall, ValueCodes};
 use calls::program;
 
 pub const BYTES: usize = 128;
 type Record = [u8; BYTES];
 
+/// The places in a record: number of the call; how many bytes, or distances; key; state and direction; flag, or predicate; octets; slot;
+/// time; length of the storage or bucket; n, or where a write begins; length of the output or answer; code; checksum; distances, or the
+/// bytes of a write.
+const COUNT_AT: usize = 1;
+const KEY_AT: usize = COUNT_AT + 1;
+const CODES_AT: usize = KEY_AT + KEY + 1;
+const FLAG_AT: usize = CODES_AT + 2;
+const OCTETS_AT: usize = FLAG_AT + 1;
+const SLOT_AT: usize = OCTETS_AT + 4;
+const TIME_AT: usize = SLOT_AT + size_of::<Slot>();
+const SIZE_AT: usize = TIME_AT + 8;
+const N_AT: usize = SIZE_AT + 4;
+const ROOM_AT: usize = N_AT + 8;
+const CODE_AT: usize = ROOM_AT + 4;
+const CHECKSUM_AT: usize = CODE_AT + 4;
+const REST_AT: usize = CHECKSUM_AT + 8;
+
 /// What the output or the answer holds before a call.
 const FILL: u8 = 165;
 
 /// The length of `answer` where a line does not say another.
-const ANSWER: usize = 74;
+pub const ANSWER: usize = RECORD;
 
 /// The distances that a record has room for, and the bytes of a write.
-const DISTANCES: usize = 6;
-const WRITTEN: usize = 48;
+const DISTANCES: usize = (BYTES - REST_AT) / 8;
+const WRITTEN: usize = BYTES - REST_AT;
 
 /// The entries that an output has room for, at most.
 const ENTRIES: u64 = 4096 + 5;
@@ -67,7 +85,7 @@ fn parts(line: &str) -> (&str, Option<usize>) {
     }
 }
 
-/// A line that fits a record: at most six distances.
+/// A line that fits a record: at most as many distances as it has room for.
 pub fn fitting(line: &str) -> String {
     if name(line) != "nodes_by_distances" {
         return line.to_string();
@@ -133,10 +151,10 @@ fn writes(number: u8, mut before: Vec<u8>, after: &[u8], to: &mut Vec<Record>) {
         before[at..at + count].copy_from_slice(&after[at..at + count]);
         let mut record = [0; BYTES];
         record[0] = number;
-        record[1] = count as u8;
-        record[56..64].copy_from_slice(&(at as u64).to_be_bytes());
-        record[72..80].copy_from_slice(&checksum(&before).to_be_bytes());
-        record[80..80 + count].copy_from_slice(&after[at..at + count]);
+        record[COUNT_AT] = count as u8;
+        put(N_AT, &(at as u64).to_be_bytes(), &mut record);
+        put(CHECKSUM_AT, &checksum(&before).to_be_bytes(), &mut record);
+        put(REST_AT, &after[at..at + count], &mut record);
         to.push(record);
     }
 }
@@ -157,10 +175,10 @@ fn finish(
     out[..bytes.len()].copy_from_slice(&bytes);
     written.extend(out);
     record[0] = number as u8;
-    record[52..56].copy_from_slice(&(size as u32).to_be_bytes());
-    record[64..68].copy_from_slice(&(room as u32).to_be_bytes());
-    record[68..72].copy_from_slice(&code.to_be_bytes());
-    record[72..80].copy_from_slice(&checksum(&written).to_be_bytes());
+    put(SIZE_AT, &(size as u32).to_be_bytes(), record);
+    put(ROOM_AT, &(room as u32).to_be_bytes(), record);
+    put(CODE_AT, &code.to_be_bytes(), record);
+    put(CHECKSUM_AT, &checksum(&written).to_be_bytes(), record);
     Ok(())
 }
 
@@ -169,23 +187,27 @@ fn checksum(bytes: &[u8]) -> u64 {
     bytes.iter().fold(0xcbf2_9ce4_8422_2325, |sum, byte| (sum ^ u64::from(*byte)).wrapping_mul(0x100_0000_01b3))
 }
 
+fn put(at: usize, bytes: &[u8], record: &mut Record) {
+    record[at..at + bytes.len()].copy_from_slice(bytes);
+}
+
 fn put_key(key: &[u8], record: &mut Record) {
-    record[1] = key.len() as u8;
-    record[2..2 + key.len()].copy_from_slice(key);
+    record[COUNT_AT] = key.len() as u8;
+    put(KEY_AT, key, record);
 }
 
 fn put_codes(codes: [u8; 2], record: &mut Record) {
-    record[35..37].copy_from_slice(&codes);
+    put(CODES_AT, &codes, record);
 }
 
 fn put_value(value: &ValueCodes, record: &mut Record) {
-    record[37] = value.flag;
-    record[38..42].copy_from_slice(&value.octets);
-    record[42..44].copy_from_slice(&value.slot.to_be_bytes());
+    record[FLAG_AT] = value.flag;
+    put(OCTETS_AT, &value.octets, record);
+    put(SLOT_AT, &value.slot.to_be_bytes(), record);
 }
 
 fn put_time(time: u64, record: &mut Record) {
-    record[44..52].copy_from_slice(&time.to_be_bytes());
+    put(TIME_AT, &time.to_be_bytes(), record);
 }
 
 /// Puts the arguments and gives the length of the output or the answer.
@@ -194,7 +216,7 @@ fn table_arguments(call: &TableCall, answer: usize, record: &mut Record) -> usiz
         TableCall::New { local, timeout, max_incoming, table_filter, bucket_filter } => {
             put_key(local, record);
             put_codes([*max_incoming, *table_filter], record);
-            record[37] = *bucket_filter;
+            record[FLAG_AT] = *bucket_filter;
             put_time(*timeout, record);
             0
         }
@@ -231,28 +253,28 @@ fn table_arguments(call: &TableCall, answer: usize, record: &mut Record) -> usiz
         }
         TableCall::List { now, listing, n, room } => {
             put_time(*now, record);
-            record[56..64].copy_from_slice(&n.to_be_bytes());
+            put(N_AT, &n.to_be_bytes(), record);
             let (least, entry) = match listing {
-                Listing::Iter => (0, 41),
+                Listing::Iter => (0, NODE),
                 Listing::NodesByDistances(distances) => {
-                    record[1] = distances.len() as u8;
-                    for (distance, bytes) in distances.iter().zip(record[80..].chunks_exact_mut(8)) {
+                    record[COUNT_AT] = distances.len() as u8;
+                    for (distance, bytes) in distances.iter().zip(record[REST_AT..].chunks_exact_mut(8)) {
                         bytes.copy_from_slice(&distance.to_be_bytes());
                     }
-                    (1, 41)
+                    (1, NODE)
                 }
                 Listing::ClosestKeys(target) => {
                     put_key(target, record);
-                    (0, 32)
+                    (0, KEY)
                 }
                 Listing::ClosestValues(target) => {
                     put_key(target, record);
-                    (0, 39)
+                    (0, KEY + VALUE)
                 }
                 Listing::ClosestValuesPredicate(target, predicate) => {
                     put_key(target, record);
                     put_predicate(predicate, record);
-                    (0, 40)
+                    (0, KEY + 1 + VALUE)
                 }
             };
             room.unwrap_or((*n).max(least)).min(ENTRIES) as usize * entry
@@ -264,14 +286,14 @@ fn table_arguments(call: &TableCall, answer: usize, record: &mut Record) -> usiz
 
 fn put_predicate(predicate: &Predicate, record: &mut Record) {
     match predicate {
-        Predicate::Code(code) => record[37] = *code,
+        Predicate::Code(code) => record[FLAG_AT] = *code,
         Predicate::Net(net) => {
-            record[37] = 2;
-            record[38..41].copy_from_slice(net);
+            record[FLAG_AT] = 2;
+            put(OCTETS_AT, net, record);
         }
         Predicate::Slot(slot) => {
-            record[37] = 3;
-            record[42..44].copy_from_slice(&slot.to_be_bytes());
+            record[FLAG_AT] = 3;
+            put(SLOT_AT, &slot.to_be_bytes(), record);
         }
     }
 }
@@ -356,7 +378,7 @@ fn code(call: &str, answer: &str) -> Option<(u32, Vec<u8>)> {
         let (inserted, evicted) = record.split_once('^')?;
         let mut bytes = key(inserted)?;
         match evicted {
-            "-" => bytes.extend([0; 42]),
+            "-" => bytes.extend([0; 1 + NODE]),
             node => {
                 bytes.push(1);
                 bytes.extend(item(node)?);
@@ -401,7 +423,7 @@ fn item(text: &str) -> Option<Vec<u8>> {
         for octet in octets.split('.') {
             bytes.push(octet.parse().ok()?);
         }
-        bytes.extend(slot.parse::<u16>().ok()?.to_be_bytes());
+        bytes.extend(slot.parse::<Slot>().ok()?.to_be_bytes());
     }
     Some(bytes)
 }

@@ -21,6 +21,16 @@ pub struct Disagreement {
     pub both_ended: bool,
 }
 
+/// An answer that two programs agree on.
+pub struct Answered<'a> {
+    pub call: &'a str,
+    pub answer: &'a str,
+    /// The call stands behind its explanation.
+    pub explained: bool,
+    /// The dump that stood before the call; nothing where there was none, or raw lines followed it.
+    pub before: &'a [u8],
+}
+
 /// A running program that is being fed a list.
 struct Running {
     child: Child,
@@ -88,17 +98,17 @@ impl Running {
 }
 
 /// Feeds a list to both programs, with a dump after each call, and finds where they part, or where they end though answers are due. A call
-/// that stands right behind its explanation must answer as explained. `answered` sees each answer they agree on, and whether it was
-/// explained before.
+/// that stands right behind its explanation must answer as explained. `answered` sees each answer they agree on.
 pub fn compare(
     programs: &[Program; 2],
     list: &[String],
-    mut answered: impl FnMut(&str, &str, bool),
+    mut answered: impl FnMut(&Answered),
 ) -> Result<Option<Disagreement>, String> {
     let mut first = programs[0].start(list, true)?;
     let mut second = programs[1].start(list, true)?;
     let (mut one, mut two) = (Vec::new(), Vec::new());
     let mut explained: Option<(Asked, String)> = None;
+    let mut dump = Vec::new();
     for (at, call) in list.iter().enumerate() {
         let lines = text::parse(call).ok().flatten().map_or(0, |line| line.answer_lines());
         for i in 0..lines {
@@ -115,9 +125,14 @@ pub fn compare(
                     let said = format!("explained as \"{explanation}\", and answered \"{answer}\"");
                     return parted(at, &said, first, second);
                 }
-                answered(call, &answer, before.is_some());
+                answered(&Answered { call, answer: &answer, explained: before.is_some(), before: &dump });
                 explained = explained::asked(call).map(|asked| (asked, answer.into_owned()));
             }
+        }
+        // The last line is the dump; a raw line, which has none, leaves bytes that no dump has shown.
+        match lines {
+            2 => std::mem::swap(&mut dump, &mut one),
+            _ => dump.clear(),
         }
     }
     let (a, b) = (first.line(&mut one)?, second.line(&mut two)?);

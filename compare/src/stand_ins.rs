@@ -1,12 +1,13 @@
 //! What the reference's files use from elsewhere, as small as they need it.
 
+use crate::text::Slot;
 use std::net::Ipv4Addr;
 
 /// In the place of `Enr`: an optional IPv4 address and a slot of the host's record store. Equal when all of it is equal.
 #[derive(Clone, Copy, Debug, PartialEq, Eq)]
 pub struct Value {
     pub address: Option<Ipv4Addr>,
-    pub slot: u16,
+    pub slot: Slot,
 }
 
 impl Value {

@@ -68,8 +68,8 @@ fn finds_and_shrinks_a_changed_dump() {
     if has_reference() {
         let (lines, first, _) = shrunk("s/ queue=.*$/ queue=[]/");
         assert!(first.starts_with("dump "), "{first}");
-        // At most: sixteen nodes, a pending, and the call that applies it.
-        assert!(lines.len() <= 19, "{lines:?}");
+        // At most: a new table, sixteen nodes, a call that disconnects one, a pending, and the call that applies it.
+        assert!(lines.len() <= 20, "{lines:?}");
     }
 }
 

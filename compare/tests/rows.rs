@@ -33,6 +33,13 @@ fn explanations() {
 }
 
 #[test]
+fn slots() {
+    if has_reference() {
+        programs::tells_slots_apart(REFERENCE);
+    }
+}
+
+#[test]
 fn bad_lines() {
     if has_reference() {
         programs::refuses_bad_lines(REFERENCE);

@@ -1,5 +1,7 @@
 //! The functions of the library, as include/kbuckets.h declares them: a run of bytes is a pointer and its length.
 
+use calls::text::Slot;
+
 unsafe extern "C" {
     pub fn kbuckets_version() -> u32;
     pub fn kbuckets_new(
@@ -31,7 +33,7 @@ unsafe extern "C" {
         b: u8,
         c: u8,
         d: u8,
-        slot: u16,
+        slot: Slot,
         state: u8,
         now: u64,
     ) -> u32;
@@ -45,7 +47,7 @@ unsafe extern "C" {
         b: u8,
         c: u8,
         d: u8,
-        slot: u16,
+        slot: Slot,
         state: u8,
         direction: u8,
         now: u64,
@@ -80,7 +82,7 @@ unsafe extern "C" {
         b: u8,
         c: u8,
         d: u8,
-        slot: u16,
+        slot: Slot,
         state: u8,
         direction: u8,
         now: u64,
@@ -134,7 +136,7 @@ unsafe extern "C" {
         a: u8,
         b: u8,
         c: u8,
-        slot: u16,
+        slot: Slot,
         n: usize,
         now: u64,
         output: *mut u8,
@@ -167,7 +169,7 @@ unsafe extern "C" {
         b: u8,
         c: u8,
         d: u8,
-        slot: u16,
+        slot: Slot,
         state: u8,
         now: u64,
         output: *mut u8,
@@ -183,7 +185,7 @@ unsafe extern "C" {
         b: u8,
         c: u8,
         d: u8,
-        slot: u16,
+        slot: Slot,
         state: u8,
         direction: u8,
         now: u64,
@@ -229,7 +231,7 @@ unsafe extern "C" {
         b: u8,
         c: u8,
         d: u8,
-        slot: u16,
+        slot: Slot,
         state: u8,
         direction: u8,
         now: u64,
@@ -253,7 +255,7 @@ unsafe extern "C" {
         b: u8,
         c: u8,
         d: u8,
-        slot: u16,
+        slot: Slot,
         state: u8,
         direction: u8,
         now: u64,
@@ -285,7 +287,7 @@ unsafe extern "C" {
         b: u8,
         c: u8,
         d: u8,
-        slot: u16,
+        slot: Slot,
     ) -> u32;
     pub fn kbuckets_b_update_pending(bucket: *mut u8, bucket_len: usize, state: u8, direction: u8) -> u32;
     pub fn kbuckets_b_remove(bucket: *mut u8, bucket_len: usize, key: *const u8, key_len: usize, now: u64) -> u32;

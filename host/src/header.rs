@@ -5,6 +5,7 @@ use crate::lent;
 use crate::node::{ConnectionDirection, ConnectionState, NOT_GIVEN, NodeStatus};
 use crate::version::{VERSION, Version};
 use calls::layout;
+use calls::text::Slot;
 use std::collections::HashMap;
 
 const HEADER: &str = include_str!("../../include/kbuckets.h");
@@ -41,7 +42,7 @@ fn rust_parameter(parameter: &str) -> String {
         "size_t" => "usize",
         "uint8_t" => "u8",
         "uint64_t" => "u64",
-        "kbuckets_slot" => "u16",
+        "kbuckets_slot" => "Slot",
         other => panic!("{other}"),
     };
     format!("{}: {kind}", &parameter[at..])
@@ -50,7 +51,8 @@ fn rust_parameter(parameter: &str) -> String {
 #[test]
 fn functions() {
     let header = plain(HEADER, "/*", "*/");
-    assert!(header.contains("typedef uint16_t kbuckets_slot;"));
+    let slot = format!("typedef uint{}_t kbuckets_slot;", Slot::BITS);
+    assert_eq!(header.matches(&slot).count(), 1);
     // Each must have its answer looked at.
     let in_header = declared(&header, "KBUCKETS_MUST_USE uint32_t ", ");", rust_parameter);
     let in_rust = declared(&plain(FFI, "//", "\n"), "pub fn ", ") -> u32;", str::to_string);
@@ -102,12 +104,15 @@ fn sizes() {
     let constants = constants();
     for (name, size) in [
         ("KEY_BYTES", layout::KEY),
+        ("SLOT_BYTES", size_of::<Slot>()),
         ("VALUE_BYTES", layout::VALUE),
         ("NODE_BYTES", layout::NODE),
         ("RECORD_BYTES", layout::RECORD),
         ("MAX_NODES_PER_BUCKET", layout::PLACES),
         ("NUM_BUCKETS", layout::BUCKETS),
         ("MAX_RECORDS", layout::RECORDS),
+        ("PADDING_OFFSET", layout::PADDING_AT),
+        ("RECORDS_OFFSET", layout::RECORDS_AT),
         ("HEADER_BYTES", layout::bucket_at(0)),
         ("STORED_BUCKET_BYTES", layout::bucket_at(1) - layout::bucket_at(0)),
         ("STORAGE_BYTES", lent::STORAGE_BYTES),
@@ -122,6 +127,16 @@ fn sizes() {
         ("EXPLANATION_BYTES", lent::EXPLANATION_BYTES),
     ] {
         assert_eq!(constants[&format!("KBUCKETS_{name}")], size as u64, "{name}");
+    }
+    // The sizes that the header's comments state.
+    for (text, size) in [
+        ("the storage of a table, ", lent::STORAGE_BYTES),
+        ("a bucket by itself, ", lent::BUCKET_BYTES),
+        ("what `answer` must have room for, ", lent::ANSWER_BYTES),
+        ("the records begin at a multiple of 16, ", layout::RECORDS_AT),
+    ] {
+        let stated = HEADER.split_once(text).map(|(_, rest)| rest.split([':', ' ']).next().unwrap());
+        assert_eq!(stated, Some(&size.to_string()[..]), "{text}");
     }
 }
 

@@ -8,7 +8,7 @@ use crate::answers::{
 };
 use crate::ffi;
 use calls::layout::{self, KEY, NODE, RECORD, VALUE};
-pub use calls::text::{NodeCodes, RecordCodes, ValueCodes};
+pub use calls::text::{NodeCodes, RecordCodes, Slot, ValueCodes};
 
 pub const STORAGE_BYTES: usize = layout::STORAGE;
 pub const BUCKET_BYTES: usize = layout::ALONE;
@@ -229,7 +229,7 @@ pub fn closest_values(
 pub struct PredicateCodes {
     pub predicate: u8,
     pub net: [u8; 3],
-    pub slot: u16,
+    pub slot: Slot,
 }
 
 pub fn closest_values_predicate(

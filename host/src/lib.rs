@@ -49,6 +49,8 @@ mod version;
 pub use answers::{AppliedPending, BucketInsertResult, Entry, FailureReason, InsertResult, Refusal, UpdateResult};
 pub use bucket::KBucket;
 pub use explanation::{Explanation, NoExplanation, PeerCall, Reason, Told};
-pub use node::{ClosestValue, ConnectionDirection, ConnectionState, Key, Node, NodeStatus, PredicateValue, Value};
+pub use node::{
+    ClosestValue, ConnectionDirection, ConnectionState, Key, Node, NodeStatus, PredicateValue, Slot, Value,
+};
 pub use table::{KBucketsTable, Predicate, Settings};
 pub use version::{OtherLibrary, VERSION, Version, check_library, library_version};

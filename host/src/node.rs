@@ -1,5 +1,6 @@
 //! Keys, values and nodes, and their codes.
 
+pub use calls::text::Slot;
 use calls::text::{NodeCodes, ValueCodes};
 use std::net::Ipv4Addr;
 
@@ -9,7 +10,7 @@ pub type Key = [u8; 32];
 #[derive(Clone, Copy, Debug, PartialEq, Eq)]
 pub struct Value {
     pub address: Option<Ipv4Addr>,
-    pub slot: u16,
+    pub slot: Slot,
 }
 
 #[derive(Clone, Copy, Debug, PartialEq, Eq)]

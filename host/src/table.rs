@@ -4,7 +4,7 @@ use crate::answers::{AppliedPending, BucketInsertResult, Entry, InsertResult, Re
 use crate::explanation::{Explanation, PeerCall};
 use crate::lent::{self, ANSWER_BYTES, EXPLANATION_BYTES, MAX_COUNT, PredicateCodes, RecordCodes, STORAGE_BYTES};
 use crate::node::{
-    ClosestValue, ConnectionDirection, ConnectionState, Key, NOT_GIVEN, Node, NodeStatus, PredicateValue, Value,
+    ClosestValue, ConnectionDirection, ConnectionState, Key, NOT_GIVEN, Node, NodeStatus, PredicateValue, Slot, Value,
 };
 use calls::layout::{self, KEY, TableBytes};
 use std::fmt;
@@ -31,7 +31,7 @@ pub enum Predicate {
     HasAddress,
     /// The address is in this /24.
     InNet([u8; 3]),
-    Slot(u16),
+    Slot(Slot),
 }
 
 /// The routing table. `now` is a count of milliseconds that the caller gives; it may go back. Each method changes nothing where it is

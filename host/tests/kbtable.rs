@@ -38,6 +38,11 @@ fn example() {
 }
 
 #[test]
+fn slots() {
+    programs::tells_slots_apart(KBTABLE);
+}
+
+#[test]
 fn bad_lines() {
     programs::refuses_bad_lines(KBTABLE);
 }

@@ -4,7 +4,7 @@ use kbuckets::lent::{self, PredicateCodes, ValueCodes};
 use kbuckets::{
     AppliedPending, BucketInsertResult, ClosestValue, ConnectionDirection, ConnectionState, Entry, Explanation,
     FailureReason, InsertResult, KBucket, KBucketsTable, Node, NodeStatus, PeerCall, Predicate, PredicateValue, Reason,
-    Refusal, Settings, Told, UpdateResult, Value,
+    Refusal, Settings, Slot, Told, UpdateResult, Value,
 };
 
 fn key(first: u8, last: u8) -> [u8; 32] {
@@ -15,7 +15,7 @@ fn key(first: u8, last: u8) -> [u8; 32] {
 }
 
 fn value(last: u8) -> Value {
-    Value { address: Some([10, 0, 0, last].into()), slot: 256 + u16::from(last) }
+    Value { address: Some([10, 0, 0, last].into()), slot: 256 + Slot::from(last) }
 }
 
 const CONNECTED: NodeStatus =
@@ -167,6 +167,41 @@ fn listings() -> Result<(), Refusal> {
     Ok(())
 }
 
+/// Two slots that differ in one byte alone, whichever it is, are not equal: as values, to the filters and to the predicate.
+#[test]
+fn slots() -> Result<(), Refusal> {
+    for slot in [0, 1, 1 << 16, 1 << 32, 1 << 63, Slot::MAX] {
+        for bit in 0..Slot::BITS {
+            let at = |slot| Value { address: Some([10, 0, 0, 1].into()), slot };
+            let (held, twin) = (at(slot), at(slot ^ 1 << bit));
+            let mut table = KBucketsTable::new([0; 32], Settings { max_incoming: 16, ..Settings::default() })?;
+            assert_eq!(table.insert_or_update(&key(0, 4), held, CONNECTED, 0)?, InsertResult::Inserted);
+            assert_eq!(table.insert_or_update(&key(0, 5), twin, CONNECTED, 0)?, InsertResult::Inserted);
+            let values = [held, twin].map(|value| value.slot);
+            assert_eq!(table.iter(9, 0)?.iter().map(|node| node.value.slot).collect::<Vec<_>>(), values);
+            for asked in values {
+                let found = table.closest_values_predicate(&key(0, 4), Predicate::Slot(asked), 9, 0)?;
+                assert!(found.iter().all(|found| found.predicate_match == (found.value.slot == asked)), "{asked}");
+                assert_eq!(found.iter().filter(|found| found.predicate_match).count(), 1);
+            }
+            assert_eq!(table.update_node(&key(0, 4), held, None, 0)?, UpdateResult::NotModified);
+            assert_eq!(table.update_node(&key(0, 4), twin, None, 0)?, UpdateResult::Updated);
+            assert_eq!(table.iter(1, 0)?, [node(key(0, 4), twin, CONNECTED)]);
+
+            let mut bucket = KBucket::new(0, 16, true)?;
+            for (last, value, result) in [
+                (1, held, BucketInsertResult::Inserted),
+                (2, twin, BucketInsertResult::Inserted),
+                (3, held, BucketInsertResult::Inserted),
+                (4, twin, BucketInsertResult::FailedFilter),
+            ] {
+                assert_eq!(bucket.insert(node(key(0, last), value, CONNECTED), 0)?, result, "{slot} {bit} {last}");
+            }
+        }
+    }
+    Ok(())
+}
+
 /// A refused call is its question, and the bytes stay.
 #[test]
 fn refusals() -> Result<(), Refusal> {
@@ -189,7 +224,10 @@ fn refusals() -> Result<(), Refusal> {
     assert_eq!(kept.closest_keys(&[0; 32], 1, 0)?, [key(0, 2)]);
     let mut bytes = table.storage().to_vec();
     bytes.pop();
-    assert_eq!(format!("{:?}", KBucketsTable::from_storage(bytes.clone())), "no table: 186027 bytes");
+    assert_eq!(
+        format!("{:?}", KBucketsTable::from_storage(bytes.clone())),
+        format!("no table: {} bytes", lent::STORAGE_BYTES - 1)
+    );
     assert_eq!(KBucketsTable::from_storage(bytes.clone()).take_applied_pending(), Err(Refusal::Size));
     bytes.push(1);
     assert_eq!(KBucketsTable::from_storage(bytes).take_applied_pending(), Err(Refusal::Form));
@@ -210,7 +248,8 @@ fn lent_output() -> Result<(), Refusal> {
     assert!(output.iter().all(|byte| *byte == 0xaa));
     assert_eq!(lent::closest_values_predicate(&mut storage, &[0; 32], slot, 3, 0, &mut output)?, 1);
     let mut entry = key(0, 2).to_vec();
-    entry.extend([1, 0, 0, 0, 0, 0, 0, 5]);
+    entry.extend([1, 0, 0, 0, 0, 0]);
+    entry.extend(none.slot.to_be_bytes());
     assert_eq!(output[..lent::CLOSEST_VALUES_PREDICATE_ENTRY], entry);
     assert!(output[lent::CLOSEST_VALUES_PREDICATE_ENTRY..].iter().all(|byte| *byte == 0xaa));
     assert_eq!(lent::remove(&mut storage, &[0; 31], 0), Err(Refusal::Key));

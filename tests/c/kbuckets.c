@@ -10,19 +10,21 @@
 #define ASSERT_SIZE(n, m) _Static_assert((n) == (m), #n)
 #endif
 
-ASSERT_SIZE(KBUCKETS_STORAGE_BYTES, 186028);
-ASSERT_SIZE(KBUCKETS_BUCKET_BYTES, 718);
-ASSERT_SIZE(KBUCKETS_ANSWER_BYTES, 74);
-ASSERT_SIZE(KBUCKETS_ITER_ENTRY_BYTES, 41);
-ASSERT_SIZE(KBUCKETS_NODES_BY_DISTANCES_ENTRY_BYTES, 41);
+ASSERT_SIZE(KBUCKETS_STORAGE_BYTES, 212528);
+ASSERT_SIZE(KBUCKETS_BUCKET_BYTES, 820);
+ASSERT_SIZE(KBUCKETS_ANSWER_BYTES, 80);
+ASSERT_SIZE(KBUCKETS_ITER_ENTRY_BYTES, 47);
+ASSERT_SIZE(KBUCKETS_NODES_BY_DISTANCES_ENTRY_BYTES, 47);
 ASSERT_SIZE(KBUCKETS_CLOSEST_KEYS_ENTRY_BYTES, 32);
-ASSERT_SIZE(KBUCKETS_CLOSEST_VALUES_ENTRY_BYTES, 39);
-ASSERT_SIZE(KBUCKETS_CLOSEST_VALUES_PREDICATE_ENTRY_BYTES, 40);
+ASSERT_SIZE(KBUCKETS_CLOSEST_VALUES_ENTRY_BYTES, 45);
+ASSERT_SIZE(KBUCKETS_CLOSEST_VALUES_PREDICATE_ENTRY_BYTES, 46);
 ASSERT_SIZE(KBUCKETS_EXPLANATION_BYTES, 2048);
+ASSERT_SIZE(KBUCKETS_SLOT_BYTES, sizeof(kbuckets_slot));
+ASSERT_SIZE(KBUCKETS_RECORDS_OFFSET, 48);
 
 /* A host may test the header's version while it compiles. */
-#if KBUCKETS_VERSION < 0x000200 || KBUCKETS_VERSION >= 0x010000
-#error "this program is written for versions from 0.2.0 to below 1.0.0"
+#if KBUCKETS_VERSION < 0x000300 || KBUCKETS_VERSION >= 0x010000
+#error "this program is written for versions from 0.3.0 to below 1.0.0"
 #endif
 
 static unsigned checks, failures;
@@ -44,6 +46,7 @@ static uint8_t output[KBUCKETS_MAX_COUNT * KBUCKETS_NODE_BYTES];
 static uint8_t key[KBUCKETS_KEY_BYTES];
 
 enum { TIMEOUT = 60000, UNTOUCHED = 0xA5 };
+enum { ANSWER = KBUCKETS_ANSWER_BYTES, SHORT = ANSWER - 1 };
 
 /* The key of a number; with local key zero, a key is its distance. */
 static const uint8_t *of(unsigned n) {
@@ -87,19 +90,24 @@ static void refusals(void) {
     CHECK(kbuckets_update_node(table, sizeof table, target, 32, 0, 0, 0, 0, 1, 0, 2, 0), KBUCKETS_REFUSED_CODE);
     CHECK(kbuckets_iter(table, sizeof table, 4097, 0, output, sizeof output), KBUCKETS_REFUSED_OUTPUT);
     CHECK(kbuckets_closest_keys(table, sizeof table, target, 32, 3, 0, output, 95), KBUCKETS_REFUSED_OUTPUT);
-    CHECK(kbuckets_closest_values(table, sizeof table, target, 32, 1, 0, output, 38), KBUCKETS_REFUSED_OUTPUT);
-    CHECK(kbuckets_closest_values_predicate(table, sizeof table, target, 32, 4, 0, 0, 0, 0, 1, 0, output, 40), KBUCKETS_REFUSED_CODE);
+    CHECK(kbuckets_closest_values(table, sizeof table, target, 32, 1, 0, output, KBUCKETS_CLOSEST_VALUES_ENTRY_BYTES - 1), KBUCKETS_REFUSED_OUTPUT);
+    CHECK(
+        kbuckets_closest_values_predicate(
+            table, sizeof table, target, 32, 4, 0, 0, 0, 0, 1, 0, output, KBUCKETS_CLOSEST_VALUES_PREDICATE_ENTRY_BYTES),
+        KBUCKETS_REFUSED_CODE);
     uint64_t distances[1] = {1};
-    CHECK(kbuckets_nodes_by_distances(table, sizeof table, distances, 1, 0, 0, output, 40), KBUCKETS_REFUSED_OUTPUT);
+    CHECK(
+        kbuckets_nodes_by_distances(table, sizeof table, distances, 1, 0, 0, output, KBUCKETS_NODES_BY_DISTANCES_ENTRY_BYTES - 1),
+        KBUCKETS_REFUSED_OUTPUT);
     memset(answer, UNTOUCHED, sizeof answer);
-    CHECK(kbuckets_take_applied_pending(table, sizeof table, answer, 73), KBUCKETS_REFUSED_OUTPUT);
-    CHECK(kbuckets_take_applied_pending(table, 5, answer, 73), KBUCKETS_REFUSED_SIZE);
-    CHECK(kbuckets_insert_or_update(table, sizeof table, of(4), 32, 0, 0, 0, 0, 0, 4, 1, 0, 0, answer, 73), KBUCKETS_REFUSED_OUTPUT);
-    CHECK(kbuckets_insert_or_update(table, sizeof table, of(4), 32, 2, 0, 0, 0, 0, 4, 1, 0, 0, answer, 73), KBUCKETS_REFUSED_CODE);
-    CHECK(kbuckets_absent_insert(table, sizeof table, of(4), 32, 0, 0, 0, 0, 0, 4, 1, 0, 0, answer, 73), KBUCKETS_REFUSED_OUTPUT);
+    CHECK(kbuckets_take_applied_pending(table, sizeof table, answer, SHORT), KBUCKETS_REFUSED_OUTPUT);
+    CHECK(kbuckets_take_applied_pending(table, 5, answer, SHORT), KBUCKETS_REFUSED_SIZE);
+    CHECK(kbuckets_insert_or_update(table, sizeof table, of(4), 32, 0, 0, 0, 0, 0, 4, 1, 0, 0, answer, SHORT), KBUCKETS_REFUSED_OUTPUT);
+    CHECK(kbuckets_insert_or_update(table, sizeof table, of(4), 32, 2, 0, 0, 0, 0, 4, 1, 0, 0, answer, SHORT), KBUCKETS_REFUSED_CODE);
+    CHECK(kbuckets_absent_insert(table, sizeof table, of(4), 32, 0, 0, 0, 0, 0, 4, 1, 0, 0, answer, SHORT), KBUCKETS_REFUSED_OUTPUT);
     CHECK(kbuckets_present_update(table, sizeof table, of(4), 32, 1, 0), KBUCKETS_REFUSED_KIND);
     CHECK(kbuckets_pending_update(table, sizeof table, of(4), 32, 1, 0), KBUCKETS_REFUSED_KIND);
-    CHECK(kbuckets_absent_insert(table, sizeof table, of(0), 32, 0, 0, 0, 0, 0, 4, 1, 0, 0, answer, 74), KBUCKETS_REFUSED_KIND);
+    CHECK(kbuckets_absent_insert(table, sizeof table, of(0), 32, 0, 0, 0, 0, 0, 4, 1, 0, 0, answer, ANSWER), KBUCKETS_REFUSED_KIND);
     CHECK(memcmp(before, table, sizeof table), 0);
     for (size_t i = 0; i < sizeof answer; i++) CHECK(answer[i], UNTOUCHED);
 }
@@ -126,7 +134,7 @@ static void listings(void) {
     CHECK(output[128], UNTOUCHED);
     CHECK(kbuckets_closest_values(table, sizeof table, of(5), 32, 2, 0, output, sizeof output), 2);
     CHECK(last(output + KBUCKETS_CLOSEST_VALUES_ENTRY_BYTES), 6);
-    CHECK(output[38], 4);
+    CHECK(output[KBUCKETS_CLOSEST_VALUES_ENTRY_BYTES - 1], 4);
     CHECK(
         kbuckets_closest_values_predicate(
             table, sizeof table, of(5), 32, KBUCKETS_SLOT_EQUALS, 0, 0, 0, 6, 3, 0, output, sizeof output),
@@ -170,11 +178,54 @@ static void pendings(void) {
     CHECK(last(answer), 300);
     CHECK(answer[32], 1);
     CHECK(last(answer + 33), 256);
-    CHECK(answer[73], 0);
-    CHECK(answer[72], 1);
-    CHECK(answer[74], UNTOUCHED);
+    CHECK(answer[ANSWER - 1], 0);
+    CHECK(answer[ANSWER - 2], 1);
+    CHECK(answer[ANSWER], UNTOUCHED);
     CHECK(kbuckets_take_applied_pending(table, sizeof table, answer, sizeof answer), KBUCKETS_APPLIED_NONE);
     CHECK(kbuckets_update_node(table, sizeof table, of(256), 32, 0, 0, 0, 0, 0, 8, 1, 60100), KBUCKETS_FAILED_KEY_NON_EXISTENT);
+}
+
+/* Slots that differ in one byte alone, at equal addresses: other values, in updates, filters, the predicate and what is listed. */
+static void slots(void) {
+    const kbuckets_slot slot = (kbuckets_slot)0x0102030405060708u;
+    for (unsigned i = 0; i < KBUCKETS_SLOT_BYTES; i++) {
+        const kbuckets_slot twin = slot ^ (kbuckets_slot)0x80 << 8 * i, third = slot ^ (kbuckets_slot)0x40 << 8 * i;
+        new_table();
+        CHECK(kbuckets_absent_insert(table, sizeof table, of(4), 32, 1, 10, 0, 0, 1, slot, 1, 0, 0, answer, ANSWER), KBUCKETS_BUCKET_INSERT_INSERTED);
+        CHECK(kbuckets_update_node(table, sizeof table, of(4), 32, 1, 10, 0, 0, 1, slot, KBUCKETS_NOT_GIVEN, 0), KBUCKETS_UPDATE_NOT_MODIFIED);
+        CHECK(kbuckets_update_node(table, sizeof table, of(4), 32, 1, 10, 0, 0, 1, twin, KBUCKETS_NOT_GIVEN, 0), KBUCKETS_UPDATE_UPDATED);
+        CHECK(kbuckets_iter(table, sizeof table, 1, 0, output, sizeof output), 1);
+        for (unsigned j = 0; j < KBUCKETS_SLOT_BYTES; j++)
+            CHECK(output[KBUCKETS_NODE_BYTES - KBUCKETS_SLOT_BYTES + j], (uint8_t)(twin >> 8 * (KBUCKETS_SLOT_BYTES - 1 - j)));
+        const kbuckets_slot asked[3] = {slot, twin, third};
+        for (unsigned j = 0; j < 3; j++) {
+            CHECK(
+                kbuckets_closest_values_predicate(
+                    table, sizeof table, of(4), 32, KBUCKETS_SLOT_EQUALS, 0, 0, 0, asked[j], 1, 0, output, sizeof output),
+                1);
+            CHECK(output[KBUCKETS_KEY_BYTES], asked[j] == twin);
+        }
+        CHECK(kbuckets_b_new(bucket, sizeof bucket, TIMEOUT, 16, KBUCKETS_FILTER_ON), 0);
+        CHECK(kbuckets_b_insert(bucket, sizeof bucket, of(1), 32, 1, 10, 0, 0, 1, slot, 0, 0, 0, answer, ANSWER), KBUCKETS_BUCKET_INSERT_INSERTED);
+        CHECK(kbuckets_b_insert(bucket, sizeof bucket, of(2), 32, 1, 10, 0, 0, 1, twin, 0, 0, 0, answer, ANSWER), KBUCKETS_BUCKET_INSERT_INSERTED);
+        CHECK(kbuckets_b_insert(bucket, sizeof bucket, of(3), 32, 1, 10, 0, 0, 1, third, 0, 0, 0, answer, ANSWER), KBUCKETS_BUCKET_INSERT_FAILED_FILTER);
+        CHECK(kbuckets_b_insert(bucket, sizeof bucket, of(3), 32, 1, 10, 0, 0, 1, slot, 0, 0, 0, answer, ANSWER), KBUCKETS_BUCKET_INSERT_INSERTED);
+    }
+}
+
+/* The padding before the records is zero, and question 2 asks for it. */
+static void padding(void) {
+    new_table();
+    for (unsigned i = KBUCKETS_PADDING_OFFSET; i < KBUCKETS_RECORDS_OFFSET; i++) {
+        CHECK(table[i], 0);
+        table[i] = 1;
+        CHECK(kbuckets_entry(table, sizeof table, of(1), 32, 0), KBUCKETS_REFUSED_FORM);
+        table[i] = 0;
+        CHECK(kbuckets_entry(table, sizeof table, of(1), 32, 0), KBUCKETS_ENTRY_ABSENT);
+    }
+    memset(table, UNTOUCHED, sizeof table);
+    new_table();
+    for (unsigned i = KBUCKETS_PADDING_OFFSET; i < KBUCKETS_RECORDS_OFFSET; i++) CHECK(table[i], 0);
 }
 
 static uint32_t b_put(unsigned n, uint8_t state, uint8_t direction, uint64_t now) {
@@ -195,7 +246,7 @@ static void buckets(void) {
     CHECK(kbuckets_b_insert(bucket, sizeof bucket, of(2), 31, 2, 0, 0, 0, 0, 0, 0, 0, 0, answer, 0), KBUCKETS_REFUSED_KEY);
     CHECK(kbuckets_b_insert(bucket, sizeof bucket, of(2), 32, 2, 0, 0, 0, 0, 0, 0, 0, 0, answer, 0), KBUCKETS_REFUSED_CODE);
     CHECK(kbuckets_b_insert(bucket, sizeof bucket, of(2), 32, 0, 0, 0, 0, 0, 0, 0, 0, UINT64_MAX, answer, 0), KBUCKETS_REFUSED_TIME);
-    CHECK(kbuckets_b_insert(bucket, sizeof bucket, of(2), 32, 0, 0, 0, 0, 0, 0, 0, 0, 0, answer, 73), KBUCKETS_REFUSED_OUTPUT);
+    CHECK(kbuckets_b_insert(bucket, sizeof bucket, of(2), 32, 0, 0, 0, 0, 0, 0, 0, 0, 0, answer, SHORT), KBUCKETS_REFUSED_OUTPUT);
 
     CHECK(kbuckets_b_new(bucket, sizeof bucket, TIMEOUT, 16, 0), 0);
     CHECK(b_put(1, 1, 0, 0), 0);
@@ -220,7 +271,7 @@ static void buckets(void) {
     CHECK(kbuckets_b_update_pending(bucket, sizeof bucket, 2, 0), KBUCKETS_REFUSED_CODE);
     CHECK(kbuckets_b_update_pending(bucket, sizeof bucket, 0, 1), 0);
     CHECK(kbuckets_b_apply_pending(bucket, sizeof bucket, 60099, answer, sizeof answer), KBUCKETS_APPLIED_NONE);
-    CHECK(kbuckets_b_apply_pending(bucket, sizeof bucket, 60100, answer, 73), KBUCKETS_REFUSED_OUTPUT);
+    CHECK(kbuckets_b_apply_pending(bucket, sizeof bucket, 60100, answer, SHORT), KBUCKETS_REFUSED_OUTPUT);
     CHECK(kbuckets_b_apply_pending(bucket, sizeof bucket, 60100, answer, sizeof answer), KBUCKETS_APPLIED_RECORD);
     CHECK(last(answer), 17);
     CHECK(answer[32], 1);
@@ -230,10 +281,10 @@ static void buckets(void) {
     CHECK(kbuckets_b_apply_pending(bucket, sizeof bucket, 0, answer, sizeof answer), KBUCKETS_REFUSED_FORM);
 
     CHECK(kbuckets_b_new(bucket, sizeof bucket, TIMEOUT, 16, 1), 0);
-    CHECK(kbuckets_b_insert(bucket, sizeof bucket, of(1), 32, 1, 10, 1, 2, 3, 1, 0, 0, 0, answer, 74), 0);
-    CHECK(kbuckets_b_insert(bucket, sizeof bucket, of(2), 32, 1, 10, 1, 2, 4, 2, 0, 0, 0, answer, 74), 0);
-    CHECK(kbuckets_b_insert(bucket, sizeof bucket, of(3), 32, 1, 10, 1, 2, 5, 3, 0, 0, 0, answer, 74), KBUCKETS_BUCKET_INSERT_FAILED_FILTER);
-    CHECK(kbuckets_b_insert(bucket, sizeof bucket, of(3), 32, 1, 10, 1, 2, 4, 2, 0, 0, 0, answer, 74), 0);
+    CHECK(kbuckets_b_insert(bucket, sizeof bucket, of(1), 32, 1, 10, 1, 2, 3, 1, 0, 0, 0, answer, ANSWER), 0);
+    CHECK(kbuckets_b_insert(bucket, sizeof bucket, of(2), 32, 1, 10, 1, 2, 4, 2, 0, 0, 0, answer, ANSWER), 0);
+    CHECK(kbuckets_b_insert(bucket, sizeof bucket, of(3), 32, 1, 10, 1, 2, 5, 3, 0, 0, 0, answer, ANSWER), KBUCKETS_BUCKET_INSERT_FAILED_FILTER);
+    CHECK(kbuckets_b_insert(bucket, sizeof bucket, of(3), 32, 1, 10, 1, 2, 4, 2, 0, 0, 0, answer, ANSWER), 0);
 }
 
 /* An explanation of this length stands at the front of the output, and no other byte of output or table has changed. A # in the line
@@ -265,8 +316,8 @@ static void explanations(void) {
     uint8_t zero[KBUCKETS_KEY_BYTES] = {0};
     memset(output, UNTOUCHED, sizeof output);
     CHECK(kbuckets_new(table, sizeof table, zero, sizeof zero, TIMEOUT, 1, KBUCKETS_FILTER_ON, KBUCKETS_FILTER_ON), 0);
-    CHECK(kbuckets_absent_insert(table, sizeof table, of(256), 32, 1, 10, 0, 0, 1, 0, 0, 0, 100, answer, 74), 0);
-    CHECK(kbuckets_absent_insert(table, sizeof table, of(257), 32, 1, 10, 0, 0, 2, 0, 1, 1, 100, answer, 74), 0);
+    CHECK(kbuckets_absent_insert(table, sizeof table, of(256), 32, 1, 10, 0, 0, 1, 0, 0, 0, 100, answer, ANSWER), 0);
+    CHECK(kbuckets_absent_insert(table, sizeof table, of(257), 32, 1, 10, 0, 0, 2, 0, 1, 1, 100, answer, ANSWER), 0);
     for (unsigned i = 258; i < 271; i++) CHECK(put(i, 1, 0, 100), KBUCKETS_INSERT_INSERTED);
     memcpy(before, table, sizeof table);
     SAYS(kbuckets_explain_insert_or_update(table, sizeof table, of(271), 32, 0, 0, 0, 0, 0, 0, 1, 0, 100, output, ROOM), "Inserted none\n");
@@ -329,6 +380,8 @@ int main(void) {
     refusals();
     listings();
     pendings();
+    slots();
+    padding();
     buckets();
     explanations();
     printf("kbuckets.c: %u of %u checks passed\n", checks - failures, checks);

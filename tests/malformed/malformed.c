@@ -163,7 +163,10 @@ static void random_value(uint8_t *value)
             noise(value + 1, 4);
         }
     }
-    value[KBUCKETS_VALUE_BYTES - 1] = (uint8_t)below(chance(80) ? 3 : 256);
+    /* few slots, most of which differ in one byte, any of the eight */
+    if (chance(5))
+        noise(value + SLOT_AT - VALUE_AT, KBUCKETS_SLOT_BYTES);
+    value[KBUCKETS_VALUE_BYTES - 1 - below(chance(50) ? 1 : KBUCKETS_SLOT_BYTES)] = (uint8_t)below(chance(80) ? 3 : 256);
 }
 
 /* A key of this index, or any key where local is null; often differing in one byte from one that the bucket has. */
@@ -739,7 +742,7 @@ static void change_table(uint8_t *s, int index)
 {
     unsigned records = s[COUNT_AT] > RECORDS ? RECORDS : s[COUNT_AT];
     size_t record = RECORDS_AT + (records ? below(records) : 0) * RECORD;
-    switch (below(20)) {
+    switch (below(21)) {
     case 0: change(s, MAX_INCOMING_AT, bad_count(s[MAX_INCOMING_AT])); break;
     case 1: change(s, chance(50) ? TABLE_FILTER_AT : BUCKET_FILTER_AT, (uint8_t)(chance(50) ? below(2) : bad_code(0))); break;
     case 2: change(s, COUNT_AT, bad_count(s[COUNT_AT])); break;
@@ -757,6 +760,7 @@ static void change_table(uint8_t *s, int index)
         break;
     case 6: change(s, chance(50) ? TIMEOUT_AT + below(KBUCKETS_TIME_BYTES) : KEY - 1 - below(chance(50) ? 1 : KEY), (uint8_t)draw()); break;
     case 7: change(s, below(STORAGE), (uint8_t)draw()); break;
+    case 8: change(s, PADDING_AT + below(RECORDS_AT - PADDING_AT), (uint8_t)draw()); break;
     default: change_bucket(s, HEADER + (size_t)index * STORED, s);
     }
 }
@@ -1015,7 +1019,7 @@ static int report(bool tables_here, bool alones_here)
     }
     printf("question 2, by what it found first (tables, buckets by themselves):\n");
     for (int f = 0; f < NUM_FAULTS; f++) {
-        bool of_table = f == F_TABLE_FILTER || (f >= F_MANY_RECORDS && f <= F_RECORD_UNUSED) || f == F_INDEX || f == F_LOCAL ||
+        bool of_table = f == F_TABLE_FILTER || (f >= F_PADDING && f <= F_RECORD_UNUSED) || f == F_INDEX || f == F_LOCAL ||
                         f == F_PENDING_INDEX || f == F_PENDING_LOCAL;
         printf("    %-42s %8lu", fault_text[f], faults[0][f]);
         missing += tables_here && !faults[0][f];

@@ -13,6 +13,7 @@
     X(MAX_INCOMING, "max_incoming above 16")                                                                                               \
     X(TABLE_FILTER, "table filter neither 0 nor 1")                                                                                        \
     X(BUCKET_FILTER, "bucket filter neither 0 nor 1")                                                                                      \
+    X(PADDING, "padding that is not zero")                                                                                                 \
     X(MANY_RECORDS, "more than 64 records")                                                                                                \
     X(RECORD_FLAG, "record: evicted flag neither 0 nor 1")                                                                                 \
     X(RECORD_STATE, "record: state neither 0 nor 1")                                                                                       \
@@ -183,6 +184,8 @@ static enum fault table_fault(const uint8_t *s)
         return F_TABLE_FILTER;
     if (s[BUCKET_FILTER_AT] > 1)
         return F_BUCKET_FILTER;
+    if (!zero(s + PADDING_AT, RECORDS_AT - PADDING_AT))
+        return F_PADDING;
     if (records > RECORDS)
         return F_MANY_RECORDS;
     for (unsigned i = 0; i < records; i++)

@@ -38,7 +38,7 @@ static uint8_t *random_key(unsigned i) {
 static struct {
     const uint8_t *key;
     uint8_t flag, a, b, c, d, state, direction, predicate, given_state, given_direction;
-    uint16_t slot;
+    kbuckets_slot slot;
     uint64_t now, distances[8];
     size_t n;
 } with;
@@ -53,7 +53,7 @@ static void choose(void) {
     with.b = with.flag ? (uint8_t)below(2) : 0;
     with.c = with.flag ? (uint8_t)below(256) : 0;
     with.d = with.flag ? (uint8_t)below(4) : 0;
-    with.slot = (uint16_t)below(65536);
+    with.slot = (kbuckets_slot)below(65536) << 16 * below(4);
     with.state = (uint8_t)below(2);
     with.direction = (uint8_t)below(2);
     with.given_state = (uint8_t)below(3);
@@ -153,9 +153,9 @@ static void ok(uint32_t code) {
     if (code >= KBUCKETS_REFUSED) abort();
 }
 
-static uint32_t put(const uint8_t *key, uint8_t state, unsigned slot) {
+static uint32_t put(const uint8_t *key, uint8_t state, kbuckets_slot slot) {
     return kbuckets_insert_or_update(
-        STORAGE, key, 32, 1, 10, (uint8_t)(slot >> 8), (uint8_t)slot, 1, (uint16_t)slot, state, (uint8_t)below(2), 1, ANSWER);
+        STORAGE, key, 32, 1, 10, (uint8_t)(slot >> 8), (uint8_t)slot, 1, slot, state, (uint8_t)below(2), 1, ANSWER);
 }
 
 // Each value in a /24 of its own, so that no filter fails.
@@ -177,13 +177,13 @@ static void make_tables(void) {
     ok(kbuckets_nodes_by_distances(STORAGE, distances, KBUCKETS_MAX_RECORDS, KBUCKETS_MAX_COUNT, TIMEOUT + 1, OUTPUT));
     for (unsigned i = 0; i < KBUCKETS_MAX_RECORDS; i++) put(random_key(99 + i), KBUCKETS_CONNECTED, key_count), key_count++;
     memcpy(tables[2], storage, sizeof storage);
-    if (pendings < 240 || tables[2][43] != KBUCKETS_MAX_RECORDS) abort();
+    if (pendings < 240 || tables[2][KBUCKETS_PADDING_OFFSET - 1] != KBUCKETS_MAX_RECORDS) abort();
 
     // the first 17 keys: those of bucket 255, and its pending
     ok(kbuckets_b_new(BUCKET, TIMEOUT, 16, 1));
     memcpy(buckets[0], bucket, sizeof bucket);
     for (unsigned i = 0; i < KBUCKETS_MAX_NODES_PER_BUCKET + 1; i++)
-        if (kbuckets_b_insert(BUCKET, keys[i], 32, 1, 10, 0, (uint8_t)i, 1, (uint16_t)i, i >= 8, (uint8_t)below(2), 1, ANSWER)
+        if (kbuckets_b_insert(BUCKET, keys[i], 32, 1, 10, 0, (uint8_t)i, 1, i, i >= 8, (uint8_t)below(2), 1, ANSWER)
             != (i < 16 ? KBUCKETS_BUCKET_INSERT_INSERTED : KBUCKETS_BUCKET_INSERT_PENDING))
             abort();
     memcpy(buckets[1], bucket, sizeof bucket);

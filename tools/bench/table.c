@@ -100,7 +100,7 @@ static void take_key(int i) {
 }
 static void run_status(int i) { (void)i; sink += kbuckets_update_node_status(storage, sizeof storage, key, 32, 1, 0, 0); }
 static void run_held(int i) { (void)i; sink += put(key); }
-static void run_update(int i) { sink += kbuckets_update_node(storage, sizeof storage, key, 32, 1, 10, 0, 0, 1, (uint16_t)i, 1, 0); }
+static void run_update(int i) { sink += kbuckets_update_node(storage, sizeof storage, key, 32, 1, 10, 0, 0, 1, (kbuckets_slot)i, 1, 0); }
 static void run_present(int i) { (void)i; sink += kbuckets_present_update(storage, sizeof storage, key, 32, 1, 0); }
 static void run_entry(int i) { (void)i; sink += kbuckets_entry(storage, sizeof storage, key, 32, 0); }
 static void run_remove(int i) { (void)i; sink += kbuckets_remove(storage, sizeof storage, key, 32, 0); }

@@ -3,7 +3,7 @@
 use compare::explained::asked;
 use compare::generate::Generator;
 use compare::outcome::{Counts, outcome};
-use compare::run::{self, Disagreement, Program};
+use compare::run::{self, Answered, Disagreement, Program};
 use compare::shrink::shrink;
 use std::process::ExitCode;
 use std::time::{Duration, Instant};
@@ -15,8 +15,8 @@ Feeds seeded random lists of calls to two commands, each started with --dump, an
 line by line. Most of the calls that can be explained stand behind their explanation, and must answer as it says. FIRST is the `reference` beside this program where it is not given. A command may have arguments, parted by spaces.
 Exits with 0 where they agree on all calls, with 2 where it cannot run, and with 1 otherwise: after a disagreement, which is shrunk to its
 fewest lines, and a command that ends before its answers are through is one, whatever the other does; where fewer calls or explanations
-ran than were asked for; and, from 200,000 calls on, where an outcome of a call or an explanation is not reached (from 2,000,000 on also what
-listings and explanations are to be asked for).
+ran than were asked for; and, from 200,000 calls on, where an outcome of a call or an explanation, or two slots that differ in some one byte
+alone, are not reached (from 2,000,000 on also what listings and explanations are to be asked for).
 
   --calls N          calls to compare (100,000) or to write (3,000); explanations are not counted
   --explanations N   explanations to compare, each with its call, at least (0)
@@ -112,6 +112,7 @@ fn compare(options: &Options, programs: &[Program; 2]) -> Result<bool, String> {
     }
     let mut generator = Generator::explaining(options.seed);
     let (mut counts, mut explained, mut asked) = (Counts::outcomes(), Counts::explained(), Counts::asked());
+    let mut slots = Counts::slots();
     let (mut calls, mut explanations) = (0, 0);
     let mut shown = start;
     while (calls < wanted || explanations < options.explanations) && start.elapsed() < limit {
@@ -119,12 +120,14 @@ fn compare(options: &Options, programs: &[Program; 2]) -> Result<bool, String> {
         while list.len() < BATCH {
             list.extend(generator.list());
         }
-        let disagreement = run::compare(programs, &list, |line, answer, as_explained| {
-            calls += u64::from(is_call(line));
-            explanations += u64::from(as_explained);
-            counts.add_outcome(line, answer);
-            explained.add_outcome(line, answer);
-            asked.add_asked(line, answer);
+        let disagreement = run::compare(programs, &list, |answered: &Answered| {
+            let Answered { call, answer, .. } = answered;
+            calls += u64::from(is_call(call));
+            explanations += u64::from(answered.explained);
+            counts.add_outcome(call, answer);
+            explained.add_outcome(call, answer);
+            asked.add_asked(call, answer);
+            slots.add_slots(call, answer, answered.before);
         })?;
         if let Some(disagreement) = disagreement {
             println!("seed {}: disagreement after {calls} calls", options.seed);
@@ -143,9 +146,14 @@ fn compare(options: &Options, programs: &[Program; 2]) -> Result<bool, String> {
     print_counts(&explained);
     println!("Asked of the listings, and of explanations:");
     print_counts(&asked);
+    println!("Slots at equal addresses, by how they differ (byte 0 is the last):");
+    print_counts(&slots);
     let (seed, seconds) = (options.seed, start.elapsed().as_secs_f64());
     let missing = |counts: &Counts, from| if wanted < from { 0 } else { counts.rare(1).len() };
-    let missing = missing(&counts, ALL_OUTCOMES) + missing(&explained, ALL_OUTCOMES) + missing(&asked, ALL_ASKED);
+    let missing = missing(&counts, ALL_OUTCOMES)
+        + missing(&explained, ALL_OUTCOMES)
+        + missing(&slots, ALL_OUTCOMES)
+        + missing(&asked, ALL_ASKED);
     let agree = format!("{calls} calls agree, {explanations} of them as explained before, in {seconds:.1} s");
     if calls < wanted {
         println!("seed {seed}: FAILED: only {calls} of {wanted} calls ran, in {seconds:.1} s; they agree");
@@ -168,11 +176,11 @@ fn report(programs: &[Program; 2], list: &[String], disagreement: &Disagreement)
         if trials % 200 == 0 {
             eprintln!("shrinking: {trials} trials, {} lines", part.len());
         }
-        let parted = run::compare(programs, part, |_, _, _| ());
+        let parted = run::compare(programs, part, |_| ());
         parted.is_ok_and(|parted| parted.is_some_and(|parted| parted.both_ended == disagreement.both_ended))
     };
     let lines = if parts(upto) { shrink(upto, parts) } else { shrink(list, parts) };
-    let Some(disagreement) = run::compare(programs, &lines, |_, _, _| ())? else {
+    let Some(disagreement) = run::compare(programs, &lines, |_| ())? else {
         return Err("the disagreement does not come back when the lines are run again".to_string());
     };
     println!("the fewest lines that show it:\n");

@@ -25,9 +25,11 @@ fn main() -> ExitCode {
 mod list {
     use compare::driver::Driver;
     use compare::generate::{Generator, Random};
+    use compare::layout::{KEY, PADDING_AT, RECORDS_AT};
     use compare::outcome::{Counts, outcome};
-    use compare::record::{self, ANSWERING};
+    use compare::record::{self, ANSWER, ANSWERING};
     use compare::shrink::shrink;
+    use compare::text::Slot;
 
     const HELP: &str = "list [--calls N] [--seed N] FILE
 
@@ -136,7 +138,7 @@ missing.
         if !ANSWERING.contains(&record::name(&line)) || random.below(30) != 0 {
             return line;
         }
-        let length = [0, 32, 73, 75, 100][random.below(5) as usize];
+        let length = [0, KEY, ANSWER - 1, ANSWER + 1, 100][random.below(5) as usize];
         format!("{line} answer={length}")
     }
 
@@ -177,14 +179,13 @@ missing.
         .to_vec()
     }
 
-    /// Question 1 of each call; short answers; a queue filled by calls alone and question 8 of each call; question 2 of each call; a pending
-    /// of each status before it is due, and when it is.
+    /// Question 1 of each call; short answers; a queue filled by calls alone and question 8 of each call; question 2 of each call, and of the
+    /// padding; a pending of each status before it is due, and when it is; slots that differ in one byte alone.
     fn fixed() -> Vec<String> {
         let mut lines = vec!["new :0 0 16 0 0".to_string()];
         lines.extend(every().iter().map(|line| format!("! {line}")));
-        lines.extend(
-            every().iter().filter(|line| ANSWERING.contains(&record::name(line))).map(|l| format!("{l} answer=73")),
-        );
+        let answering = every().into_iter().filter(|line| ANSWERING.contains(&record::name(line)));
+        lines.extend(answering.map(|line| format!("{line} answer={}", ANSWER - 1)));
         for i in 0..16 {
             lines.push(format!("insert_or_update 0 :{:x} 0:0.0.0.0:{i} 0 0", 0x500 + i));
         }
@@ -198,6 +199,9 @@ missing.
         lines.push("raw_byte 42 2".to_string());
         lines.extend(every());
         lines.push("raw_byte 42 0".to_string());
+        for at in PADDING_AT..RECORDS_AT {
+            lines.extend([format!("raw_byte {at} 1"), "entry 0 :400".to_string(), format!("raw_byte {at} 0")]);
+        }
         lines.extend(every());
         lines.push("new :0 60000 16 0 0".to_string());
         for i in 0..16 {
@@ -210,8 +214,31 @@ missing.
         }
         lines.push("entry 60100 :600".to_string());
         lines.push("b_new 10 16 0".to_string());
-        lines.push("b_insert 0 :1 0:0.0.0.0:1 0 0 answer=73".to_string());
+        lines.push(format!("b_insert 0 :1 0:0.0.0.0:1 0 0 answer={}", ANSWER - 1));
         lines.push("b_apply_pending 0 answer=0".to_string());
+        for slot in [0, 1 << 16, 1 << 32, 1 << 63, Slot::MAX] {
+            for byte in 0..size_of::<Slot>() {
+                lines.extend(twins(slot, slot ^ 0x80 << (8 * byte)));
+            }
+        }
         lines
+    }
+
+    /// Two slots at one address: as values of one key, to "slot equals", to the bucket filter, in a record.
+    fn twins(slot: Slot, twin: Slot) -> Vec<String> {
+        vec![
+            "new :0 0 16 0 0".to_string(),
+            format!("insert_or_update 0 :4 1:10.0.0.1:{slot} 1 0"),
+            format!("insert_or_update 0 :5 1:10.0.0.1:{twin} 1 0"),
+            format!("closest_values_predicate 0 :4 3:{slot} 2"),
+            format!("closest_values_predicate 0 :4 3:{twin} 2"),
+            format!("update_node 0 :4 1:10.0.0.1:{slot} 2"),
+            format!("update_node 0 :4 1:10.0.0.1:{twin} 2"),
+            "b_new 0 16 1".to_string(),
+            format!("b_insert 0 :1 1:10.0.0.1:{slot} 0 0"),
+            format!("b_insert 0 :2 1:10.0.0.1:{twin} 0 0"),
+            format!("b_insert 0 :3 1:10.0.0.1:{slot} 0 0"),
+            format!("b_insert 0 :4 1:10.0.0.1:{twin} 0 0"),
+        ]
     }
 }

@@ -29,9 +29,10 @@ mod measure {
     use compare::kbucket::{
         ConnectionDirection, ConnectionState, FailureReason, InsertResult, Key, NodeStatus, UpdateResult,
     };
-    use compare::layout::{BUCKETS, PLACES, STORAGE, Settings};
+    use compare::layout::{BUCKETS, KEY, NODE, PLACES, RECORD, STORAGE, Settings, VALUE, value_bytes};
     use compare::stand_ins::enr::NodeId;
     use compare::stand_ins::{Value, clock};
+    use compare::text::{Slot, ValueCodes};
     use std::alloc::{GlobalAlloc, Layout, System};
     use std::hint::black_box;
     use std::process::ExitCode;
@@ -56,9 +57,7 @@ lines name no key.";
     /// Keys asked of `closest_keys`, nodes of `iter`.
     const CLOSEST: usize = 16;
     const ALL: usize = 4096;
-    const KEY: usize = 32;
-    const NODE: usize = 41;
-    const ANSWER: usize = 74;
+    const ANSWER: usize = RECORD;
     const EXPLANATION: usize = 2048;
     /// The nodes of the tables on which explanations are timed.
     const EXPLAINED_NODES: usize = 1008;
@@ -96,7 +95,7 @@ lines name no key.";
             b: u8,
             c: u8,
             d: u8,
-            slot: u16,
+            slot: Slot,
             state: u8,
             direction: u8,
             now: u64,
@@ -149,7 +148,7 @@ lines name no key.";
             b: u8,
             c: u8,
             d: u8,
-            slot: u16,
+            slot: Slot,
             state: u8,
             direction: u8,
             now: u64,
@@ -217,7 +216,7 @@ lines name no key.";
         key: [u8; KEY],
         reference_key: Key<NodeId>,
         octets: [u8; 4],
-        slot: u16,
+        slot: Slot,
     }
 
     /// The calls that are timed. Nodes are connected and outgoing. Answers are the library's codes.
@@ -232,7 +231,7 @@ lines name no key.";
             times: &mut Self::Times,
             call: impl FnMut(&mut Self, &Peer) -> u32,
         );
-        fn insert_or_update(&mut self, peer: &Peer, slot: u16) -> u32;
+        fn insert_or_update(&mut self, peer: &Peer, slot: Slot) -> u32;
         fn update_node_status(&mut self, peer: &Peer) -> u32;
         fn remove(&mut self, peer: &Peer) -> u32;
         fn closest_keys(&mut self, target: &Peer, output: &mut [u8]) -> u32;
@@ -266,7 +265,7 @@ lines name no key.";
         }
 
         /// Explains a call on a peer, given this slot.
-        fn explain(&mut self, call: Call, peer: &Peer, slot: u16) -> u32 {
+        fn explain(&mut self, call: Call, peer: &Peer, slot: Slot) -> u32 {
             let [a, b, c, d] = peer.octets;
             let (storage, key, line) = (self.storage.as_ptr(), peer.key.as_ptr(), self.line.as_mut_ptr());
             let room = EXPLANATION;
@@ -326,7 +325,7 @@ lines name no key.";
             }
         }
 
-        fn insert_or_update(&mut self, peer: &Peer, slot: u16) -> u32 {
+        fn insert_or_update(&mut self, peer: &Peer, slot: Slot) -> u32 {
             let [a, b, c, d] = peer.octets;
             let (storage, key, answer) = (self.storage.as_mut_ptr(), peer.key.as_ptr(), self.answer.as_mut_ptr());
             unsafe {
@@ -387,7 +386,7 @@ lines name no key.";
             times.note(nanoseconds(start) / peers.len() as f64);
         }
 
-        fn insert_or_update(&mut self, peer: &Peer, slot: u16) -> u32 {
+        fn insert_or_update(&mut self, peer: &Peer, slot: Slot) -> u32 {
             let value = Value { address: Some(peer.octets.into()), slot };
             match Table::insert_or_update(self, &peer.reference_key, value, STATUS) {
                 InsertResult::Inserted => 0,
@@ -430,9 +429,9 @@ lines name no key.";
                 entry[..KEY].copy_from_slice(&found.node.key.preimage().raw());
                 entry[KEY] = found.status.is_connected().into();
                 entry[KEY + 1] = found.status.is_incoming().into();
-                entry[KEY + 2] = value.address.is_some().into();
-                entry[KEY + 3..KEY + 7].copy_from_slice(&value.address.map_or([0; 4], |address| address.octets()));
-                entry[KEY + 7..].copy_from_slice(&value.slot.to_be_bytes());
+                let octets = value.address.map_or([0; 4], |address| address.octets());
+                let value = ValueCodes { flag: value.address.is_some().into(), octets, slot: value.slot };
+                entry[NODE - VALUE..].copy_from_slice(&value_bytes(&value));
                 count += 1;
             }
             count
@@ -466,7 +465,7 @@ lines name no key.";
     /// Peer `number`, in a /24 of its own.
     fn peer(key: [u8; KEY], number: usize) -> Peer {
         let [.., b, c] = number.to_be_bytes();
-        Peer { key, reference_key: key_of(&key), octets: [10, b, c, 1], slot: number as u16 }
+        Peer { key, reference_key: key_of(&key), octets: [10, b, c, 1], slot: number as Slot }
     }
 
     #[derive(Clone, Copy, PartialEq, Eq)]
@@ -578,7 +577,7 @@ lines name no key.";
             let reference_bytes = size_of::<Table>() + ALLOCATED.load(Relaxed) - before;
             drop(copy);
             let held = number;
-            let again = |p: &Peer| peer(p.key, p.slot.into());
+            let again = |p: &Peer| peer(p.key, p.slot as usize);
             let drawn = match held {
                 0 => Vec::new(),
                 _ => (0..CALLS)
@@ -676,7 +675,7 @@ lines name no key.";
         /// Two passes. The table is at rest again afterwards, up to the order of its buckets, which is the same on both sides.
         fn timed<S: Side>(&self, side: &mut S, call: Call, output: &mut Output, times: &mut S::Times) {
             let Output { answers, bytes } = output;
-            for other in [1 << 15, 0] {
+            for other in [1 << (Slot::BITS - 1), 0] {
                 match call {
                     Call::UpdateNodeStatus => side.pass(self.drawn, answers, times, |s, p| s.update_node_status(p)),
                     Call::SameValue => side.pass(self.drawn, answers, times, |s, p| s.insert_or_update(p, p.slot)),
@@ -714,7 +713,7 @@ lines name no key.";
                 Call::Full => self.outside,
                 _ => self.drawn,
             };
-            let other = if call == Call::OtherValue { 1 << 15 } else { 0 };
+            let other = if call == Call::OtherValue { 1 << (Slot::BITS - 1) } else { 0 };
             if call == Call::Insert {
                 library.pass(self.changing, answers, untimed, |library, peer| library.remove(peer));
             }

@@ -1,5 +1,7 @@
 //! What every program that answers calls must do: the files of calls with their answers, and bad lines.
 
+use calls::layout::STORAGE;
+use calls::text::Slot;
 use std::io::Write;
 use std::path::Path;
 use std::process::{Command, Output, Stdio};
@@ -36,7 +38,7 @@ pub fn answers_as_written(program: &str, file: &str) {
 }
 
 /// Lines that are no call, and raw lines that do not fit.
-const BAD_LINES: [&str; 41] = [
+const BAD_LINES: [&str; 42] = [
     "no_such_call",
     "entry 0",
     "entry 0 :1 2",
@@ -51,12 +53,13 @@ const BAD_LINES: [&str; 41] = [
     "new :0 10 256 0 0",
     "update_node 0 :1 1:1.2.3:4 0",
     "update_node 0 :1 1:1.2.3.256:4 0",
-    "update_node 0 :1 1:1.2.3.4:65536 0",
+    "update_node 0 :1 1:1.2.3.4:18446744073709551616 0",
+    "b_update_value :1 1:1.2.3.4:18446744073709617151",
     "iter 0 1 room=1",
     "entry 0 :1 out=1",
     "nodes_by_distances 0 1,,2 1",
     "closest_values_predicate 0 :1 2 1",
-    "closest_values_predicate 0 :1 3:65536 1",
+    "closest_values_predicate 0 :1 3:18446744073709551616 1",
     "! dump",
     "explain",
     "! explain",
@@ -76,16 +79,71 @@ const BAD_LINES: [&str; 41] = [
     "raw_node 256 :1 0:0.0.0.0:0 0 0",
     "raw_node 0 01 0:0.0.0.0:0 0 0",
     "raw_fcp 0 256",
-    "raw_byte 186028 1",
+    "raw_node 0 :1 1:1.2.3.4:18446744073709551616 0 0",
     "raw_byte 0 256",
 ];
 
 /// A bad line ends the program with a message that names it; what came before stands.
 pub fn refuses_bad_lines(program: &str) {
-    for line in BAD_LINES {
+    let past = format!("raw_byte {STORAGE} 1");
+    for line in BAD_LINES.into_iter().chain([&past[..]]) {
         let run = run(program, &[], &format!("# a note\n\ntake_applied_pending\n{line}\nentry 0 :0\n"));
         assert!(!run.status.success(), "{line}");
         assert_eq!(String::from_utf8_lossy(&run.stdout), "None\n", "{line}");
         assert!(String::from_utf8_lossy(&run.stderr).contains("line 4: "), "{line}");
+    }
+}
+
+/// Slots that differ in one byte alone, at one address, are told apart: as values of one key, by both filters, by the test that skips the table
+/// filter for the value held already, and by "slot equals".
+pub fn tells_slots_apart(program: &str) {
+    let key = |n: u64| format!("{n:0>64x}");
+    for slot in [0, 1 << 16, 1 << 32, 1 << 63, Slot::MAX] {
+        for byte in 0..size_of::<Slot>() {
+            let twin = slot ^ 0x80 << (8 * byte);
+            let (held, other) = (format!("1:10.0.0.1:{slot}"), format!("1:10.0.0.1:{twin}"));
+            let mut lines = vec![
+                ("new :0 10 16 0 0".to_string(), "New".to_string()),
+                (format!("insert_or_update 0 :4 {held} 1 0"), "Inserted".to_string()),
+                (format!("insert_or_update 0 :5 {other} 1 0"), "Inserted".to_string()),
+                (
+                    format!("closest_values_predicate 0 :4 3:{slot} 2"),
+                    format!("List 2 {}/{held}/1 {}/{other}/0", key(4), key(5)),
+                ),
+                (
+                    format!("closest_values_predicate 0 :4 3:{twin} 2"),
+                    format!("List 2 {}/{held}/0 {}/{other}/1", key(4), key(5)),
+                ),
+                (format!("update_node 0 :4 {held} 2"), "NotModified".to_string()),
+                (format!("update_node 0 :4 {other} 2"), "Updated".to_string()),
+                (format!("update_node 0 :4 {other} 2"), "NotModified".to_string()),
+                (format!("insert_or_update 0 :4 {held} 1 0"), "ValueUpdated".to_string()),
+                (format!("raw_record :1 :2 {held} 0 0"), "Raw".to_string()),
+                ("take_applied_pending".to_string(), format!("Some({}^{}/{held}/0/0)", key(1), key(2))),
+                ("new :0 10 16 1 0".to_string(), "New".to_string()),
+                (format!("absent_insert 0 :20 {held} 0 0"), "Inserted".to_string()),
+            ];
+            // Twelve more of the /24, all of the other value: the table filter is skipped for the value held already, and only for it.
+            lines.extend((0x40..0x4c).map(|n| (format!("absent_insert 0 :{n:x} {other} 0 0"), "Inserted".to_string())));
+            lines.extend([
+                (format!("update_node 0 :20 {held} 2"), "NotModified".to_string()),
+                (format!("insert_or_update 0 :80 {held} 1 0"), "Failed(TableFilter)".to_string()),
+                (format!("insert_or_update 0 :80 {other} 1 0"), "Inserted".to_string()),
+                (format!("update_node 0 :40 {held} 2"), "Failed(TableFilter)".to_string()),
+                ("b_new 10 16 1".to_string(), "New".to_string()),
+                (format!("b_insert 0 :1 {held} 0 0"), "Inserted".to_string()),
+                (format!("b_insert 0 :2 {other} 0 0"), "Inserted".to_string()),
+                (format!("b_insert 0 :3 {held} 0 0"), "Inserted".to_string()),
+                (format!("b_insert 0 :4 {other} 0 0"), "FailedFilter".to_string()),
+            ]);
+            let text: String = lines.iter().map(|(line, _)| format!("{line}\n")).collect();
+            let run = run(program, &[], &text);
+            assert!(run.status.success(), "{}", String::from_utf8_lossy(&run.stderr));
+            let answers = String::from_utf8(run.stdout).unwrap();
+            assert_eq!(answers.lines().count(), lines.len());
+            for ((line, expected), answer) in lines.iter().zip(answers.lines()) {
+                assert_eq!(answer, expected, "byte {byte} of {slot}: {line}");
+            }
+        }
     }
 }

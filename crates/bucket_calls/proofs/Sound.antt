@@ -12,7 +12,7 @@ use Rattle.model.specs.Base.{allBelow, tabulate}
 use Rattle.model.specs.Bytes.{number, part}
 use Rattle.model.specs.Node.{connectedIncoming}
 use Rattle.model.specs.Bucket.{maxNodesPerBucket, incomingNodes}
-use Rattle.model.specs.Sizes.{timeSize, nodeSize, bucketSize}
+use Rattle.model.specs.Sizes.{timeSize, nodeSize, placeAt, bucketSize}
 use Rattle.model.specs.Layout.{nodeIn, bucketIn}
 use Rattle.model.specs.Formed.{areZero, stateAt, notHeld, pendingFormed}
 use Rattle.laws.proofs.Tests.{and-left, and-right}
@@ -32,18 +32,18 @@ use Rattle.buckets.specs.Read.{soundBytes, settings}
 use Rattle.bucket_calls.specs.Lent.{lentTimeoutAt, lentMaxIncomingAt, lentFilterAt, lentSettings, lentBucket, lentFormed, placeSound}
 
 -- place j, whose node this is
-pub place-is : (s : List ℕ) (first j : ℕ) (n : declared.Node) → j < maxNodesPerBucket → n ≡ readNode (part s (2 + j * nodeSize) nodeSize)
+pub place-is : (s : List ℕ) (first j : ℕ) (n : declared.Node) → j < maxNodesPerBucket → n ≡ readNode (part s (placeAt j) nodeSize)
     → placeSound first (part s 0 bucketSize) j ≡ ((nodeCodes n && eqb (n .status .state) (stateAt first j)) && notHeld (part s 0 bucketSize) j (num (n .key)))
 unfolding placeSound differs readNode
 place-is s first j n h e =
-    let f : n ≡ readNode (part s (0 + (2 + j * nodeSize)) nodeSize) = rw zero-add e in
+    let f : n ≡ readNode (part s (0 + placeAt j) nodeSize) = rw zero-add e in
     rw (place-formed s 0 j h (λ k. true) first n f, and-true, place-part s 0 j h, f, num-keyOf)
 
-pub incoming-is : (s : List ℕ) (j : ℕ) (n : declared.Node) → j < maxNodesPerBucket → n ≡ readNode (part s (2 + j * nodeSize) nodeSize)
+pub incoming-is : (s : List ℕ) (j : ℕ) (n : declared.Node) → j < maxNodesPerBucket → n ≡ readNode (part s (placeAt j) nodeSize)
     → connectedIncoming (nodeAt (part s 0 bucketSize) j) ≡ connectedIncoming (nodeOf n)
 incoming-is s j n h e =
-    let at : List ℕ = part s (2 + j * nodeSize) nodeSize in
-    ap connectedIncoming (place-node s 0 j h ∙ ap (λ (i : ℕ). nodeIn (part s i nodeSize)) (zero-add (2 + j * nodeSize)) ∙ sym (nodeOf-read at) ∙ ap nodeOf (sym e))
+    let at : List ℕ = part s (placeAt j) nodeSize in
+    ap connectedIncoming (place-node s 0 j h ∙ ap (λ (i : ℕ). nodeIn (part s i nodeSize)) (zero-add (placeAt j)) ∙ sym (nodeOf-read at) ∙ ap nodeOf (sym e))
 
 regroup : (d p z f i q : Bool) → ((d && (p && z)) && (f && (i && q))) ≡ (z && (f && (((p && d) && i) && q)))
 regroup true true true f i q = refl
@@ -63,7 +63,7 @@ module _ (s : List ℕ) (n f : ℕ) (en : n ≡ getD s 0 0) (ef : f ≡ getD s 1
   lent-many h = rw (bucket-many (λ k. true) m s 0 n f en ef h)
 
   pub lent-held : n ≤ maxNodesPerBucket → lentFormed s
-      ≡ ((areZero s (2 + n * nodeSize) ((maxNodesPerBucket - n) * nodeSize)
+      ≡ ((areZero s (placeAt n) ((maxNodesPerBucket - n) * nodeSize)
       && (leb f n && ((allBelow n (placeSound f (part s 0 bucketSize)) && leb (length (incomingNodes (tabulate n (nodeAt (part s 0 bucketSize))))) (getD s lentMaxIncomingAt 0)) && pendingFormed (λ k. true) (part s 0 bucketSize))))
       && (leb (getD s lentMaxIncomingAt 0) maxNodesPerBucket && leb (getD s lentFilterAt 0) 1))
   unfolding lentFormed placeSound
@@ -71,9 +71,9 @@ module _ (s : List ℕ) (n f : ℕ) (en : n ≡ getD s 0 0) (ef : f ≡ getD s 1
       rw (
         bucket-held (λ k. true) m s 0 n f en ef h,
         all-and n (placeFormed (λ k. true) f bs) (differs bs),
-        areZero-within s 0 bucketSize (2 + n * nodeSize) ((maxNodesPerBucket - n) * nodeSize) (omega arith),
-        zero-add (2 + n * nodeSize),
-        regroup (allBelow n (differs bs)) (allBelow n (placeFormed (λ k. true) f bs)) (areZero s (2 + n * nodeSize) ((maxNodesPerBucket - n) * nodeSize)) (leb f n) (leb (length (incomingNodes (tabulate n (nodeAt bs)))) m) (pendingFormed (λ k. true) bs),
+        areZero-within s 0 bucketSize (placeAt n) ((maxNodesPerBucket - n) * nodeSize) (omega arith),
+        zero-add (placeAt n),
+        regroup (allBelow n (differs bs)) (allBelow n (placeFormed (λ k. true) f bs)) (areZero s (placeAt n) ((maxNodesPerBucket - n) * nodeSize)) (leb f n) (leb (length (incomingNodes (tabulate n (nodeAt bs)))) m) (pendingFormed (λ k. true) bs),
       )
 
 -- what it tells of the bucket and of the settings

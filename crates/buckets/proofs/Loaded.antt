@@ -12,7 +12,7 @@ use borrow.Author.Tests.{eqb-true, ne-eqb, leb-true, le-leb}
 use Rattle.model.specs.Base.{tabulate}
 use Rattle.model.specs.Bytes.{number, part, Bytes}
 use Rattle.model.specs.Bucket.{maxNodesPerBucket, nodes}
-use Rattle.model.specs.Sizes.{keySize, valueSize, timeSize, nodeSize, pendingAt, pendingSize, bucketSize, timeoutAt, maxIncomingAt, bucketFilterAt}
+use Rattle.model.specs.Sizes.{keySize, timeSize, valueSize, nodeSize, placeAt, pendingAt, pendingSize, bucketSize, timeoutAt, maxIncomingAt, bucketFilterAt}
 use Rattle.model.specs.Layout.{valueIn, nodeIn, placeIn, nodesIn, pendingIn, bucketIn, settingsIn, bucketPart, tableOf}
 use Rattle.model.specs.Formed as formed
 use Rattle.model.specs.Fits.{All}
@@ -53,14 +53,14 @@ unfolding readPlaces tabulate
 places-none bs = refl
 
 pub places-next : (s : List ℕ) (at i : ℕ) (ns : List Node) → i < maxNodesPerBucket → ns ≡ padded (readPlaces (part s at bucketSize) i)
-    → set ns i (readNode (part s (at + (2 + i * nodeSize)) nodeSize)) ≡ padded (readPlaces (part s at bucketSize) (i + 1))
+    → set ns i (readNode (part s (at + placeAt i) nodeSize)) ≡ padded (readPlaces (part s at bucketSize) (i + 1))
 unfolding readPlaces
 places-next s at i ns l e =
     let bs : List ℕ = part s at bucketSize in
     let f : ℕ → Node = λ j. readNode (placeIn bs j) in
     let n : length (tabulate i f) ≡ i = length-tabulate i f in
-    let p : placeIn bs i ≡ part s (at + (2 + i * nodeSize)) nodeSize = part-part s at bucketSize (2 + i * nodeSize) nodeSize (omega arith) in
-    ap (λ (xs : List Node). set xs i (readNode (part s (at + (2 + i * nodeSize)) nodeSize))) e
+    let p : placeIn bs i ≡ part s (at + placeAt i) nodeSize = part-part s at bucketSize (placeAt i) nodeSize (omega arith) in
+    ap (λ (xs : List Node). set xs i (readNode (part s (at + placeAt i) nodeSize))) e
     ∙ ap (λ (w : List ℕ). set (padded (tabulate i f)) i (readNode w)) (sym p)
     ∙ ap (λ (k : ℕ). set (padded (tabulate i f)) k (f i)) (sym n)
     ∙ padded-next (tabulate i f) (f i) (omega arith)

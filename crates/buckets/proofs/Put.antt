@@ -11,7 +11,7 @@ use Rattle.model.specs.Base.{joined}
 use Rattle.model.specs.Bytes.{bytes, splice, zeros}
 use Rattle.model.specs.Node as model
 use Rattle.model.specs.Bucket.{Bucket, maxNodesPerBucket, nodes, numEntries, holds}
-use Rattle.model.specs.Sizes.{timeSize, nodeSize, pendingAt, pendingSize, bucketSize}
+use Rattle.model.specs.Sizes.{timeSize, nodeSize, placeAt, pendingAt, pendingSize, bucketSize}
 use Rattle.model.specs.Layout.{nodeBytes, pendingBytes, bucketBytes}
 use Rattle.laws.proofs.Lists.{joined-snoc, length-joined}
 use Rattle.laws.proofs.Parts.{splice-nil, splice-next}
@@ -71,14 +71,14 @@ module _ (s : List ℕ) (at : ℕ) where
   held-none ns = sym (splice-nil s at)
 
   pub held-next : (ns : List Node) (i : ℕ) → i < length ns → at + 2 + (i * nodeSize + nodeSize) ≤ length s
-      → splice (splice s (at + 2) (heldBytes ns i)) (at + (2 + i * nodeSize)) (nodeBytes (nodeOf (getD ns i zeroNode))) ≡ splice s (at + 2) (heldBytes ns (i + 1))
+      → splice (splice s (at + 2) (heldBytes ns i)) (at + placeAt i) (nodeBytes (nodeOf (getD ns i zeroNode))) ≡ splice s (at + 2) (heldBytes ns (i + 1))
   unfolding heldBytes
   held-next ns i h l =
       let n : model.Node = nodeOf (getD ns i zeroNode) in
       let k : length (map nodeOf (take i ns)) ≡ i = length-map (take i ns) nodeOf ∙ length-take-le i ns (omega arith) in
       let e : length (joined nodeBytes (map nodeOf (take i ns))) ≡ i * nodeSize =
       length-joined nodeBytes nodeSize (map nodeOf (take i ns)) (all-any _ (map nodeOf (take i ns)) length-node) ∙ ap (λ (j : ℕ). j * nodeSize) k in
-      let p : at + (2 + i * nodeSize) ≡ at + 2 + i * nodeSize = omega arith in
+      let p : at + placeAt i ≡ at + 2 + i * nodeSize = omega arith in
       let t : map nodeOf (take (i + 1) ns) ≡ map nodeOf (take i ns) ++ (n ∷ []) =
       ap (λ (j : ℕ). map nodeOf (take j ns)) (add-one i) ∙ ap (map nodeOf) (take-suc ns i zeroNode h) ∙ map-append nodeOf (take i ns) (getD ns i zeroNode ∷ []) in
       rw (p, t, joined-snoc nodeBytes (map nodeOf (take i ns)) n)
@@ -87,7 +87,7 @@ module _ (s : List ℕ) (at : ℕ) where
   bucket-parts : (m : Bucket) (k f : ℕ) (ns : List ℕ) → k ≡ numEntries m → f ≡ length (m .disconnected) → ns ≡ joined nodeBytes (nodes m) → k ≤ maxNodesPerBucket
       → at + bucketSize ≤ length s
       → splice
-      (splice (splice (splice (splice s at (k ∷ [])) (at + 1) (f ∷ [])) (at + 2) ns) (at + (2 + k * nodeSize)) (zeros ((maxNodesPerBucket - k) * nodeSize)))
+      (splice (splice (splice (splice s at (k ∷ [])) (at + 1) (f ∷ [])) (at + 2) ns) (at + placeAt k) (zeros ((maxNodesPerBucket - k) * nodeSize)))
       (at + pendingAt) (pendingBytes (m .pending)) ≡ splice s at (bucketBytes m)
   unfolding bucketBytes
   bucket-parts m k f ns e₁ e₂ e₃ a l =
@@ -98,7 +98,7 @@ module _ (s : List ℕ) (at : ℕ) where
       rw (
         splice-next s at 1 (k ∷ []) (f ∷ []) refl (omega arith),
         splice-next s at 2 (k ∷ f ∷ []) ns refl (omega arith),
-        splice-next s at (2 + k * nodeSize) ((k ∷ f ∷ []) ++ ns) z (omega arith) (omega arith),
+        splice-next s at (placeAt k) ((k ∷ f ∷ []) ++ ns) z (omega arith) (omega arith),
         splice-next s at pendingAt (((k ∷ f ∷ []) ++ ns) ++ z) (pendingBytes (m .pending)) (rw (length-append ns z) (omega arith)) (omega arith),
         e₁,
         e₂,

@@ -7,7 +7,7 @@ use Rattle.model.specs.Base.{joined}
 use Rattle.model.specs.Bytes.{bytes}
 use Rattle.model.specs.Node.{AppliedPending}
 use Rattle.model.specs.Table.{Settings, Table, maxRecords}
-use Rattle.model.specs.Sizes.{keySize, timeSize, recordSize, recordCountAt}
+use Rattle.model.specs.Sizes.{keySize, timeSize, recordSize, recordCountAt, paddingSize}
 use Rattle.model.specs.Layout.{flagByte, recordBytes, headerBytes}
 use Rattle.laws.proofs.Bytes.{length-bytes}
 use Rattle.header.proofs.Runs.{blank}
@@ -21,9 +21,9 @@ frontBytes s =
 pub length-front : (s : Settings) → length (frontBytes s) ≡ recordCountAt
 length-front s = simp (length-append, length-bytes)
 
--- the settings, the number of records, the records
+-- the settings, the number of records, the padding, the records
 abbrev pub partsOf : Settings → List AppliedPending → List ℕ
-partsOf s q = frontBytes s ++ ((length q ∷ []) ++ (joined recordBytes q ++ blank ((maxRecords - length q) * recordSize)))
+partsOf s q = frontBytes s ++ ((length q ∷ []) ++ (blank paddingSize ++ (joined recordBytes q ++ blank ((maxRecords - length q) * recordSize))))
 
 pub header-parts : (t : Table) → headerBytes t ≡ partsOf (t .settings) (t .queue)
 unfolding headerBytes blank

@@ -11,7 +11,7 @@ use Rattle.model.specs.Base.{joined, tabulate}
 use Rattle.model.specs.Bytes.{bytes, splice, zeros}
 use Rattle.model.specs.Bucket.{emptyBucket}
 use Rattle.model.specs.Table.{Settings, emptyTable, numBuckets, maxRecords}
-use Rattle.model.specs.Sizes.{keySize, timeSize, recordSize, bucketSize, timeoutAt, maxIncomingAt, tableFilterAt, bucketFilterAt, recordCountAt, storageSize}
+use Rattle.model.specs.Sizes.{keySize, timeSize, recordSize, bucketSize, timeoutAt, maxIncomingAt, tableFilterAt, bucketFilterAt, recordCountAt, paddingSize, storageSize}
 use Rattle.model.specs.Layout.{bucketBytes, bytesOf}
 use Rattle.laws.proofs.Lists.{joined-snoc}
 use Rattle.laws.proofs.Parts.{splice-next}
@@ -32,13 +32,14 @@ bucket-blank : bucketBytes emptyBucket ≡ blank bucketSize
 unfolding bucketBytes blank joined
 bucket-blank = refl
 
-empty-bytes : (s : Settings) → bytesOf (emptyTable s) ≡ frontBytes s ++ blank (1 + (maxRecords * recordSize + numBuckets * bucketSize))
+empty-bytes : (s : Settings) → bytesOf (emptyTable s) ≡ frontBytes s ++ blank (1 + (paddingSize + (maxRecords * recordSize + numBuckets * bucketSize)))
 unfolding bytesOf joined
 empty-bytes s =
     rw (
       header-parts (emptyTable s),
       joined-blank bucketBytes emptyBucket bucketSize numBuckets bucket-blank,
-      blank-add 1 (maxRecords * recordSize + numBuckets * bucketSize),
+      blank-add 1 (paddingSize + (maxRecords * recordSize + numBuckets * bucketSize)),
+      blank-add paddingSize (maxRecords * recordSize + numBuckets * bucketSize),
       blank-add (maxRecords * recordSize) (numBuckets * bucketSize),
       ← blank-is 1,
     )
@@ -59,7 +60,7 @@ cleared s n e l k timeout m tf bf c d =
       splice-next (blank n) 0 maxIncomingAt (a ++ b) (m ∷ []) (simp (length-append, length-bytes)) (omega arith),
       splice-next (blank n) 0 tableFilterAt (a ++ b ++ (m ∷ [])) (tf ∷ []) (simp (length-append, length-bytes)) (omega arith),
       splice-next (blank n) 0 bucketFilterAt (a ++ b ++ (m ∷ []) ++ (tf ∷ [])) (bf ∷ []) (simp (length-append, length-bytes)) (omega arith),
-      blank-front v n (1 + (maxRecords * recordSize + numBuckets * bucketSize)) (omega arith),
+      blank-front v n (1 + (paddingSize + (maxRecords * recordSize + numBuckets * bucketSize))) (omega arith),
       empty-bytes (settingsOf k timeout m tf bf),
       flag-back tf c,
       flag-back bf d,

@@ -12,7 +12,7 @@ use Rattle.model.specs.Base.{joined, tabulate}
 use Rattle.model.specs.Bytes.{number, bytes, part, splice, zeros, Bytes}
 use Rattle.model.specs.Node.{Node, AppliedPending}
 use Rattle.model.specs.Table.{Settings, withQueue, maxRecords}
-use Rattle.model.specs.Sizes.{keySize, nodeSize, recordSize, recordCountAt, recordsAt, recordAt, headerSize, storageSize}
+use Rattle.model.specs.Sizes.{keySize, nodeSize, recordSize, recordCountAt, paddingSize, recordsAt, recordAt, headerSize, storageSize}
 use Rattle.model.specs.Layout.{nodeBytes, recordBytes, headerBytes, recordIn, recordPart, tableOf}
 use Rattle.model.specs.Formed.{recordFormed, headerFormed}
 use Rattle.laws.proofs.Lists.{joined-snoc, length-tabulate, getD-tabulate}
@@ -36,12 +36,12 @@ module _ (s : Settings) (q : List AppliedPending) (r : AppliedPending) (v : List
   parts-pushed : splice (splice (partsOf s q) (recordAt n) v) recordCountAt ((n + 1) ∷ []) ≡ partsOf s (q ++ (r ∷ []))
   parts-pushed =
       let f : List ℕ = frontBytes s in
-      let j : List ℕ = joined recordBytes q in
+      let j : List ℕ = blank paddingSize ++ joined recordBytes q in
       let k : ℕ = (maxRecords - (n + 1)) * recordSize in
       let w : length v + rest ≡ recordSize = rw (length-append v (blank rest), length-blank rest) at (sym (ap length e) ∙ length-record r) in
       let z : blank ((maxRecords - n) * recordSize) ≡ blank (length v) ++ (blank rest ++ blank k) =
       ap blank (omega arith) ∙ blank-add (length v) (rest + k) ∙ ap (λ (x : List ℕ). blank (length v) ++ x) (blank-add rest k) in
-      let a : length (f ++ ((n ∷ []) ++ j)) ≡ recordAt n = simp (length-append, length-bytes) (omega (arith, length-records q)) in
+      let a : length (f ++ ((n ∷ []) ++ j)) ≡ recordAt n = simp (length-append, length-bytes, length-blank) (omega (arith, length-records q)) in
       let h : partsOf s q ≡ (f ++ ((n ∷ []) ++ j)) ++ (blank (length v) ++ (blank rest ++ blank k)) = rw (← m, z) (simp append-assoc) in
       let g : partsOf s (q ++ (r ∷ [])) ≡ f ++ (((n + 1) ∷ []) ++ (j ++ (v ++ (blank rest ++ blank k)))) =
       rw (length-append q (r ∷ []), ← m, joined-snoc recordBytes q r, e) (simp append-assoc) in
@@ -68,22 +68,23 @@ parts-dropped s (r ∷ q) n m l z o =
     let b : List ℕ = blank ((maxRecords - length (r ∷ q)) * recordSize) in
     let x : List ℕ = take (length j) (p ++ j) in
     let y : List ℕ = drop (length j) (p ++ j) in
-    let g : length (p ++ j) ≡ recordSize + length j = length-append p j ∙ ap (λ (i : ℕ). i + length j) (length-record r) in
+    let v : length (p ++ j) ≡ recordSize + length j = length-append p j ∙ ap (λ (i : ℕ). i + length j) (length-record r) in
     let lx : length x ≡ length j = simp length-take (omega arith) in
     let ly : length y ≡ length z = simp length-drop (omega (arith, ap length o, length-blank recordSize)) in
-    let h : partsOf s (r ∷ q) ≡ (f ++ (length (r ∷ q) ∷ [])) ++ (x ++ (y ++ b)) =
+    let k : List ℕ = length (r ∷ q) ∷ [] in
+    let g : List ℕ = blank paddingSize in
+    let h : partsOf s (r ∷ q) ≡ (f ++ (k ++ g)) ++ (x ++ (y ++ b)) =
     rw (← append-assoc x y b, take-append-drop (length j) (p ++ j)) (simp append-assoc) in
     let u : part (partsOf s (r ∷ q)) (recordsAt + recordSize) (n * recordSize) ≡ j =
     ap (λ (i : List ℕ). part i (recordsAt + recordSize) (n * recordSize)) (simp append-assoc)
-    ∙ part-between (f ++ ((length (r ∷ q) ∷ []) ++ p)) j b (recordsAt + recordSize) (n * recordSize) (simp (length-append, length-bytes) (omega (arith, length-record r))) d in
-    let k : List ℕ = length (r ∷ q) ∷ [] in
-    let first : splice (partsOf s (r ∷ q)) recordsAt j ≡ (f ++ (k ++ j)) ++ (y ++ b) =
-    rw (h, splice-between (f ++ k) x (y ++ b) j recordsAt (simp (length-append, length-bytes) (omega arith)) lx) (simp append-assoc) in
-    let second : splice ((f ++ (k ++ j)) ++ (y ++ b)) (recordAt n) z ≡ f ++ (k ++ (j ++ (z ++ b))) =
-    rw (splice-between (f ++ (k ++ j)) y b z (recordAt n) (simp (length-append, length-bytes) (omega arith)) ly) (simp append-assoc) in
+    ∙ part-between (f ++ (k ++ (g ++ p))) j b (recordsAt + recordSize) (n * recordSize) (simp (length-append, length-bytes, length-blank) (omega (arith, length-record r))) d in
+    let first : splice (partsOf s (r ∷ q)) recordsAt j ≡ (f ++ (k ++ (g ++ j))) ++ (y ++ b) =
+    rw (h, splice-between (f ++ (k ++ g)) x (y ++ b) j recordsAt (simp (length-append, length-bytes, length-blank) (omega arith)) lx) (simp append-assoc) in
+    let second : splice ((f ++ (k ++ (g ++ j))) ++ (y ++ b)) (recordAt n) z ≡ f ++ (k ++ (g ++ (j ++ (z ++ b)))) =
+    rw (splice-between (f ++ (k ++ (g ++ j))) y b z (recordAt n) (simp (length-append, length-bytes, length-blank) (omega arith)) ly) (simp append-assoc) in
     let last : z ++ b ≡ blank ((maxRecords - n) * recordSize) =
     rw (o, ← blank-add recordSize ((maxRecords - length (r ∷ q)) * recordSize)) (ap blank (omega arith)) in
-    rw (u, first, second, splice-between f k (j ++ (z ++ b)) (n ∷ []) recordCountAt (length-front s) refl, last, c)
+    rw (u, first, second, splice-between f k (g ++ (j ++ (z ++ b))) (n ∷ []) recordCountAt (length-front s) refl, last, c)
 
 -- the bytes of a record with an evicted node
 pub record-put : (s : List ℕ) (at k : ℕ) (v : Node) → at + recordSize ≤ length s

@@ -9,6 +9,7 @@ ghost use Rattle.bucket_calls.specs.Calls.{BucketCall, bucketStep, bucketNew};
 ghost use Rattle.kbuckets.specs.Version.{version};
 use codes::Answer;
 use node::NodeStatus;
+use node::Slot;
 use node::Value;
 
 // 0x00MMmmpp: major, minor, patch.
@@ -16,7 +17,7 @@ use node::Value;
 pub extern "C" fn kbuckets_version() -> u32
     ensures { λ r. ⌜ r ≡ version ⌝ }
 {
-    0x0000_0200
+    0x0000_0300
 }
 
 // The table.
@@ -66,7 +67,7 @@ pub extern "C" fn kbuckets_update_node(
     b: u8,
     c: u8,
     d: u8,
-    slot: u16,
+    slot: Slot,
     state: u8,
     time: u64,
 ) -> u32
@@ -93,7 +94,7 @@ pub extern "C" fn kbuckets_insert_or_update(
     b: u8,
     c: u8,
     d: u8,
-    slot: u16,
+    slot: Slot,
     state: u8,
     direction: u8,
     time: u64,
@@ -167,7 +168,7 @@ pub extern "C" fn kbuckets_absent_insert(
     b: u8,
     c: u8,
     d: u8,
-    slot: u16,
+    slot: Slot,
     state: u8,
     direction: u8,
     time: u64,
@@ -248,7 +249,7 @@ pub extern "C" fn kbuckets_closest_values_predicate(
     a: u8,
     b: u8,
     c: u8,
-    slot: u16,
+    slot: Slot,
     n: usize,
     time: u64,
     output: &mut [u8],
@@ -307,7 +308,7 @@ pub extern "C" fn kbuckets_explain_update_node(
     b: u8,
     c: u8,
     d: u8,
-    slot: u16,
+    slot: Slot,
     state: u8,
     time: u64,
     output: &mut [u8],
@@ -335,7 +336,7 @@ pub extern "C" fn kbuckets_explain_insert_or_update(
     b: u8,
     c: u8,
     d: u8,
-    slot: u16,
+    slot: Slot,
     state: u8,
     direction: u8,
     time: u64,
@@ -413,7 +414,7 @@ pub extern "C" fn kbuckets_explain_absent_insert(
     b: u8,
     c: u8,
     d: u8,
-    slot: u16,
+    slot: Slot,
     state: u8,
     direction: u8,
     time: u64,
@@ -464,7 +465,7 @@ pub extern "C" fn kbuckets_b_insert(
     b: u8,
     c: u8,
     d: u8,
-    slot: u16,
+    slot: Slot,
     state: u8,
     direction: u8,
     time: u64,
@@ -512,7 +513,7 @@ pub extern "C" fn kbuckets_b_update_value(
     b: u8,
     c: u8,
     d: u8,
-    slot: u16,
+    slot: Slot,
 ) -> u32
     ensures { λ r. ⌜ Leaves r (now (bucket .exit)) (bucketStep (BucketCall.updateValue (now (key .entry)) (record { flag = flag; a = a; b = b; c = c; d = d; slot = slot })) [] (now (bucket .entry))) ⌝ }
 {

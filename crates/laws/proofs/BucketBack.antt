@@ -12,7 +12,7 @@ use Rattle.model.specs.Base.{same, joined}
 use Rattle.model.specs.Bytes.{part, Bytes}
 use Rattle.model.specs.Node.{Node, PendingNode}
 use Rattle.model.specs.Bucket.{maxNodesPerBucket, nodes, numEntries, holds}
-use Rattle.model.specs.Sizes.{nodeSize, timeSize, pendingAt, pendingSize, bucketSize}
+use Rattle.model.specs.Sizes.{timeSize, nodeSize, placeAt, pendingAt, pendingSize, bucketSize}
 use Rattle.model.specs.Layout.{nodeBytes, pendingBytes, bucketBytes, nodeIn, placeIn, nodesIn, pendingIn, bucketIn}
 use Rattle.model.specs.Formed.{areZero, nodeCodes, keyIn, notHeld, pendingFormed, bucketFormed}
 use Rattle.model.specs.Fits.{All, Opt, FormedBucket, FitsNode, FitsPending, FitsBucket}
@@ -94,17 +94,17 @@ module _ (s : List ℕ) (l : length s ≡ bucketSize) (h : Bytes s) where
     passed : Checked p m s
     passed = checked p m s c
 
-    within : (j : ℕ) → j < held → 2 + j * nodeSize + nodeSize ≤ length s
+    within : (j : ℕ) → j < held → placeAt j + nodeSize ≤ length s
     within j i = omega (arith, slot-before j held nodeSize i, passed .at-most)
 
     place-length : (j : ℕ) → j < held → length (placeIn s j) ≡ nodeSize
-    place-length j i = length-part s (2 + j * nodeSize) nodeSize (within j i)
+    place-length j i = length-part s (placeAt j) nodeSize (within j i)
 
     held-back : joined nodeBytes (nodesIn s) ≡ part s 2 (held * nodeSize)
     unfolding nodesIn
     held-back =
         joined-slots nodeBytes (λ j. nodeIn (placeIn s j)) s 2 nodeSize held
-        (λ j i. node-back (placeIn s j) (place-length j i) (Bytes-part s (2 + j * nodeSize) nodeSize h) (passed .codes j i))
+        (λ j i. node-back (placeIn s j) (place-length j i) (Bytes-part s (placeAt j) nodeSize h) (passed .codes j i))
 
     pub bucket-back : bucketBytes (bucketIn s) ≡ s
     unfolding bucketBytes
@@ -112,7 +112,7 @@ module _ (s : List ℕ) (l : length s ≡ bucketSize) (h : Bytes s) where
         let u : ℕ = (maxNodesPerBucket - held) * nodeSize in
         let a : held ≤ maxNodesPerBucket = passed .at-most in
         let e : part s 2 (maxNodesPerBucket * nodeSize + pendingSize) ≡ part s 2 (held * nodeSize + (u + pendingSize)) = ap (part s 2) (omega arith) in
-        let b : 2 + held * nodeSize + u ≡ pendingAt = omega arith in
+        let b : placeAt held + u ≡ pendingAt = omega arith in
         rw (
           count-in s,
           first-in s (passed .first),
@@ -120,7 +120,7 @@ module _ (s : List ℕ) (l : length s ≡ bucketSize) (h : Bytes s) where
           held-back,
           pending-of s,
           pending-back p (passed .pending),
-          ← part-areZero s (2 + held * nodeSize) u (omega arith) (passed .unused),
+          ← part-areZero s (placeAt held) u (omega arith) (passed .unused),
         )
         (sym (sym (part-all s bucketSize (omega arith))
         ∙ rw (
@@ -128,7 +128,7 @@ module _ (s : List ℕ) (l : length s ≡ bucketSize) (h : Bytes s) where
           part-cons s 1 (maxNodesPerBucket * nodeSize + pendingSize) (omega arith),
           e,
           part-append s 2 (held * nodeSize) (u + pendingSize),
-          part-append s (2 + held * nodeSize) u pendingSize,
+          part-append s (placeAt held) u pendingSize,
           b,
         )))
 
@@ -207,7 +207,7 @@ module _ (s : List ℕ) (l : length s ≡ bucketSize) (h : Bytes s) where
         record {
           held =
               rw (nodes-in s)
-              (all-tabulate FitsNode held (λ j. nodeIn (placeIn s j)) (λ j i. node-fits (placeIn s j) (place-length j i) (Bytes-part s (2 + j * nodeSize) nodeSize h)));
+              (all-tabulate FitsNode held (λ j. nodeIn (placeIn s j)) (λ j i. node-fits (placeIn s j) (place-length j i) (Bytes-part s (placeAt j) nodeSize h)));
           pending =
               rw (pending-of s)
               (cases (Opt FitsPending) (eqb (getD s pendingAt 0) 1)

@@ -11,7 +11,7 @@ use Rattle.model.specs.Base.{joined, allBelow}
 use Rattle.model.specs.Bytes.{part, Bytes}
 use Rattle.model.specs.Bucket.{maxNodesPerBucket}
 use Rattle.model.specs.Table.{maxRecords}
-use Rattle.model.specs.Sizes.{keySize, timeSize, recordSize, timeoutAt, maxIncomingAt, tableFilterAt, bucketFilterAt, recordCountAt, recordsAt, recordAt, headerSize}
+use Rattle.model.specs.Sizes.{keySize, timeSize, recordSize, timeoutAt, maxIncomingAt, tableFilterAt, bucketFilterAt, recordCountAt, paddingAt, paddingSize, recordsAt, recordAt, headerSize}
 use Rattle.model.specs.Layout.{recordBytes, headerBytes, recordIn, settingsIn, recordPart, tableOf}
 use Rattle.model.specs.Formed.{areZero, recordFormed, headerFormed}
 use Rattle.model.specs.Fits.{All, FitsRecord, FitsSettings}
@@ -27,6 +27,7 @@ pub record CheckedHeader (s : List ℕ) : Type 0 where
   pub maxIncoming : getD s maxIncomingAt 0 ≤ maxNodesPerBucket
   pub tableFilter : leb (getD s tableFilterAt 0) 1 ≡ true
   pub bucketFilter : leb (getD s bucketFilterAt 0) 1 ≡ true
+  pub padding : areZero s paddingAt paddingSize ≡ true
   pub at-most : getD s recordCountAt 0 ≤ maxRecords
   pub records : (j : ℕ) → j < getD s recordCountAt 0 → recordFormed (recordPart s j) ≡ true
   pub unused : areZero s (recordAt (getD s recordCountAt 0)) ((maxRecords - getD s recordCountAt 0) * recordSize) ≡ true
@@ -39,6 +40,7 @@ checked-header s h =
     conj-gives (leb (getD s maxIncomingAt 0) maxNodesPerBucket)
     (leb (getD s tableFilterAt 0) 1
     ∷ leb (getD s bucketFilterAt 0) 1
+    ∷ areZero s paddingAt paddingSize
     ∷ leb n maxRecords
     ∷ allBelow n (λ j. recordFormed (recordPart s j))
     ∷ areZero s (recordAt n) ((maxRecords - n) * recordSize)
@@ -47,9 +49,10 @@ checked-header s h =
       maxIncoming = leb-true (getD s maxIncomingAt 0) maxNodesPerBucket (t .0);
       tableFilter = t .1 .0;
       bucketFilter = t .1 .1 .0;
-      at-most = leb-true n maxRecords (t .1 .1 .1 .0);
-      records = λ j l. all-gives n (λ x. recordFormed (recordPart s x)) j l (t .1 .1 .1 .1 .0);
-      unused = t .1 .1 .1 .1 .1 .0;
+      padding = t .1 .1 .1 .0;
+      at-most = leb-true n maxRecords (t .1 .1 .1 .1 .0);
+      records = λ j l. all-gives n (λ x. recordFormed (recordPart s x)) j l (t .1 .1 .1 .1 .1 .0);
+      unused = t .1 .1 .1 .1 .1 .1 .0;
     }
 
 module _ (s : List ℕ) (l : headerSize ≤ length s) (h : Bytes s) (f : headerFormed s ≡ true) where
@@ -76,6 +79,7 @@ module _ (s : List ℕ) (l : headerSize ≤ length s) (h : Bytes s) (f : headerF
   unfolding headerBytes tableOf settingsIn
   header-back =
       let u : ℕ = (maxRecords - recordCount) * recordSize in
+      let rest : ℕ = paddingSize + maxRecords * recordSize in
       let a : recordCount ≤ maxRecords = passed .at-most in
       let e : part s recordsAt (maxRecords * recordSize) ≡ part s recordsAt (recordCount * recordSize + u) = ap (part s recordsAt) (omega arith) in
       rw (length-queue, queue-back, ← part-areZero s (recordAt recordCount) u (omega arith) (passed .unused))
@@ -87,12 +91,14 @@ module _ (s : List ℕ) (l : headerSize ≤ length s) (h : Bytes s) (f : headerF
       )
       (sym
       (rw (
-        part-append s 0 keySize (timeSize + (4 + maxRecords * recordSize)),
-        part-append s keySize timeSize (4 + maxRecords * recordSize),
-        part-cons s maxIncomingAt (3 + maxRecords * recordSize) (omega arith),
-        part-cons s tableFilterAt (2 + maxRecords * recordSize) (omega arith),
-        part-cons s bucketFilterAt (1 + maxRecords * recordSize) (omega arith),
-        part-cons s recordCountAt (maxRecords * recordSize) (omega arith),
+        part-append s 0 keySize (timeSize + (4 + rest)),
+        part-append s keySize timeSize (4 + rest),
+        part-cons s maxIncomingAt (3 + rest) (omega arith),
+        part-cons s tableFilterAt (2 + rest) (omega arith),
+        part-cons s bucketFilterAt (1 + rest) (omega arith),
+        part-cons s recordCountAt rest (omega arith),
+        part-append s paddingAt paddingSize (maxRecords * recordSize),
+        part-areZero s paddingAt paddingSize (omega arith) (passed .padding),
         e,
         part-append s recordsAt (recordCount * recordSize) u,
       ))))

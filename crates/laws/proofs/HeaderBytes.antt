@@ -12,7 +12,7 @@ use Rattle.model.specs.Bytes.{number, bytes, part, zeros, Bytes}
 use Rattle.model.specs.Node.{AppliedPending}
 use Rattle.model.specs.Bucket.{maxNodesPerBucket}
 use Rattle.model.specs.Table.{Table, maxRecords}
-use Rattle.model.specs.Sizes.{keySize, timeSize, recordSize, timeoutAt, maxIncomingAt, tableFilterAt, bucketFilterAt, recordCountAt, recordsAt, recordAt, headerSize}
+use Rattle.model.specs.Sizes.{keySize, timeSize, recordSize, timeoutAt, maxIncomingAt, tableFilterAt, bucketFilterAt, recordCountAt, paddingAt, paddingSize, recordsAt, recordAt, headerSize}
 use Rattle.model.specs.Layout.{flagByte, recordBytes, headerBytes, recordIn, settingsIn, recordPart}
 use Rattle.model.specs.Formed.{areZero, recordFormed, headerFormed}
 use Rattle.model.specs.Fits.{All, FitsRecord, FitsSettings}
@@ -26,12 +26,12 @@ use Rattle.laws.proofs.All.{all-any, all-map, all-getD}
 
 -- what is written
 
--- the settings' bytes and the number of records
+-- the settings' bytes, the number of records and the padding
 abbrev pub settingsBytes : Table → List ℕ
 settingsBytes t =
     bytes keySize (t .settings .localKey)
     ++ (bytes timeSize (t .settings .bucket .pendingTimeout)
-    ++ (t .settings .bucket .maxIncoming ∷ flagByte (t .settings .tableFilter) ∷ flagByte (t .settings .bucket .filter) ∷ length (t .queue) ∷ []))
+    ++ (t .settings .bucket .maxIncoming ∷ flagByte (t .settings .tableFilter) ∷ flagByte (t .settings .bucket .filter) ∷ length (t .queue) ∷ zeros paddingSize))
 
 -- the records' bytes
 abbrev pub queueBytes : List AppliedPending → List ℕ
@@ -66,15 +66,17 @@ Bytes-header t f g l =
     let q : List AppliedPending = t .queue in
     let z : List ℕ = zeros ((maxRecords - length q) * recordSize) in
     let w : List ℕ = joined recordBytes q ++ z in
-    let u : List ℕ = flagByte (t .settings .bucket .filter) ∷ length q ∷ w in
+    let p : List ℕ = zeros paddingSize ++ w in
+    let u : List ℕ = flagByte (t .settings .bucket .filter) ∷ length q ∷ p in
     let v : List ℕ = t .settings .bucket .maxIncoming ∷ flagByte (t .settings .tableFilter) ∷ u in
     Bytes-append (bytes keySize (t .settings .localKey)) (bytes timeSize (t .settings .bucket .pendingTimeout) ++ v) (Bytes-bytes keySize (t .settings .localKey))
     (Bytes-append (bytes timeSize (t .settings .bucket .pendingTimeout)) v (Bytes-bytes timeSize (t .settings .bucket .pendingTimeout))
     (Bytes-cons (t .settings .bucket .maxIncoming) (flagByte (t .settings .tableFilter) ∷ u) (omega (arith, f .maxIncoming))
     (Bytes-flag (t .settings .tableFilter) u
-    (Bytes-flag (t .settings .bucket .filter) (length q ∷ w)
-    (Bytes-cons (length q) w (omega arith)
-    (Bytes-append (joined recordBytes q) z (Bytes-joined recordBytes q (all-map FitsRecord (λ r. Bytes (recordBytes r)) Bytes-record q g)) (Bytes-zeros ((maxRecords - length q) * recordSize))))))))
+    (Bytes-flag (t .settings .bucket .filter) (length q ∷ p)
+    (Bytes-cons (length q) p (omega arith)
+    (Bytes-append (zeros paddingSize) w (Bytes-zeros paddingSize)
+    (Bytes-append (joined recordBytes q) z (Bytes-joined recordBytes q (all-map FitsRecord (λ r. Bytes (recordBytes r)) Bytes-record q g)) (Bytes-zeros ((maxRecords - length q) * recordSize)))))))))
 
 -- the fields, where r stands behind the header
 module _ (t : Table) (r : List ℕ) where
@@ -89,7 +91,7 @@ module _ (t : Table) (r : List ℕ) where
 
   abbrev behindTimeout : List ℕ
   behindTimeout =
-      t .settings .bucket .maxIncoming ∷ flagByte (t .settings .tableFilter) ∷ flagByte (t .settings .bucket .filter) ∷ length (t .queue) ∷ (queueBytes (t .queue) ++ r)
+      t .settings .bucket .maxIncoming ∷ flagByte (t .settings .tableFilter) ∷ flagByte (t .settings .bucket .filter) ∷ length (t .queue) ∷ (zeros paddingSize ++ (queueBytes (t .queue) ++ r))
 
   cut : storage ≡ keyPart ++ (timeoutPart ++ behindTimeout)
   unfolding headerBytes
@@ -122,6 +124,14 @@ module _ (t : Table) (r : List ℕ) where
 
   pub recordCount-there : getD storage recordCountAt 0 ≡ length (t .queue)
   recordCount-there = getD-behindTimeout 3
+
+  padding-zero : areZero storage paddingAt paddingSize ≡ true
+  unfolding part
+  padding-zero =
+      areZero-part storage paddingAt paddingSize
+      (rw cut
+      (part-right keyPart (timeoutPart ++ behindTimeout) keySize (timeSize + 4) paddingSize length-keyPart
+      ∙ part-right timeoutPart behindTimeout timeSize 4 paddingSize length-timeoutPart))
 
   pub settings-there : FitsSettings (t .settings) → settingsIn storage ≡ t .settings
   unfolding settingsIn
@@ -177,6 +187,7 @@ module _ (t : Table) (r : List ℕ) where
         le-leb (t .settings .bucket .maxIncoming) maxNodesPerBucket (f .maxIncoming),
         flag-code (t .settings .tableFilter),
         flag-code (t .settings .bucket .filter),
+        padding-zero,
         le-leb (length (t .queue)) maxRecords l,
         all-if (length (t .queue)) (λ j. recordFormed (recordPart storage j)) (λ j i. rw (recordPart-there j d i) (record-formed (getD (t .queue) j d))),
       )

@@ -8,7 +8,7 @@ use lib.ListN.{length}
 use Rattle.model.specs.Base.{same, tabulate}
 use Rattle.model.specs.Bytes.{part}
 use Rattle.model.specs.Table.{Table, numBuckets}
-use Rattle.model.specs.Sizes.{headerSize, bucketSize, bucketAt, storageSize}
+use Rattle.model.specs.Sizes.{bucketSize, headerSize, bucketAt, storageSize}
 use Rattle.model.specs.Layout.{headerBytes, bucketBytes, bytesOf, bucketPart}
 use Rattle.model.specs.StepBytes.{restore}
 use Rattle.model.specs.Fits.{All, Fits}
@@ -52,7 +52,7 @@ module _ (s : List ℕ) (l : length s ≡ storageSize) (t : Table) (f : Fits t) 
   bucket-restore i m (j ∷ is) a h =
       let r : List ℕ = restore s is t in
       let v : List ℕ = bucketBytes (t .buckets j) in
-      let n : headerSize + j * bucketSize + bucketSize ≤ length r = omega (arith, length-restore is (a .1), within j (a .0)) in
+      let n : bucketAt j + bucketSize ≤ length r = omega (arith, length-restore is (a .1), within j (a .0)) in
       let b = bucket-restore i m is (a .1) in
       split (same i j)
       (λ e.

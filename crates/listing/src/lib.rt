@@ -23,6 +23,7 @@ use items::Shape;
 use key::BucketIndex;
 use key::ClosestBucketsIter;
 use key::Key;
+use node::Slot;
 use storage::Layout;
 
 // Question 6, for entries of size bytes and an output of len bytes.
@@ -214,7 +215,7 @@ pub fn closest_values_predicate(
     a: u8,
     b: u8,
     c: u8,
-    slot: u16,
+    slot: Slot,
     time: u64,
     n: usize,
     out: &mut [u8],

@@ -10,7 +10,7 @@ use Rattle.model.specs.Bytes.{bytes, splice, zeros}
 use Rattle.model.specs.Node.{Node, AppliedPending}
 use Rattle.model.specs.Result.{FailureReason, BucketInsertResult, UpdateResult, InsertResult}
 use Rattle.model.specs.Table.{EntryKind, Answer}
-use Rattle.model.specs.Sizes.{keySize, slotSize, valueSize, nodeSize, placeAt, pendingAt, bucketSize, maxIncomingAt, tableFilterAt, bucketFilterAt, recordCountAt, recordAt, headerSize, storageSize}
+use Rattle.model.specs.Sizes.{keySize, slotSize, valueSize, nodeSize, placeAt, pendingAt, bucketSize, maxIncomingAt, tableFilterAt, bucketFilterAt, recordCountAt, paddingAt, paddingSize, recordAt, headerSize, storageSize}
 use Rattle.model.specs.Call.{ValueArgument, PredicateArgument, Listing, Call, KeyCall}
 use Rattle.model.specs.Step.{nodeOf}
 use Rattle.model.specs.Layout.{bucketBytes, headerBytes}
@@ -122,9 +122,13 @@ firstAndLast = start 16 0 0 ∷ disconnected 1 ∷ disconnected (2 ^ 255) ∷ []
 abbrev list : Listing → (k n : ℕ) → Call
 list l k n = Call.list l n 0 (zeros (n * k))
 
--- the value 1.2.3.4 with slot 258
+-- the value 1.2.3.4 with the slot whose bytes are 1 to 8
 abbrev octets : ValueArgument
-octets = record { flag = 1; a = 1; b = 2; c = 3; d = 4; slot = 258 }
+octets = record { flag = 1; a = 1; b = 2; c = 3; d = 4; slot = 72623859790382856 }
+
+-- bucket filter on; 10.0.0.1 is held with slot 0 and with slot x
+abbrev oneAddress : ℕ → List Call
+oneAddress x = start 16 0 1 ∷ Call.onKey (key 32) (KeyCall.absentInsert (addressed 1 0) 0 0 0) ∷ Call.onKey (key 33) (KeyCall.absentInsert (addressed 1 x) 0 0 0) ∷ []
 
 -- the /24 of a, b, c
 abbrev net : (a b c : ℕ) → PredicateArgument
@@ -157,7 +161,7 @@ twoApplied =
 
 -- the bytes of an outgoing node below 256 whose slot is its key
 abbrev plainBytes : (state key : ℕ) → List ℕ
-plainBytes st k = zeros 31 ++ (k ∷ st ∷ (zeros 7 ++ (k ∷ [])))
+plainBytes st k = zeros 31 ++ (k ∷ st ∷ (zeros valueSize ++ (k ∷ [])))
 
 -- the bytes of a record of key 48, with this evicted flag and evicted node
 abbrev evictedBytes : (flag : ℕ) (node : List ℕ) → List ℕ
@@ -165,7 +169,7 @@ evictedBytes flag bs = key 48 ++ (flag ∷ bs)
 
 -- a header with n records, each of key 0 and with no evicted node, but for other bytes from an index on
 abbrev headerWith : (n index : ℕ) → List ℕ → List ℕ
-headerWith n at bs = splice (zeros recordCountAt ++ (n ∷ zeros (headerSize - recordAt 0))) at bs
+headerWith n at bs = splice (zeros recordCountAt ++ (n ∷ zeros (headerSize - paddingAt))) at bs
 
 -- the header and bucket 0 after a list of calls
 abbrev firstBucket : List Call → List ℕ
@@ -252,6 +256,20 @@ with at b = splice four at (b ∷ [])
 -- where the address flag of place j stands
 abbrev flagAt : ℕ → ℕ
 flagAt j = placeAt j + keySize + 2
+
+-- 02, slip 2: the slots 0 and x are of different values, where x has one byte that is not zero
+abbrev unequalSlots : ℕ → List Row
+unequalSlots x =
+    -- another slot is an update, the same is none; it takes the member of a full /24 past the duplicate test
+    Row.answers (start 16 0 0 ∷ Call.onKey (key 32) (KeyCall.absentInsert (plain 0) 0 0 0) ∷ []) (updateNode 32 x 2 ∷ updateNode 32 x 2 ∷ updateNode 32 0 2 ∷ [])
+    (Answer.Update UpdateResult.Updated ∷ Answer.Update UpdateResult.NotModified ∷ Answer.Update UpdateResult.Updated ∷ [])
+    ∷ Row.answers (members 10) (Call.onKey (key 32) (KeyCall.updateNode (addressed 32 x) 2 0) ∷ []) (updateFailed FailureReason.TableFilter ∷ [])
+    -- one address with both slots: the filter counts two beside a third slot, and one beside the second
+    ∷ Row.answers (oneAddress x) (Call.onKey (key 34) (KeyCall.absentInsert (addressed 1 (2 * x)) 0 0 0) ∷ Call.onKey (key 34) (KeyCall.absentInsert (addressed 1 x) 0 0 0) ∷ [])
+    (Answer.Insert BucketInsertResult.FailedFilter ∷ Answer.Insert BucketInsertResult.Inserted ∷ [])
+    -- the slot that is 7 and the one that is not
+    ∷ Row.matches (start 16 0 0 ∷ Call.onKey (key 32) (KeyCall.absentInsert (plain 7) 0 0 0) ∷ Call.onKey (key 33) (KeyCall.absentInsert (plain (7 + x)) 0 0 0) ∷ []) 32 (predicate 3) 2 (true ∷ false ∷ [])
+    ∷ []
 
 abbrev reasons : List FailureReason
 reasons =
@@ -475,21 +493,21 @@ cases =
     ∷ Row.adds twoPending (Call.list Listing.iter 33 60100 (zeros (33 * nodeSize))) (recordOf 48 32 ∷ recordOf 80 64 ∷ [])
     -- the bytes of a table, and how many there are
     ∷ Row.stores twoApplied 5
-    (zeros 31 ++ (1 ∷ (zeros 6 ++ (234 ∷ 96 ∷ 7 ∷ 1 ∷ 0 ∷ 2 ∷ (zeros 31 ++ (48 ∷ 1 ∷ (plainBytes 0 32 ++ (zeros 31 ++ (49 ∷ [])))))))))
+    (zeros 31 ++ (1 ∷ (zeros 6 ++ (234 ∷ 96 ∷ 7 ∷ 1 ∷ 0 ∷ 2 ∷ (zeros paddingSize ++ (zeros 31 ++ (48 ∷ 1 ∷ (plainBytes 0 32 ++ (zeros 31 ++ (49 ∷ []))))))))))
     (16 ∷ 13 ∷ (joined (plainBytes 0) (numbers 34 13)
-    ++ (zeros 31 ++ (47 ∷ 1 ∷ 1 ∷ 1 ∷ 1 ∷ 2 ∷ 3 ∷ 4 ∷ 1 ∷ 2 ∷ (plainBytes 1 48 ++ (plainBytes 1 49 ++ (1 ∷ (plainBytes 1 50 ++ (zeros 6 ++ (234 ∷ 103 ∷ []))))))))))
-    ∷ Row.sizes (41 ∷ 74 ∷ 708 ∷ 4780 ∷ 186028 ∷ [])
+    ++ (zeros 31 ++ (47 ∷ 1 ∷ 1 ∷ 1 ∷ 1 ∷ 2 ∷ 3 ∷ 4 ∷ (numbers 1 slotSize ++ (plainBytes 1 48 ++ (plainBytes 1 49 ++ (1 ∷ (plainBytes 1 50 ++ (zeros 6 ++ (234 ∷ 103 ∷ [])))))))))))
+    ∷ Row.sizes (13 ∷ 47 ∷ 80 ∷ 810 ∷ 48 ∷ 5168 ∷ 212528 ∷ [])
     ∷ Row.restores (start 16 0 0 ∷ disconnected 2 ∷ []) 1
     -- new is not asked question 2; the settings that it leaves
     ∷ Row.leaves (replicate storageSize 9) (Call.new (key 1) 60000 7 1 0) Answer.New 0 (key 1 ++ (zeros 6 ++ (234 ∷ 96 ∷ 7 ∷ 1 ∷ 0 ∷ 0 ∷ [])))
     -- what is written: the entries found; behind them the bytes stay
-    ∷ Row.writes threeNodes (Listing.closestKeys (key 4)) 2 (zeros 64) (key 4 ++ key 6)
-    ∷ Row.writes threeNodes (Listing.closestValues (key 4)) 1 (zeros 39) (key 4 ++ (1 ∷ 10 ∷ 0 ∷ 0 ∷ 4 ∷ 0 ∷ 7 ∷ []))
-    ∷ Row.writes threeNodes (Listing.closestValuesPredicate (key 4) (predicate 2)) 1 (zeros 40) (key 4 ++ (1 ∷ 1 ∷ 10 ∷ 0 ∷ 0 ∷ 4 ∷ 0 ∷ 7 ∷ []))
+    ∷ Row.writes threeNodes (Listing.closestKeys (key 4)) 2 (zeros (2 * keySize)) (key 4 ++ key 6)
+    ∷ Row.writes threeNodes (Listing.closestValues (key 4)) 1 (zeros (keySize + valueSize)) (key 4 ++ (1 ∷ 10 ∷ 0 ∷ 0 ∷ 4 ∷ bytes slotSize 7))
+    ∷ Row.writes threeNodes (Listing.closestValuesPredicate (key 4) (predicate 2)) 1 (zeros (keySize + 1 + valueSize)) (key 4 ++ (1 ∷ 1 ∷ 10 ∷ 0 ∷ 0 ∷ 4 ∷ bytes slotSize 7))
     ∷ Row.writes threeNodes (Listing.closestValuesPredicate (key 6) (predicate 2)) 1 (replicate (keySize + 1 + valueSize + 9) 9)
     (key 6 ++ (0 ∷ (zeros 5 ++ (bytes slotSize 7 ++ replicate 9 9))))
-    ∷ Row.writes (start 1 0 0 ∷ Call.onKey (key 32) (KeyCall.absentInsert (addressed 9 258) 1 1 0) ∷ []) Listing.iter 2 (replicate (2 * nodeSize) 9)
-    (key 32 ++ (1 ∷ 1 ∷ 1 ∷ 10 ∷ 0 ∷ 0 ∷ 9 ∷ (bytes slotSize 258 ++ replicate nodeSize 9)))
+    ∷ Row.writes (start 1 0 0 ∷ Call.onKey (key 32) (KeyCall.absentInsert (addressed 9 (256 ^ slotSize - 1)) 1 1 0) ∷ []) Listing.iter 2 (replicate (2 * nodeSize) 9)
+    (key 32 ++ (1 ∷ 1 ∷ 1 ∷ 10 ∷ 0 ∷ 0 ∷ 9 ∷ (replicate slotSize 255 ++ replicate nodeSize 9)))
     -- the predicates
     ∷ Row.matches threeNodes 5 (predicate 0) 4 (true ∷ true ∷ true ∷ true ∷ [])
     ∷ Row.matches threeNodes 5 (predicate 1) 4 (true ∷ false ∷ true ∷ true ∷ [])
@@ -543,7 +561,8 @@ cases =
     ∷ Row.answers twoApplied (start 16 0 0 ∷ Call.takeAppliedPending ∷ []) (Answer.New ∷ noRecord ∷ [])
     -- the rows tell all answers apart
     ∷ Row.apart allAnswers
-    ∷ []
+    -- slots that differ in one byte, each of the eight (02, slip 2)
+    ∷ joined unequalSlots (map (λ i. 256 ^ i) (numbers 0 slotSize))
 
 -- 01, "The gatekeeper's questions"
 unfoldable pub questionCases : List Row
@@ -578,21 +597,23 @@ questionCases =
     ∷ Row.formedAt incomingFirst 0 true
     ∷ Row.formedAt (splice incomingFirst 0 (key 0)) 0 false
     ∷ Row.formedAt (splice incomingFirst maxIncomingAt (0 ∷ [])) 0 false
-    -- of the header: codes out of range; 65 records; unused bytes that are not zero
+    -- of the header: codes out of range; 65 records; unused bytes that are not zero, the first and the last of the padding among them
     ∷ Row.formedHeader (headerWith 64 maxIncomingAt (17 ∷ [])) false
     ∷ Row.formedHeader (headerWith 64 tableFilterAt (2 ∷ [])) false
     ∷ Row.formedHeader (headerWith 64 bucketFilterAt (2 ∷ [])) false
     ∷ Row.formedHeader (headerWith 65 0 []) false
     ∷ Row.formedHeader (headerWith 0 (recordAt 0) (1 ∷ [])) false
+    ∷ Row.formedHeader (headerWith 64 paddingAt (1 ∷ [])) false
+    ∷ Row.formedHeader (headerWith 64 (recordAt 0 - 1) (1 ∷ [])) false
     ∷ Row.formedHeader (headerWith 64 (recordAt 63) (evictedBytes 1 (plainBytes 1 32))) true
     ∷ Row.formedHeader (headerWith 64 (recordAt 63) (evictedBytes 2 (plainBytes 1 32))) false
     -- of a record: the evicted flag; the evicted node's state, direction, address flag and octets; unused bytes that are not zero
     ∷ Row.formedRecord (evictedBytes 1 (plainBytes 1 32)) true
     ∷ Row.formedRecord (evictedBytes 2 (plainBytes 1 32)) false
     ∷ Row.formedRecord (evictedBytes 1 (plainBytes 2 32)) false
-    ∷ Row.formedRecord (evictedBytes 1 (key 32 ++ (0 ∷ 2 ∷ zeros 7))) false
-    ∷ Row.formedRecord (evictedBytes 1 (key 32 ++ (0 ∷ 0 ∷ 2 ∷ zeros 6))) false
-    ∷ Row.formedRecord (evictedBytes 1 (key 32 ++ (0 ∷ 0 ∷ 0 ∷ 0 ∷ 0 ∷ 0 ∷ 1 ∷ zeros 2))) false
+    ∷ Row.formedRecord (evictedBytes 1 (key 32 ++ (0 ∷ 2 ∷ zeros valueSize))) false
+    ∷ Row.formedRecord (evictedBytes 1 (key 32 ++ (0 ∷ 0 ∷ 2 ∷ zeros (valueSize - 1)))) false
+    ∷ Row.formedRecord (evictedBytes 1 (key 32 ++ (0 ∷ 0 ∷ 0 ∷ 0 ∷ 0 ∷ 0 ∷ 1 ∷ zeros slotSize))) false
     ∷ Row.formedRecord (evictedBytes 0 (zeros nodeSize)) true
     ∷ Row.formedRecord (evictedBytes 0 (zeros (nodeSize - 1) ++ (1 ∷ []))) false
     -- question 3: a key of 31 bytes, in front of a code out of range
@@ -608,8 +629,8 @@ questionCases =
     ∷ Row.refuses pendingAt100 (Call.list Listing.iter 2 60100 (zeros (2 * nodeSize - 1))) 6
     ∷ Row.refuses pendingAt100 (Call.list (Listing.nodesByDistances (6 ∷ [])) 0 60100 (zeros (nodeSize - 1))) 6
     ∷ Row.refuses pendingAt100 (Call.list (Listing.closestKeys (key 1)) 1 60100 (zeros 31)) 6
-    ∷ Row.refuses pendingAt100 (Call.list (Listing.closestValues (key 1)) 1 60100 (zeros 38)) 6
-    ∷ Row.refuses pendingAt100 (Call.list (Listing.closestValuesPredicate (key 1) (predicate 0)) 1 60100 (zeros 39)) 6
+    ∷ Row.refuses pendingAt100 (Call.list (Listing.closestValues (key 1)) 1 60100 (zeros (keySize + valueSize - 1))) 6
+    ∷ Row.refuses pendingAt100 (Call.list (Listing.closestValuesPredicate (key 1) (predicate 0)) 1 60100 (zeros (keySize + valueSize))) 6
     ∷ Row.answers (start 16 0 0 ∷ []) (list (Listing.closestKeys (key 1)) keySize 4096 ∷ []) (Answer.Found 0 ∷ [])
     -- question 7: the key is of another kind; a due pending is still pending
     ∷ Row.refuses pendingAt100 (Call.onKey (key 48) (KeyCall.presentUpdate 0 2)) 7

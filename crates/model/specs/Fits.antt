@@ -97,7 +97,7 @@ pub record Fits (t : Table) : Type 0 where
   pub records : All FitsRecord (t .queue)
   pub queue : length (t .queue) ≤ maxRecords
 
--- the arguments are what a host's parameters can hold: keys of bytes, octets of one byte, a slot of two, a timeout of eight
+-- the arguments are what a host's parameters can hold: keys of bytes, octets of one byte, a slot and a timeout of eight
 pub record FitsArgument (v : ValueArgument) : Type 0 where
   pub a : v .a < 256
   pub b : v .b < 256

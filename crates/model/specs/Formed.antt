@@ -10,7 +10,7 @@ use Rattle.model.specs.Bytes.{number, part}
 use Rattle.model.specs.Key.{bucketIndex}
 use Rattle.model.specs.Bucket.{maxNodesPerBucket, incomingNodes}
 use Rattle.model.specs.Table.{numBuckets, maxRecords}
-use Rattle.model.specs.Sizes.{keySize, timeSize, nodeSize, recordSize, placeAt, pendingAt, maxIncomingAt, tableFilterAt, bucketFilterAt, recordCountAt, recordAt}
+use Rattle.model.specs.Sizes.{keySize, timeSize, nodeSize, recordSize, placeAt, pendingAt, maxIncomingAt, tableFilterAt, bucketFilterAt, recordCountAt, paddingAt, paddingSize, recordAt}
 use Rattle.model.specs.Layout.{placeIn, nodesIn, recordPart, bucketPart}
 
 -- the k bytes from index at on are zero
@@ -68,9 +68,10 @@ headerFormed s =
     leb (getD s maxIncomingAt 0) maxNodesPerBucket
     && (leb (getD s tableFilterAt 0) 1
     && (leb (getD s bucketFilterAt 0) 1
+    && (areZero s paddingAt paddingSize
     && (leb (getD s recordCountAt 0) maxRecords
     && (allBelow (getD s recordCountAt 0) (λ j. recordFormed (recordPart s j))
-    && areZero s (recordAt (getD s recordCountAt 0)) ((maxRecords - getD s recordCountAt 0) * recordSize)))))
+    && areZero s (recordAt (getD s recordCountAt 0)) ((maxRecords - getD s recordCountAt 0) * recordSize))))))
 
 -- the index of a key is i
 abbrev pub isAt : Option ℕ → ℕ → Bool

@@ -11,7 +11,7 @@ use Rattle.model.specs.Value.{Address, Value}
 use Rattle.model.specs.Node.{Node, PendingNode, AppliedPending}
 use Rattle.model.specs.Bucket.{Bucket, maxNodesPerBucket, nodes, numEntries}
 use Rattle.model.specs.Table.{Settings, Table, numBuckets, maxRecords}
-use Rattle.model.specs.Sizes.{keySize, timeSize, slotSize, valueSize, nodeSize, recordSize, placeAt, pendingAt, pendingSize, bucketSize, timeoutAt, maxIncomingAt, tableFilterAt, bucketFilterAt, recordCountAt, recordAt, bucketAt}
+use Rattle.model.specs.Sizes.{keySize, timeSize, slotSize, valueSize, nodeSize, recordSize, placeAt, pendingAt, pendingSize, bucketSize, timeoutAt, maxIncomingAt, tableFilterAt, bucketFilterAt, recordCountAt, paddingSize, recordAt, bucketAt}
 use Rattle.model.specs.Listing.{Item}
 
 -- What is written.
@@ -51,7 +51,7 @@ headerBytes t =
     bytes keySize (t .settings .localKey)
     ++ (bytes timeSize (t .settings .bucket .pendingTimeout)
     ++ (t .settings .bucket .maxIncoming ∷ flagByte (t .settings .tableFilter) ∷ flagByte (t .settings .bucket .filter) ∷ length (t .queue)
-    ∷ (joined recordBytes (t .queue) ++ zeros ((maxRecords - length (t .queue)) * recordSize))))
+    ∷ (zeros paddingSize ++ (joined recordBytes (t .queue) ++ zeros ((maxRecords - length (t .queue)) * recordSize)))))
 
 unfoldable pub bytesOf : Table → List ℕ
 bytesOf t = headerBytes t ++ joined bucketBytes (tabulate numBuckets (t .buckets))

@@ -14,7 +14,7 @@ use Rattle.model.specs.Result.{BucketInsertResult, UpdateResult}
 use Rattle.model.specs.Bucket.{nodes, firstConnectedPos, remove}
 use Rattle.model.specs.Table.{Table, EntryKind, Answer, emptyTable}
 use Rattle.model.specs.Visit.{visits}
-use Rattle.model.specs.Sizes.{keySize, nodeSize, recordSize, bucketSize, headerSize, bucketAt, storageSize}
+use Rattle.model.specs.Sizes.{keySize, valueSize, nodeSize, recordSize, bucketSize, recordsAt, headerSize, bucketAt, storageSize}
 use Rattle.model.specs.Call.{ValueArgument, PredicateArgument, Listing, Call, KeyCall}
 use Rattle.model.specs.Listing.{Item, most}
 use Rattle.model.specs.Question.{entrySize}
@@ -79,7 +79,7 @@ pub data Row : Type 0 where
   stores : (before : List Call) (bucket : ℕ) (header stored : List ℕ) → Row
   -- after the calls, header and bucket written into a storage of nines that ends behind the bucket: the buckets before it stay
   restores : (before : List Call) (bucket : ℕ) → Row
-  -- the bytes of a node, a record, a bucket, the header and the storage
+  -- the bytes of a value, a node, a record, a bucket, before the records, of the header and the storage
   sizes : (sizes : List ℕ) → Row
   -- what question 2 says of the header's bytes
   formedHeader : (header : List ℕ) (formed : Bool) → Row
@@ -163,7 +163,7 @@ holds (Row.stores before i h b) =
 holds (Row.restores before i) =
     let t = after before noTable in
     sameNumbers (restore (replicate (bucketAt (suc i)) 9) (i ∷ []) t) (headerBytes t ++ (replicate (i * bucketSize) 9 ++ bucketBytes (t .buckets i)))
-holds (Row.sizes ns) = sameNumbers (nodeSize ∷ recordSize ∷ bucketSize ∷ headerSize ∷ storageSize ∷ []) ns
+holds (Row.sizes ns) = sameNumbers (valueSize ∷ nodeSize ∷ recordSize ∷ bucketSize ∷ recordsAt ∷ headerSize ∷ storageSize ∷ []) ns
 holds (Row.formedHeader s f) = Bool·beq (headerFormed s) f
 holds (Row.formedRecord bs f) = Bool·beq (recordFormed bs) f
 holds (Row.formedAt s i f) = Bool·beq (bucketFormedAt s i) f

@@ -9,8 +9,9 @@ keySize = 32
 abbrev pub timeSize : ℕ
 timeSize = 8
 
+-- a slot of the host's record store has 64 bits (02, slip 2); what follows is derived from it
 abbrev pub slotSize : ℕ
-slotSize = 2
+slotSize = 8
 
 -- a value: address flag, four octets, slot
 abbrev pub valueSize : ℕ
@@ -37,7 +38,7 @@ pendingSize = 1 + nodeSize + timeSize
 abbrev pub bucketSize : ℕ
 bucketSize = pendingAt + pendingSize
 
--- the table: local key, pending timeout, max_incoming, table filter, bucket filter, record count, records, buckets
+-- the table: local key, pending timeout, max_incoming, table filter, bucket filter, record count, padding, records, buckets
 abbrev pub timeoutAt : ℕ
 timeoutAt = keySize
 
@@ -53,8 +54,15 @@ bucketFilterAt = tableFilterAt + 1
 abbrev pub recordCountAt : ℕ
 recordCountAt = bucketFilterAt + 1
 
+-- unused, so that the records start at a multiple of 16
+abbrev pub paddingAt : ℕ
+paddingAt = recordCountAt + 1
+
+abbrev pub paddingSize : ℕ
+paddingSize = 4
+
 abbrev pub recordsAt : ℕ
-recordsAt = recordCountAt + 1
+recordsAt = paddingAt + paddingSize
 
 abbrev pub recordAt : ℕ → ℕ
 recordAt j = recordsAt + j * recordSize

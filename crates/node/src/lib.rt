@@ -9,6 +9,9 @@ use key::Key;
 
 pub mod filter;
 
+// The number of a slot of the host's record store: 64 bits (02, slip 2).
+pub type Slot = u64;
+
 // An optional IPv4 address and a slot of the host's record store. An absent address has flag 0 and zero octets.
 pub struct Value {
     pub flag: u8,
@@ -16,7 +19,7 @@ pub struct Value {
     pub b: u8,
     pub c: u8,
     pub d: u8,
-    pub slot: u16,
+    pub slot: Slot,
 }
 
 // The connection state of a node.
@@ -121,8 +124,13 @@ impl NodeStatus {
 }
 
 impl Value {
-    // Address flag, four octets, slot.
-    pub const BYTES: usize = 5 + 2;
+    // An address: flag and four octets.
+    pub const ADDRESS: usize = 5;
+
+    // A slot, big-endian.
+    pub const SLOT: usize = 8;
+
+    pub const BYTES: usize = Value::ADDRESS + Value::SLOT;
 
     // Values are equal when all of it is equal.
     pub fn eq(self, other: Value) -> bool

@@ -1,6 +1,7 @@
 // A record's call, made through the exports. Each answers the code.
 use crate::record;
 use crate::record::Arguments;
+use storage::Layout;
 
 // The code where a record cannot be read: no call answers it.
 const UNREADABLE: u32 = 0xffff_ffff;
@@ -25,17 +26,17 @@ pub(crate) fn fill(s: &mut [u8], n: usize) {
 
 // Writes the record's bytes to the storage or the bucket, for what no call leaves.
 fn write(s: &mut [u8], r: &[u8]) -> u32 {
-    let at = record::number_of_eight(r, 56) as usize;
+    let at = record::number_of_eight(r, record::COUNT_AT) as usize;
     let n = record::byte(r, 1) as usize;
-    if 200000 < at {
+    if Layout::STORAGE < at {
         return UNREADABLE;
     }
-    if 48 < n {
+    if record::WRITTEN < n {
         return UNREADABLE;
     }
     let mut i: usize = 0;
     while i < n {
-        set(s, at + i, record::byte(r, 80 + i));
+        set(s, at + i, record::byte(r, record::REST_AT + i));
         i += 1;
     }
     0
@@ -195,8 +196,8 @@ pub(crate) fn made(r: &[u8], s: &mut [u8], out: &mut [u8]) -> u32 {
     if record::byte(r, 0) % 16 == 0 {
         return write(s, r);
     }
-    let size = record::number_of_four(r, 52) as usize;
-    let room = record::number_of_four(r, 64) as usize;
+    let size = record::number_of_four(r, record::SIZE_AT) as usize;
+    let room = record::number_of_four(r, record::ROOM_AT) as usize;
     if s.len() < size {
         return UNREADABLE;
     }

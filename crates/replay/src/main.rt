@@ -9,27 +9,26 @@ mod checksum;
 mod names;
 mod record;
 
+use bucket::KBucket;
+use storage::Layout;
+
 const MOST: u64 = 100_000;
 
+const OUTPUT: usize = (4096 + 5) * Layout::NODE;
+
 // Storage for a table.
-fn storage() -> [u8; 186028]
-    ensures { λ r. ⌜ 186028 ≡ length r ⌝ }
-{
-    [0; 186028]
+fn storage() -> [u8; Layout::STORAGE] {
+    [0; Layout::STORAGE]
 }
 
 // A bucket by itself.
-fn alone() -> [u8; 718]
-    ensures { λ r. ⌜ 718 ≡ length r ⌝ }
-{
-    [0; 718]
+fn alone() -> [u8; KBucket::BYTES] {
+    [0; KBucket::BYTES]
 }
 
 // An output for 4096 nodes and five more.
-fn output() -> [u8; 168141]
-    ensures { λ r. ⌜ 168141 ≡ length r ⌝ }
-{
-    [0; 168141]
+fn output() -> [u8; OUTPUT] {
+    [0; OUTPUT]
 }
 
 // How many calls agree, by call.
@@ -46,14 +45,14 @@ struct Answer {
 
 fn expected(r: &[u8]) -> Answer {
     Answer {
-        code: record::number_of_four(r, 68),
-        sum: record::number_of_eight(r, 72),
+        code: record::number_of_four(r, record::CODE_AT),
+        sum: record::number_of_eight(r, record::SUM_AT),
     }
 }
 
 // Makes the call on a table or a bucket.
 fn found(r: &[u8], s: &mut [u8], out: &mut [u8]) -> Answer {
-    let room = record::number_of_four(r, 64) as usize;
+    let room = record::number_of_four(r, record::ROOM_AT) as usize;
     calls::fill(out, room);
     let code = calls::made(r, s, out) as u64;
     let written = checksum::checksum(checksum::BASIS, s, s.len());

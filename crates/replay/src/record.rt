@@ -7,16 +7,40 @@
 //   36   direction; table filter of `new`; filter of `b_new`
 //   37   address flag; predicate; bucket filter of `new`
 //   38   a, b, c, d
-//   42   slot, 2 bytes
-//   44   now; timeout of `new`; 8 bytes
-//   52   the length of the storage or the bucket that is handed over, 4 bytes
-//   56   n; where a write begins; 8 bytes
-//   64   the length of the output or the answer, 4 bytes
-//   68   the code that the Rust's answer has, 4 bytes
-//   72   the checksum of what the call may write, after the call, 8 bytes
-//   80   six distances of 8 bytes each; the bytes of a write
+//   42   slot, 8 bytes
+//   50   now; timeout of `new`; 8 bytes
+//   58   the length of the storage or the bucket that is handed over, 4 bytes
+//   62   n; where a write begins; 8 bytes
+//   70   the length of the output or the answer, 4 bytes
+//   74   the code that the Rust's answer has, 4 bytes
+//   78   the checksum of what the call may write, after the call, 8 bytes
+//   86   five distances of 8 bytes each; the bytes of a write
 ghost use mathlib.Core.Path.{_≡_};
 ghost use lib.ListN.{length};
+use node::Slot;
+use node::Value;
+
+// Where the fields stand behind the four octets.
+pub(crate) const SLOT_AT: usize = 42;
+
+pub(crate) const TIME_AT: usize = SLOT_AT + Value::SLOT;
+
+pub(crate) const SIZE_AT: usize = TIME_AT + 8;
+
+pub(crate) const COUNT_AT: usize = SIZE_AT + 4;
+
+pub(crate) const ROOM_AT: usize = COUNT_AT + 8;
+
+pub(crate) const CODE_AT: usize = ROOM_AT + 4;
+
+pub(crate) const SUM_AT: usize = CODE_AT + 4;
+
+pub(crate) const REST_AT: usize = SUM_AT + 8;
+
+pub(crate) const BYTES: usize = 128;
+
+// The bytes that a write has room for.
+pub(crate) const WRITTEN: usize = BYTES - REST_AT;
 
 pub struct Arguments {
     pub state: u8,
@@ -26,16 +50,16 @@ pub struct Arguments {
     pub b: u8,
     pub c: u8,
     pub d: u8,
-    pub slot: u16,
+    pub slot: Slot,
     pub time: u64,
     pub n: usize,
 }
 
 // A record, empty.
-pub(crate) fn empty() -> [u8; 128]
+pub(crate) fn empty() -> [u8; BYTES]
     ensures { λ r. ⌜ 128 ≡ length r ⌝ }
 {
-    [0; 128]
+    [0; BYTES]
 }
 
 // 0 past the end.
@@ -46,34 +70,20 @@ pub(crate) fn byte(r: &[u8], at: usize) -> u8 {
     0
 }
 
-// The number of the two bytes at a place.
-fn number_of_two(r: &[u8], at: usize) -> u16 {
-    if 126 < at {
-        return 0;
-    }
-    if r.len() < 128 {
-        return 0;
-    }
-    words::get_u16(r, at)
-}
-
-// The number of the four bytes at a place.
-pub(crate) fn number_of_four(r: &[u8], at: usize) -> u64 {
-    if 124 < at {
-        return 0;
-    }
-    number_of_two(r, at) as u64 * 65536 + number_of_two(r, at + 2) as u64
-}
-
 // The number of the eight bytes at a place.
 pub(crate) fn number_of_eight(r: &[u8], at: usize) -> u64 {
-    if 120 < at {
+    if BYTES - 8 < at {
         return 0;
     }
-    if r.len() < 128 {
+    if r.len() < BYTES {
         return 0;
     }
     words::get_u64(r, at)
+}
+
+// The number of the four bytes at a place that four more follow.
+pub(crate) fn number_of_four(r: &[u8], at: usize) -> u64 {
+    number_of_eight(r, at) / 0x1_0000_0000
 }
 
 pub(crate) fn read_arguments(r: &[u8]) -> Arguments {
@@ -85,21 +95,20 @@ pub(crate) fn read_arguments(r: &[u8]) -> Arguments {
         b: byte(r, 39),
         c: byte(r, 40),
         d: byte(r, 41),
-        slot: number_of_two(r, 42),
-        time: number_of_eight(r, 44),
-        n: number_of_eight(r, 56) as usize,
+        slot: number_of_eight(r, SLOT_AT),
+        time: number_of_eight(r, TIME_AT),
+        n: number_of_eight(r, COUNT_AT) as usize,
     }
 }
 
-pub(crate) fn distances(r: &[u8]) -> [u64; 6]
-    ensures { λ d. ⌜ 6 ≡ length d ⌝ }
+pub(crate) fn distances(r: &[u8]) -> [u64; 5]
+    ensures { λ d. ⌜ 5 ≡ length d ⌝ }
 {
     [
-        number_of_eight(r, 80),
-        number_of_eight(r, 88),
-        number_of_eight(r, 96),
-        number_of_eight(r, 104),
-        number_of_eight(r, 112),
-        number_of_eight(r, 120),
+        number_of_eight(r, REST_AT),
+        number_of_eight(r, REST_AT + 8),
+        number_of_eight(r, REST_AT + 16),
+        number_of_eight(r, REST_AT + 24),
+        number_of_eight(r, REST_AT + 32),
     ]
 }

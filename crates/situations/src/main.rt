@@ -8,15 +8,14 @@ use bucket::NewAnswer;
 use bucket::UpdateAnswer;
 use bucket::UpdateResult;
 use bucket_update::InsertResult;
+use node::Slot;
 use node::Value;
 use storage::Layout;
 use update::InsertOrUpdateAnswer;
 
 // Storage for a table.
-fn storage() -> [u8; 186028]
-    ensures { λ r. ⌜ 186028 ≡ length r ⌝ }
-{
-    [0; 186028]
+fn storage() -> [u8; Layout::STORAGE] {
+    [0; Layout::STORAGE]
 }
 
 // The key of a member. The local key is 0, so all members are in bucket 255.
@@ -30,7 +29,7 @@ fn key_of(member: u8) -> [u8; 32]
 }
 
 // The record of a member: its address in 10.0.0.0/24, and its slot in the host's record store.
-fn record_of(member: u8, slot: u16) -> Value {
+fn record_of(member: u8, slot: Slot) -> Value {
     Value {
         flag: 1,
         a: 10,
@@ -49,7 +48,7 @@ fn byte(s: &[u8], at: usize) -> u8 {
     0
 }
 
-// Writes the node at a place of bucket 255: the last byte of its key, the last octet of its address, its slot.
+// Writes the node at a place of bucket 255: the last byte of its key, the last octet of its address, the last byte of its slot.
 fn say_node(s: &[u8], place: usize) {
     if 16 <= place {
         return;
@@ -60,7 +59,7 @@ fn say_node(s: &[u8], place: usize) {
     io::write_all(1, b"=10.0.0.");
     io::print_decimal(1, byte(s, at + Layout::VALUE_AT + 4) as u64);
     io::write_all(1, b"/slot ");
-    io::print_decimal(1, byte(s, at + Layout::VALUE_AT + 6) as u64);
+    io::print_decimal(1, byte(s, at + Layout::NODE - 1) as u64);
 }
 
 fn say_bucket(s: &[u8]) {
@@ -174,7 +173,7 @@ fn say_insert(a: InsertOrUpdateAnswer) {
 // A member joins, connected and outgoing.
 fn join(s: &mut [u8], member: u8) {
     let key = key_of(member);
-    let value = record_of(member, member as u16);
+    let value = record_of(member, member as Slot);
     let a = update::insert_or_update(s, &key, value, 1, 0, 1000);
     io::write_all(1, b" ");
     say_insert(a);
@@ -189,7 +188,7 @@ fn join_all(s: &mut [u8], members: u8) {
 }
 
 // A member's port changes: its record is signed again and lies in another slot.
-fn resign(s: &mut [u8], member: u8, slot: u16) {
+fn resign(s: &mut [u8], member: u8, slot: Slot) {
     let key = key_of(member);
     let value = record_of(member, slot);
     let a = update::update_node(s, &key, value, 2, 2000);

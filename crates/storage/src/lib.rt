@@ -21,13 +21,10 @@ impl Layout {
 
     pub const TIME: usize = 8;
 
-    // The slot of the host's record store.
-    pub const SLOT: usize = 2;
+    // A value: address, slot.
+    pub const SLOT_AT: usize = Value::ADDRESS;
 
-    // An address: flag and four octets.
-    pub const ADDRESS: usize = 5;
-
-    pub const VALUE: usize = Layout::ADDRESS + Layout::SLOT;
+    pub const VALUE: usize = Value::BYTES;
 
     // A node: key, state, direction, value.
     pub const STATE_AT: usize = Layout::KEY;
@@ -50,7 +47,7 @@ impl Layout {
 
     pub const BUCKET: usize = Layout::PENDING_AT + Layout::PENDING;
 
-    // The table: local key, pending timeout, max_incoming, table filter, bucket filter, record count, records, buckets.
+    // The table: local key, pending timeout, max_incoming, table filter, bucket filter, record count, padding, records, buckets.
     pub const TIMEOUT_AT: usize = Layout::KEY;
 
     pub const MAX_INCOMING_AT: usize = Layout::TIMEOUT_AT + Layout::TIME;
@@ -61,7 +58,12 @@ impl Layout {
 
     pub const RECORD_COUNT_AT: usize = Layout::BUCKET_FILTER_AT + 1;
 
-    pub const RECORDS_AT: usize = Layout::RECORD_COUNT_AT + 1;
+    // Unused, so that the records start at a multiple of 16.
+    pub const PADDING_AT: usize = Layout::RECORD_COUNT_AT + 1;
+
+    pub const PADDING: usize = 4;
+
+    pub const RECORDS_AT: usize = Layout::PADDING_AT + Layout::PADDING;
 
     // How many records the queue holds at the most.
     pub const MAX_RECORDS: usize = 64;
@@ -82,7 +84,7 @@ pub fn load_value(s: &[u8], at: usize) -> Value
         b: s[at + 2],
         c: s[at + 3],
         d: s[at + 4],
-        slot: words::get_u16(s, at + Layout::ADDRESS),
+        slot: words::get_u64(s, at + Layout::SLOT_AT),
     }
 }
 
@@ -110,7 +112,7 @@ pub fn store_value(s: &mut [u8], at: usize, v: Value)
     words::put_byte(s, at + 2, v.b);
     words::put_byte(s, at + 3, v.c);
     words::put_byte(s, at + 4, v.d);
-    words::put_u16(s, at + Layout::ADDRESS, v.slot);
+    words::put_u64(s, at + Layout::SLOT_AT, v.slot);
 }
 
 // Internal: the bytes of a node whose codes are in range, put at `at`.

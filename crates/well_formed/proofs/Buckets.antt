@@ -12,7 +12,7 @@ use Rattle.model.specs.Base.{allBelow, joined, tabulate}
 use Rattle.model.specs.Bytes.{part, zeros}
 use Rattle.model.specs.Bucket.{maxNodesPerBucket, incomingNodes, emptyBucket}
 use Rattle.model.specs.Table.{numBuckets, maxRecords}
-use Rattle.model.specs.Sizes.{keySize, nodeSize, recordSize, bucketSize, maxIncomingAt, tableFilterAt, bucketFilterAt, recordCountAt, recordAt}
+use Rattle.model.specs.Sizes.{keySize, nodeSize, recordSize, placeAt, bucketSize, maxIncomingAt, tableFilterAt, bucketFilterAt, recordCountAt, paddingAt, paddingSize, recordAt}
 use Rattle.model.specs.Layout.{bucketBytes, nodesIn, placeIn}
 use Rattle.model.specs.Formed as model
 use Rattle.model.specs.Formed.{areZero, keyIn, stateAt, pendingFormed, bucketFormed, recordFormed, headerFormed, formed}
@@ -65,7 +65,7 @@ module _ (p : ℕ → Bool) (m : ℕ) (s : List ℕ) (at : ℕ) where
 
     pub bucket-held : n ≤ maxNodesPerBucket → bucketFormed p m (part s at bucketSize)
         ≡ ((allBelow n (differs (part s at bucketSize))
-        && (allBelow n (placeFormed p f (part s at bucketSize)) && areZero (part s at bucketSize) (2 + n * nodeSize) ((maxNodesPerBucket - n) * nodeSize)))
+        && (allBelow n (placeFormed p f (part s at bucketSize)) && areZero (part s at bucketSize) (placeAt n) ((maxNodesPerBucket - n) * nodeSize)))
         && (leb f n && (leb (length (incomingNodes (tabulate n (nodeAt (part s at bucketSize))))) m && pendingFormed p (part s at bucketSize))))
     unfolding bucketFormed nodesIn differs placeFormed nodeAt
     bucket-held h =
@@ -77,7 +77,7 @@ module _ (p : ℕ → Bool) (m : ℕ) (s : List ℕ) (at : ℕ) where
         all-and n (λ j. model.nodeCodes (placeIn bs j) && p (keyIn (placeIn bs j))) (λ j. eqb (getD (placeIn bs j) keySize 0) (stateAt f j))
         ∙ ap (λ (x : Bool). x && t) (all-and n (λ j. model.nodeCodes (placeIn bs j)) (λ j. p (keyIn (placeIn bs j)))) in
         rw (e, getD-part s at bucketSize 0 (omega arith), getD-part s at bucketSize 1 (omega arith), add-zero, ← en, ← ef, le-leb n maxNodesPerBucket h)
-        (regroup (allBelow n (differs bs)) i t (leb f n) (leb (length (incomingNodes (tabulate n (nodeAt bs)))) m) (pendingFormed p bs) c (areZero bs (2 + n * nodeSize) ((maxNodesPerBucket - n) * nodeSize)))
+        (regroup (allBelow n (differs bs)) i t (leb f n) (leb (length (incomingNodes (tabulate n (nodeAt bs)))) m) (pendingFormed p bs) c (areZero bs (placeAt n) ((maxNodesPerBucket - n) * nodeSize)))
 
 -- a record
 
@@ -107,7 +107,7 @@ module _ (s : List ℕ) (n : ℕ) (en : n ≡ getD s recordCountAt 0) where
 
   pub header-records : n ≤ maxRecords → headerFormed s
       ≡ ((leb (getD s maxIncomingAt 0) maxNodesPerBucket && (leb (getD s tableFilterAt 0) 1 && leb (getD s bucketFilterAt 0) 1))
-      && (allBelow n (recordAtFormed s) && areZero s (recordAt n) ((maxRecords - n) * recordSize)))
+      && (areZero s paddingAt paddingSize && (allBelow n (recordAtFormed s) && areZero s (recordAt n) ((maxRecords - n) * recordSize))))
   unfolding headerFormed recordAtFormed
   header-records h = rw (← en, le-leb n maxRecords h) (simp and-assoc)
 

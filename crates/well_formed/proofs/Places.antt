@@ -16,7 +16,7 @@ use Rattle.model.specs.Bytes.{number, part, Bytes}
 use Rattle.model.specs.Key.{distance, lessOne}
 use Rattle.model.specs.Node.{Node, connectedIncoming}
 use Rattle.model.specs.Bucket.{maxNodesPerBucket, incomingNodes}
-use Rattle.model.specs.Sizes.{keySize, timeSize, nodeSize, pendingAt, bucketSize}
+use Rattle.model.specs.Sizes.{keySize, timeSize, nodeSize, placeAt, pendingAt, bucketSize}
 use Rattle.model.specs.Layout.{nodeIn, placeIn}
 use Rattle.model.specs.Formed.{areZero, keyIn, stateAt, notHeld, pendingFormed, isAt}
 use Rattle.laws.proofs.Tests.{cases, split, same-of, same-not}
@@ -72,24 +72,24 @@ index-by-zeros local key i h =
 -- places
 
 module _ (s : List ℕ) (at j : ℕ) (h : j < maxNodesPerBucket) where
-  pub place-part : placeIn (part s at bucketSize) j ≡ part s (at + (2 + j * nodeSize)) nodeSize
-  place-part = part-part s at bucketSize (2 + j * nodeSize) nodeSize (omega arith)
+  pub place-part : placeIn (part s at bucketSize) j ≡ part s (at + placeAt j) nodeSize
+  place-part = part-part s at bucketSize (placeAt j) nodeSize (omega arith)
 
-  pub place-key : keyIn (placeIn (part s at bucketSize) j) ≡ number (part s (at + (2 + j * nodeSize)) keySize)
-  place-key = rw place-part (ap number (part-zero s (at + (2 + j * nodeSize)) nodeSize keySize (omega arith)))
+  pub place-key : keyIn (placeIn (part s at bucketSize) j) ≡ number (part s (at + placeAt j) keySize)
+  place-key = rw place-part (ap number (part-zero s (at + placeAt j) nodeSize keySize (omega arith)))
 
-  pub place-node : nodeAt (part s at bucketSize) j ≡ nodeIn (part s (at + (2 + j * nodeSize)) nodeSize)
+  pub place-node : nodeAt (part s at bucketSize) j ≡ nodeIn (part s (at + placeAt j) nodeSize)
   unfolding nodeAt
   place-node = rw place-part
 
-  pub place-formed : (p : ℕ → Bool) (first : ℕ) (n : declared.Node) → n ≡ readNode (part s (at + (2 + j * nodeSize)) nodeSize)
+  pub place-formed : (p : ℕ → Bool) (first : ℕ) (n : declared.Node) → n ≡ readNode (part s (at + placeAt j) nodeSize)
       → placeFormed p first (part s at bucketSize) j ≡ ((nodeCodes n && p (num (n .key))) && eqb (n .status .state) (stateAt first j))
   unfolding placeFormed readNode
   place-formed p first n e = rw (place-part, e, codes-read, num-keyOf)
 
 -- the last byte of the key of place k
 abbrev pub lastAt : List ℕ → ℕ → ℕ → ℕ
-lastAt s at k = getD s (at + (2 + k * nodeSize) + 31) 0
+lastAt s at k = getD s (at + placeAt k + 31) 0
 
 -- a place's key differs from those before it where its last byte differs from theirs
 pub last-bytes-differ : (s : List ℕ) (at j : ℕ) → at + bucketSize ≤ length s → Bytes s → j < maxNodesPerBucket → ((k : ℕ) → k < j → lastAt s at k ≡ lastAt s at j → ⊥)
@@ -97,11 +97,11 @@ pub last-bytes-differ : (s : List ℕ) (at j : ℕ) → at + bucketSize ≤ leng
 unfolding differs notHeld
 last-bytes-differ s at j l b h d = all-if j _ (λ k i. ap not (other k i))
   where
-    key-last : (k : ℕ) → k < maxNodesPerBucket → number (part s (at + (2 + k * nodeSize)) keySize) ≡ number (part s (at + (2 + k * nodeSize)) 31) * 256 + lastAt s at k
-    key-last k i = number-one-more s (at + (2 + k * nodeSize)) 31 (omega arith)
+    key-last : (k : ℕ) → k < maxNodesPerBucket → number (part s (at + placeAt k) keySize) ≡ number (part s (at + placeAt k) 31) * 256 + lastAt s at k
+    key-last k i = number-one-more s (at + placeAt k) 31 (omega arith)
 
-    lows : (k : ℕ) → k < j → number (part s (at + (2 + k * nodeSize)) keySize) ≡ number (part s (at + (2 + j * nodeSize)) keySize) → lastAt s at k ≡ lastAt s at j
-    lows k i q = omega (arith, key-last k (omega arith), key-last j h, q, b (at + (2 + k * nodeSize) + 31), b (at + (2 + j * nodeSize) + 31))
+    lows : (k : ℕ) → k < j → number (part s (at + placeAt k) keySize) ≡ number (part s (at + placeAt j) keySize) → lastAt s at k ≡ lastAt s at j
+    lows k i q = omega (arith, key-last k (omega arith), key-last j h, q, b (at + placeAt k + 31), b (at + placeAt j + 31))
 
     other : (k : ℕ) → k < j → same (keyIn (placeIn (part s at bucketSize) k)) (keyIn (placeIn (part s at bucketSize) j)) ≡ false
     other k i = rw (place-key s at k (omega arith), place-key s at j h) (same-not _ _ (λ q. d k i (lows k i q)))

@@ -8,7 +8,7 @@ ghost use Rattle.model.specs.Base.{same, allBelow, tabulate};
 ghost use Rattle.model.specs.Bytes.{number, part};
 ghost use Rattle.model.specs.Bucket.{maxNodesPerBucket, incomingNodes};
 ghost use Rattle.model.specs.Table.{numBuckets, maxRecords};
-ghost use Rattle.model.specs.Sizes.{keySize, nodeSize, recordSize, bucketSize, storageSize, headerSize};
+ghost use Rattle.model.specs.Sizes.{keySize, nodeSize, recordSize, placeAt, bucketSize, headerSize, storageSize};
 ghost use Rattle.model.specs.Node.{connectedIncoming};
 ghost use Rattle.model.specs.Layout.{nodeIn};
 ghost use Rattle.model.specs.Formed.{areZero, stateAt, notHeld, pendingFormed, bucketFormed, recordFormed, headerFormed, formed};
@@ -180,7 +180,7 @@ fn held_formed(s: &[u8], at: usize, count: usize, first: usize, local: Key, i: u
     requires { ⌜ (at + bucketSize ≤ length (now s)) × (count ≤ maxNodesPerBucket) × (i < numBuckets) ⌝ }
     ensures { λ r. ⌜ r ≡ (allBelow count (differs (part (now (s .entry)) at bucketSize))
         && (allBelow count (placeFormed (ofIndex (num local) i) first (part (now (s .entry)) at bucketSize))
-        && areZero (part (now (s .entry)) at bucketSize) (2 + count * nodeSize) ((maxNodesPerBucket - count) * nodeSize))) ⌝ }
+        && areZero (part (now (s .entry)) at bucketSize) (placeAt count) ((maxNodesPerBucket - count) * nodeSize))) ⌝ }
 {
     let unused = words::all_zero(
         s,
@@ -248,12 +248,13 @@ pub fn header_formed(s: &[u8]) -> bool
     }
     let settings = (size(s[Layout::MAX_INCOMING_AT]) <= model::MAX_NODES_PER_BUCKET)
         & ((s[Layout::TABLE_FILTER_AT] <= 1) & (s[Layout::BUCKET_FILTER_AT] <= 1));
+    let padding = words::all_zero(s, Layout::PADDING_AT, Layout::PADDING);
     let unused = words::all_zero(
         s,
         Layout::RECORDS_AT + count * Layout::RECORD,
         (Layout::MAX_RECORDS - count) * Layout::RECORD,
     );
-    settings & (records_formed(s, count) & unused)
+    settings & (padding & (records_formed(s, count) & unused))
 }
 
 // Every bucket of the storage is well formed.

@@ -14,12 +14,6 @@ fn wide(x: u8) -> u64
     x as u64
 }
 
-fn half(x: u8) -> u16
-    ensures { λ r. ⌜ r ≡ x ⌝ }
-{
-    x as u16
-}
-
 // The number of the eight bytes at `at`, the first the least: one load.
 fn little_u64(s: &[u8], at: usize) -> u64
     requires { ⌜ at + 8 ≤ length (now s) ⌝ }
@@ -57,14 +51,6 @@ pub fn get_u64(s: &[u8], at: usize) -> u64
     swap_bytes(little_u64(s, at))
 }
 
-// Internal: the number of the two bytes at `at`.
-pub fn get_u16(s: &[u8], at: usize) -> u16
-    requires { ⌜ at + 2 ≤ length (now s) ⌝ }
-    ensures { λ r. ⌜ r ≡ number (part (now (s .entry)) at 2) ⌝ }
-{
-    (half(s[at]) << 8) | half(s[at + 1])
-}
-
 // The eight bytes of x, the least first, put at `at`: one store.
 fn put_little(s: &mut [u8], at: usize, x: u64)
     requires { ⌜ at + 8 ≤ length (now s) ⌝ }
@@ -86,15 +72,6 @@ pub fn put_u64(s: &mut [u8], at: usize, x: u64)
     ensures { λ _. ⌜ now (s .exit) ≡ splice (now (s .entry)) at (bytes 8 x) ⌝ }
 {
     put_little(s, at, swap_bytes(x));
-}
-
-// Internal: the two bytes of x, put at `at`.
-pub fn put_u16(s: &mut [u8], at: usize, x: u16)
-    requires { ⌜ at + 2 ≤ length (now s) ⌝ }
-    ensures { λ _. ⌜ now (s .exit) ≡ splice (now (s .entry)) at (bytes 2 x) ⌝ }
-{
-    s[at] = (x / 256 % 256) as u8;
-    s[at + 1] = (x % 256) as u8;
 }
 
 // Internal: the byte b, put at `at`.

@@ -30,11 +30,11 @@ add-t14 c = search needs
 shared-slice-read-t16 : tie.Need-shared-slice-read-t16
 shared-slice-read-t16 c = search needs
 
-add-get-u16 : tie.Need-add-get-u16
-add-get-u16 c = search needs
+add-get-u64 : tie.Need-add-get-u64
+add-get-u64 c = search needs
 
-get-u16-requires : tie.Need-get-u16-requires
-get-u16-requires c κs = search needs
+get-u64-requires : tie.Need-get-u64-requires
+get-u64-requires c κs = search needs
 
 returns : tie.Need-returns
 returns c = let a = c .before .before .before .before .before .before .before .args in rw (value-at (a .s .now) (a .at)) (cc)
@@ -52,6 +52,6 @@ load-value-spec =
     shared-slice-read-t13
     add-t14
     shared-slice-read-t16
-    add-get-u16
-    get-u16-requires
+    add-get-u64
+    get-u64-requires
     returns)

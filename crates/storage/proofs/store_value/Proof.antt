@@ -30,11 +30,11 @@ add-put-byte-4 c = search needs
 put-byte-requires-5 : tie.Need-put-byte-requires-5
 put-byte-requires-5 c κs = search needs
 
-add-put-u16 : tie.Need-add-put-u16
-add-put-u16 c = search needs
+add-put-u64 : tie.Need-add-put-u64
+add-put-u64 c = search needs
 
-put-u16-requires : tie.Need-put-u16-requires
-put-u16-requires c κs = search needs
+put-u64-requires : tie.Need-put-u64-requires
+put-u64-requires c κs = search needs
 
 same-length : tie.Need-same-length
 same-length c = search needs
@@ -58,7 +58,7 @@ store-value-spec =
     put-byte-requires-4
     add-put-byte-4
     put-byte-requires-5
-    add-put-u16
-    put-u16-requires
+    add-put-u64
+    put-u64-requires
     same-length
     returns)

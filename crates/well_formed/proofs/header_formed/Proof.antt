@@ -27,6 +27,9 @@ shared-slice-read-settings c = search needs
 shared-slice-read-settings-2 : tie.Need-shared-slice-read-settings-2
 shared-slice-read-settings-2 c = search needs
 
+all-zero-requires : tie.Need-all-zero-requires
+all-zero-requires c κs = search needs
+
 mul-all-zero : tie.Need-mul-all-zero
 mul-all-zero c = search needs
 
@@ -36,15 +39,15 @@ add-all-zero c = search needs
 mul-all-zero-2 : tie.Need-mul-all-zero-2
 mul-all-zero-2 c = search needs
 
-all-zero-requires : tie.Need-all-zero-requires
-all-zero-requires c κs = search needs
+all-zero-requires-2 : tie.Need-all-zero-requires-2
+all-zero-requires-2 c κs = search needs
 
 records-formed-requires : tie.Need-records-formed-requires
 records-formed-requires c κs = search needs
 
 returns-2 : tie.Need-returns-2
 returns-2 c =
-    let z = c .before .before .before .before .before .before .before in
+    let z = c .before .before .before .before .before .before .before .before in
     rw (header-records (z .before .before .before .args .s .now) _ (z .size .ensures) (omega arith)) (cc)
 
 pub header-formed-spec : {M : Type 1} → statement M
@@ -58,9 +61,10 @@ header-formed-spec =
     size-requires-2
     shared-slice-read-settings
     shared-slice-read-settings-2
+    all-zero-requires
     mul-all-zero
     add-all-zero
     mul-all-zero-2
-    all-zero-requires
+    all-zero-requires-2
     records-formed-requires
     returns-2)

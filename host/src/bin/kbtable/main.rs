@@ -42,7 +42,7 @@ Set-up that writes the bytes without asking (I is a bucket's index, or b for the
 DIRECTION):
 {}
   KEY LOCAL TARGET   64 hexadecimal digits, or ':' and fewer, filled with zeros in front: ':4' is the key 4
-  VALUE              flag:a.b.c.d:slot, as 1:10.0.0.1:7, or 0:0.0.0.0:7 for no address
+  VALUE              flag:a.b.c.d:slot, as 1:10.0.0.1:7, or 0:0.0.0.0:7 for no address; a slot is a number up to 2^64 - 1
   STATE DIRECTION    0 disconnected or 1 connected; 0 outgoing or 1 incoming; 2 for 'not given' where a '?' stands
   NOW TIMEOUT        milliseconds
   MAX_INCOMING       the most connected incoming nodes of a bucket, 0 to 16
@@ -475,8 +475,9 @@ mod tests {
                 answer(output)[31] = 0;
                 refused()
             });
-            let message = "byte 31 of the output changed; it has 74 bytes, and the call says that it wrote 0";
-            assert_eq!(output, broken(message));
+            let changed = "byte 31 of the output changed";
+            let message = format!("{changed}; it has {ANSWER_BYTES} bytes, and the call says that it wrote 0");
+            assert_eq!(output, broken(&message));
         }
     }
 

@@ -97,7 +97,7 @@ fn pattern(count: usize) -> Vec<u8> {
 mod tests {
     use super::*;
 
-    const ENTRY: usize = 41;
+    const ENTRY: usize = calls::layout::NODE;
 
     /// Lends to a call that writes whole entries of zeros and says that it wrote so many; then one byte more, if any, is changed.
     fn called(output: &mut Output, entries: usize, written: usize, more: Option<isize>) -> Result<(), String> {
@@ -141,7 +141,8 @@ mod tests {
     fn nothing_may_change_in_a_refusal() {
         let mut output = Output::new(ENTRY);
         output.lend(1, ENTRY)[0] ^= 1;
-        assert!(output.check().unwrap_err().starts_with("byte 0 of the output changed; it has 41 bytes"));
+        let message = format!("byte 0 of the output changed; it has {ENTRY} bytes");
+        assert!(output.check().unwrap_err().starts_with(&message));
     }
 
     #[test]
