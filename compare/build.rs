@@ -31,6 +31,8 @@ struct File {
     to: &'static str,
     /// Each text stands exactly once in the file.
     replace: &'static [(&'static str, &'static str)],
+    /// Each text stands exactly twice in the file.
+    twice: &'static [(&'static str, &'static str)],
     /// A file of this package that becomes the child module `access`: it reads and sets private fields.
     append: Option<&'static str>,
 }
@@ -50,6 +52,8 @@ const FILES: [File; 5] = [
                 "use crate::stand_ins::clock::Instant;\nuse std::{collections::VecDeque, time::Duration};",
             ),
         ],
+        // What the table filter counts, in update_node and in insert_or_update: not the key's own value (document 02, slip 3).
+        twice: &[("&mut self.table_iter()", "&mut access::others(self, key)")],
         append: Some("append/kbucket.rs"),
     },
     File {
@@ -57,14 +61,16 @@ const FILES: [File; 5] = [
         to: "bucket.rs",
         // Log lines go nowhere.
         replace: &[("use tracing::{debug, error};", "use crate::stand_ins::tracing::{debug, error};")],
+        twice: &[],
         append: Some("append/bucket.rs"),
     },
-    File { from: "kbucket/entry.rs", to: "entry.rs", replace: &[], append: None },
+    File { from: "kbucket/entry.rs", to: "entry.rs", replace: &[], twice: &[], append: None },
     File {
         from: "kbucket/filter.rs",
         to: "filter.rs",
         // The value (address and slot) in the place of a node record.
         replace: &[("use crate::Enr;", "use crate::stand_ins::Value as Enr;")],
+        twice: &[],
         append: None,
     },
     File {
@@ -76,6 +82,7 @@ const FILES: [File; 5] = [
             // A 256-bit number.
             ("use uint::construct_uint;", "use crate::stand_ins::uint::construct_uint;"),
         ],
+        twice: &[],
         append: None,
     },
 ];
@@ -144,10 +151,12 @@ fn proved_library() {
 fn substituted(file: &File, source: &Path, package: &Path) -> String {
     let path = source.join(file.from);
     let mut text = fs::read_to_string(&path).unwrap();
-    for (from, to) in file.replace {
-        let found = text.matches(from).count();
-        assert!(found == 1, "{}: stands {found} times and not once: {from}", path.display());
-        text = text.replace(from, to);
+    for (times, texts) in [(1, file.replace), (2, file.twice)] {
+        for (from, to) in texts {
+            let found = text.matches(from).count();
+            assert!(found == times, "{}: stands {found} times and not {times}: {from}", path.display());
+            text = text.replace(from, to);
+        }
     }
     if let Some(append) = file.append {
         let child = fs::read_to_string(package.join(append)).unwrap();

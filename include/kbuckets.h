@@ -193,8 +193,9 @@ enum {
  * values that were held before the pending was applied.
  *
  * The filters. A value with an address fails the table filter where the table holds 10 values of its /24 that are unequal to it, and the
- * bucket filter where its bucket holds 2. kbuckets_absent_insert and a pending that is applied are not asked the table filter, so a table
- * may hold more than 10 values of a /24. */
+ * bucket filter where its bucket holds 2; the old value of its own key is not counted. So a held key whose new value keeps the /24 of the old
+ * one passes the table filter while at most 10 are held there, its own among them. kbuckets_absent_insert and a pending that is applied are
+ * not asked the table filter, so a table may hold more than 10 values of a /24. */
 
 /* Makes the storage, whatever it held, that of an empty table. max_incoming: 0 to 16. Answers 0. Questions 1, 3, 4. */
 KBUCKETS_MUST_USE uint32_t kbuckets_new(
@@ -307,7 +308,7 @@ KBUCKETS_MUST_USE uint32_t kbuckets_take_applied_pending(uint8_t *storage, size_
  * A KEY is 64 small hexadecimal digits. The reasons:
  *
  *     none                                    the call would not fail
- *     table filter KEY ..                     the first 10 nodes that the filter counts, before a due pending is applied
+ *     table filter KEY ..                     the first 10 nodes that the filter counts, before a due pending is applied; not the key's own
  *     bucket filter KEY KEY                   the first 2 nodes that the filter counts; also of a status that insert_or_update cannot set,
  *                                             though its answer says TooManyIncoming
  *     incoming limit KEY ..                   all others connected incoming in the bucket, 0 to 16 of them

@@ -1,4 +1,4 @@
-// Reads and sets the private fields of a table, and reaches an entry without applying a pending.
+// Reads and sets the private fields of a table, reaches an entry without applying a pending, and lists all values but a key's own.
 
 use super::*;
 pub use super::bucket::{KBucket, access as bucket};
@@ -29,6 +29,17 @@ pub fn applied_pending_mut<TNodeId, TVal: Eq>(
     table: &mut KBucketsTable<TNodeId, TVal>,
 ) -> &mut VecDeque<AppliedPending<TNodeId, TVal>> {
     &mut table.applied_pending
+}
+
+/// `KBucketsTable::table_iter` without the value of the key: what the table filter is given here (document 02, slip 3).
+pub fn others<'a, TNodeId: Clone, TVal: Eq>(
+    table: &'a KBucketsTable<TNodeId, TVal>,
+    key: &'a Key<TNodeId>,
+) -> impl Iterator<Item = &'a TVal> {
+    table
+        .buckets
+        .iter()
+        .flat_map(move |bucket| bucket.iter().filter(move |n| n.key != *key).map(|n| &n.value))
 }
 
 /// `KBucketsTable::entry` without applying the bucket's pending.

@@ -70,6 +70,26 @@ fn updates() -> Result<(), Refusal> {
     Ok(())
 }
 
+/// A member of a /24 signs its record anew: kept with ten held there, its own among them, and lost with eleven, by the ten others.
+#[test]
+fn own_old_record() -> Result<(), Refusal> {
+    let mut table = KBucketsTable::new([0; 32], Settings { table_filter: true, ..Settings::default() })?;
+    let member = |last| key(128, last);
+    for last in 1..=10 {
+        assert_eq!(table.insert_or_update(&member(last), value(last), CONNECTED, 0)?, InsertResult::Inserted);
+    }
+    let anew = |slot| Value { slot, ..value(3) };
+    assert_eq!(table.update_node(&member(3), anew(1), None, 0)?, UpdateResult::Updated);
+    assert_eq!(table.insert_or_update(&member(3), anew(2), CONNECTED, 0)?, InsertResult::ValueUpdated);
+    assert_eq!(table.absent_insert(&member(11), value(11), CONNECTED, 0)?, BucketInsertResult::Inserted);
+    let others: Vec<_> = (1..=11).filter(|last| *last != 3).map(member).collect();
+    let call = PeerCall::UpdateNode { key: member(3), value: anew(3), state: None, now: 0 };
+    assert_eq!(*table.explain(&call)?.reason(), Reason::TableFilter(others));
+    assert_eq!(table.update_node(&member(3), anew(3), None, 0)?, UpdateResult::Failed(FailureReason::TableFilter));
+    assert_eq!(table.entry(&member(3), 0)?, Entry::Absent);
+    Ok(())
+}
+
 /// Each call is explained before it is made; the line is read back, and the table stays.
 #[test]
 fn explanations() -> Result<(), Refusal> {

@@ -69,9 +69,10 @@ impl HeldTable {
         match answer {
             "false" | "Failed(KeyNonExistent)" => Reason("no such key", Vec::new()),
             "Failed(TableFilter)" => {
-                // The filter runs before a due pending is applied, and sees the key's own old value.
+                // The filter runs before a due pending is applied, and does not see the key's own old value (02, slip 3).
                 let held = access::buckets(&self.table).iter().flat_map(access::bucket::nodes);
-                Reason("table filter", counted(&peer.value.unwrap(), held, TABLE_LIMIT))
+                let others = held.filter(|node| node.key != peer.key);
+                Reason("table filter", counted(&peer.value.unwrap(), others, TABLE_LIMIT))
             }
             "Failed(BucketFilter)"
             | "FailedFilter"

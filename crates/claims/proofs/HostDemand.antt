@@ -107,6 +107,14 @@ read-step (Call.list l n now out) t bs h f g =
     (list-read l n now out (bytesOf t) bs)
 read-step Call.takeAppliedPending t bs h f g = read-other Call.takeAppliedPending t bs refl f g
 
+-- what the host reads of a call that was carried out on the bytes of a table
+pub host-reads : (c : Call) (t : Table) {code : ℕ} {r out′ : List ℕ} → FitsCall c → Fits t → Answered c (bytesOf t) code r out′
+    → answerOf c code out′ ≡ step c t .answer
+host-reads c t {out′ = out′} h f x =
+    let o = step-bytes c t h f in
+    ap (λ (n : ℕ). answerOf c n out′) (x .code-is ∙ ap answerCode (o .answer))
+    ∙ read-step c t out′ h f (λ w. subst (λ (y : Answer). Front out′ (answerBytes y)) (o .answer) (x .front w))
+
 -- the calls that were not refused for want of room come to the model's steps, and the log is as if it was fed those alone
 pub record HostFollowed (t : Table) (es : List Entry) (s′ : List ℕ) : Type 0 where
   pub calls : List Call
@@ -124,9 +132,7 @@ one-followed c t s code r out′ es s′ h f e rest (inl x) =
     let o = step-bytes c t h f in
     let g = step-fits c t h f in
     let left : r ≡ bytesOf (step c t .table) = x .storage ∙ o .storage in
-    let read : a ≡ step c t .answer =
-    ap (λ (n : ℕ). answerOf c n out′) (x .code-is ∙ ap answerCode (o .answer))
-    ∙ read-step c t out′ h f (λ w. subst (λ (y : Answer). Front out′ (answerBytes y)) (o .answer) (x .front w)) in
+    let read : a ≡ step c t .answer = host-reads c t h f x in
     let k = rest (step c t .table) g left in
     record {
       calls = c ∷ k .calls;

@@ -1,5 +1,5 @@
 -- Demands 1 and 3 for the code, and the answers that each call can give; the same for a host, on codes and bytes. Every call of the code is
--- such a run: EntryPoints, HostFunctions.
+-- such a run: EntryPoints, HostFunctions. The promise of a member's own old record, for both.
 pub mod Returns
 pub mod EntryPoints
 pub mod HostFunctions
@@ -13,3 +13,4 @@ pub mod Codes
 pub mod Exports
 pub mod Reading
 pub mod HostDemand
+pub mod OwnRecord

@@ -8,7 +8,7 @@ use Rattle.model.specs.Base.{same, isSome}
 use Rattle.model.specs.Bytes.{number}
 use Rattle.model.specs.Node.{Node, PendingNode, AppliedPending, withStatus, withValue, sameStatus, promotes}
 use Rattle.model.specs.Value.{Value, sameValue}
-use Rattle.model.specs.Result.{FailureReason, BucketInsertResult, UpdateResult, isFailed}
+use Rattle.model.specs.Result.{FailureReason, BucketInsertResult, UpdateResult, InsertResult, isFailed}
 use Rattle.model.specs.Bucket.{Bucket, BucketSettings, holds, get, failsBucketFilter, isMaxIncoming, takeOut, insert, reinsert, takenOut, statusResult, updateIfPending, updateStatusOf, updateStatus, updateValueOf, updateValue}
 use Rattle.model.specs.Table.{Table, EntryKind, Answer, failsTableFilter, kindOf, kindIn, indexIn, bothUpdates, insertUpdates, inserts, thenStatus, updateNodeIn, insertOrUpdateIn}
 use Rattle.model.specs.Call.{Call, KeyCall, isOne, optional, valueOf}
@@ -101,67 +101,72 @@ status-listed s k u d b = any-status statusUpdates s k u d b refl refl refl refl
 pub value-listed : (s : BucketSettings) (k : ℕ) (v : Value) (b : Bucket) → valueUpdates (updateValue s k v b .0) ≡ true
 value-listed s k v b = any-value valueUpdates s k v b refl refl refl refl refl
 
--- update_node: either step's failure, or none
-both : (v r : UpdateResult) → nodeUpdates v ≡ true → nodeUpdates r ≡ true → nodeUpdates (bothUpdates v r) ≡ true
-both v (UpdateResult.Failed r) h g = g
-both (UpdateResult.Failed r) UpdateResult.UpdatedAndPromoted h g = h
-both (UpdateResult.Failed r) UpdateResult.Updated h g = h
-both (UpdateResult.Failed r) UpdateResult.UpdatedPending h g = h
-both (UpdateResult.Failed r) UpdateResult.NotModified h g = h
-both UpdateResult.Updated UpdateResult.UpdatedAndPromoted h g = refl
-both UpdateResult.Updated UpdateResult.Updated h g = refl
-both UpdateResult.Updated UpdateResult.UpdatedPending h g = refl
-both UpdateResult.Updated UpdateResult.NotModified h g = refl
-both UpdateResult.UpdatedAndPromoted UpdateResult.UpdatedAndPromoted h g = refl
-both UpdateResult.UpdatedAndPromoted UpdateResult.Updated h g = refl
-both UpdateResult.UpdatedAndPromoted UpdateResult.UpdatedPending h g = refl
-both UpdateResult.UpdatedAndPromoted UpdateResult.NotModified h g = refl
-both UpdateResult.UpdatedPending UpdateResult.UpdatedAndPromoted h g = refl
-both UpdateResult.UpdatedPending UpdateResult.Updated h g = refl
-both UpdateResult.UpdatedPending UpdateResult.UpdatedPending h g = refl
-both UpdateResult.UpdatedPending UpdateResult.NotModified h g = refl
-both UpdateResult.NotModified UpdateResult.UpdatedAndPromoted h g = refl
-both UpdateResult.NotModified UpdateResult.Updated h g = refl
-both UpdateResult.NotModified UpdateResult.UpdatedPending h g = refl
-both UpdateResult.NotModified UpdateResult.NotModified h g = refl
-
 -- an answer of a call on one key, beside its bucket
 abbrev Holds : (Answer → Bool) → Answer × Bucket → Type 0
 Holds q r = q (r .0) ≡ true
 
-abbrev ofNode : Answer → Bool
-ofNode a = among (Listed.onKey (kinds false false nodeUpdates no no)) a
+-- a test of answers that what the two steps of update_node answer passes
+pub record OfNode (q : Answer → Bool) : Type 0 where
+  pub not-modified : q (Answer.Update UpdateResult.NotModified) ≡ true
+  pub updated : q (Answer.Update UpdateResult.Updated) ≡ true
+  pub promoted : q (Answer.Update UpdateResult.UpdatedAndPromoted) ≡ true
+  pub pending : q (Answer.Update UpdateResult.UpdatedPending) ≡ true
+  pub too-many : q (Answer.Update (UpdateResult.Failed FailureReason.TooManyIncoming)) ≡ true
+  pub filtered : q (Answer.Update (UpdateResult.Failed FailureReason.BucketFilter)) ≡ true
+  pub no-key : q (Answer.Update (UpdateResult.Failed FailureReason.KeyNonExistent)) ≡ true
 
-then-status : (s : BucketSettings) (k : ℕ) (o : Option Bool) (v : UpdateResult) (b : Bucket) → nodeUpdates v ≡ true → ofNode (thenStatus s k o v b .0) ≡ true
-then-status s k none v b h = h
-then-status s k (some u) v b h = both v (updateStatus s k u none b .0) h (any-status nodeUpdates s k u none b refl refl refl refl refl refl refl)
+module _ (q : Answer → Bool) (w : OfNode q) where
+  abbrev passes : UpdateResult → Bool
+  passes r = q (Answer.Update r)
 
-update-node : (s : BucketSettings) (fails : Bool) (now k : ℕ) (v : Value) (o : Option Bool) (b : Bucket) → ofNode (updateNodeIn s fails now k v o b .0) ≡ true
-update-node s fails now k v o b =
-    let r = updateValue s k v b in
-    let h = any-value nodeUpdates s k v b refl refl refl refl refl in
-    cases (Holds ofNode) fails (λ _. refl) (λ _. cases (Holds ofNode) (isFailed (r .0)) (λ _. h) (λ _. then-status s k o (r .0) (r .1) h))
+  -- either step's failure, or none
+  both : (v r : UpdateResult) → passes v ≡ true → passes r ≡ true → passes (bothUpdates v r) ≡ true
+  both v (UpdateResult.Failed r) h g = g
+  both (UpdateResult.Failed r) UpdateResult.UpdatedAndPromoted h g = h
+  both (UpdateResult.Failed r) UpdateResult.Updated h g = h
+  both (UpdateResult.Failed r) UpdateResult.UpdatedPending h g = h
+  both (UpdateResult.Failed r) UpdateResult.NotModified h g = h
+  both UpdateResult.Updated UpdateResult.UpdatedAndPromoted h g = g
+  both UpdateResult.Updated UpdateResult.Updated h g = g
+  both UpdateResult.Updated UpdateResult.UpdatedPending h g = g
+  both UpdateResult.Updated UpdateResult.NotModified h g = h
+  both UpdateResult.UpdatedAndPromoted UpdateResult.UpdatedAndPromoted h g = g
+  both UpdateResult.UpdatedAndPromoted UpdateResult.Updated h g = g
+  both UpdateResult.UpdatedAndPromoted UpdateResult.UpdatedPending h g = g
+  both UpdateResult.UpdatedAndPromoted UpdateResult.NotModified h g = w .updated
+  both UpdateResult.UpdatedPending UpdateResult.UpdatedAndPromoted h g = g
+  both UpdateResult.UpdatedPending UpdateResult.Updated h g = h
+  both UpdateResult.UpdatedPending UpdateResult.UpdatedPending h g = g
+  both UpdateResult.UpdatedPending UpdateResult.NotModified h g = h
+  both UpdateResult.NotModified UpdateResult.UpdatedAndPromoted h g = g
+  both UpdateResult.NotModified UpdateResult.Updated h g = g
+  both UpdateResult.NotModified UpdateResult.UpdatedPending h g = g
+  both UpdateResult.NotModified UpdateResult.NotModified h g = g
 
--- insert_or_update on a held key
-updated : (v r : UpdateResult) → heldValues v ≡ true → presentUpdates r ≡ true → isFailed r ≡ false → insertResults (insertUpdates v r) ≡ true
-updated UpdateResult.Updated UpdateResult.Updated h g f = refl
-updated UpdateResult.Updated UpdateResult.UpdatedAndPromoted h g f = refl
-updated UpdateResult.Updated UpdateResult.UpdatedPending h g f = clash g refl
-updated UpdateResult.Updated (UpdateResult.Failed x) h g f = clash refl f
-updated UpdateResult.Updated UpdateResult.NotModified h g f = refl
-updated UpdateResult.NotModified UpdateResult.Updated h g f = refl
-updated UpdateResult.NotModified UpdateResult.UpdatedAndPromoted h g f = refl
-updated UpdateResult.NotModified UpdateResult.UpdatedPending h g f = clash g refl
-updated UpdateResult.NotModified (UpdateResult.Failed x) h g f = clash refl f
-updated UpdateResult.NotModified UpdateResult.NotModified h g f = refl
-updated UpdateResult.UpdatedAndPromoted r h g f = clash h refl
-updated UpdateResult.UpdatedPending r h g f = clash h refl
-updated (UpdateResult.Failed FailureReason.TooManyIncoming) r h g f = refl
-updated (UpdateResult.Failed FailureReason.BucketFilter) r h g f = refl
-updated (UpdateResult.Failed FailureReason.TableFilter) r h g f = refl
-updated (UpdateResult.Failed FailureReason.KeyNonExistent) r h g f = clash h refl
-updated (UpdateResult.Failed FailureReason.BucketFull) r h g f = refl
-updated (UpdateResult.Failed FailureReason.InvalidSelfUpdate) r h g f = refl
+  then-status : (s : BucketSettings) (k : ℕ) (o : Option Bool) (v : UpdateResult) (b : Bucket) → passes v ≡ true → q (thenStatus s k o v b .0) ≡ true
+  then-status s k none v b h = h
+  then-status s k (some u) v b h =
+      both v (updateStatus s k u none b .0) h
+      (any-status passes s k u none b (w .not-modified) (w .updated) (w .promoted) (w .pending) (w .too-many) (w .filtered) (w .no-key))
+
+  -- update_node: TableFilter only where the table filter fails
+  pub update-node : (s : BucketSettings) (fails : Bool) → (fails ≡ true → passes (UpdateResult.Failed FailureReason.TableFilter) ≡ true)
+      → (now k : ℕ) (v : Value) (o : Option Bool) (b : Bucket) → q (updateNodeIn s fails now k v o b .0) ≡ true
+  update-node s fails f now k v o b =
+      let r = updateValue s k v b in
+      let h = any-value passes s k v b (w .not-modified) (w .updated) (w .pending) (w .filtered) (w .no-key) in
+      cases (Holds q) fails f (λ _. cases (Holds q) (isFailed (r .0)) (λ _. h) (λ _. then-status s k o (r .0) (r .1) h))
+
+-- a test of answers that what insert_or_update answers passes
+pub record OfInsert (q : Answer → Bool) : Type 0 where
+  pub inserted : q (Answer.InsertOrUpdate InsertResult.Inserted) ≡ true
+  pub pending : (k : ℕ) → q (Answer.InsertOrUpdate (InsertResult.Pending k)) ≡ true
+  pub status-updated : (p : Bool) → q (Answer.InsertOrUpdate (InsertResult.StatusUpdated p)) ≡ true
+  pub value-updated : q (Answer.InsertOrUpdate InsertResult.ValueUpdated) ≡ true
+  pub updated : (p : Bool) → q (Answer.InsertOrUpdate (InsertResult.Updated p)) ≡ true
+  pub too-many : q (Answer.InsertOrUpdate (InsertResult.Failed FailureReason.TooManyIncoming)) ≡ true
+  pub filtered : q (Answer.InsertOrUpdate (InsertResult.Failed FailureReason.BucketFilter)) ≡ true
+  pub full : q (Answer.InsertOrUpdate (InsertResult.Failed FailureReason.BucketFull)) ≡ true
 
 -- an insert of a key that is not held
 new-key : (r : BucketInsertResult) → (r ≡ BucketInsertResult.NodeExists → ⊥) → absentInserts r ≡ true
@@ -172,39 +177,78 @@ new-key BucketInsertResult.TooManyIncoming f = refl
 new-key BucketInsertResult.Full f = refl
 new-key BucketInsertResult.NodeExists f = absurd (f refl)
 
-inserted : (r : BucketInsertResult) → absentInserts r ≡ true → insertResults (inserts r) ≡ true
-inserted BucketInsertResult.Inserted h = refl
-inserted (BucketInsertResult.Pending k) h = refl
-inserted BucketInsertResult.FailedFilter h = refl
-inserted BucketInsertResult.TooManyIncoming h = refl
-inserted BucketInsertResult.Full h = refl
-inserted BucketInsertResult.NodeExists h = clash h refl
-
 new-insert : (s : BucketSettings) (now : ℕ) (n : Node) (b : Bucket) → holds (n .key) b ≡ false → absentInserts (insert s now n b .0) ≡ true
 new-insert s now n b h = new-key (insert s now n b .0) (absent-not-exists s now n b h)
 
-abbrev ofInsert : Answer → Bool
-ofInsert a = among (Listed.onKey (kinds false false no insertResults no)) a
+module _ (q : Answer → Bool) (w : OfInsert q) where
+  abbrev accepts : InsertResult → Bool
+  accepts r = q (Answer.InsertOrUpdate r)
 
-insert-or-update : (s : BucketSettings) (fails : Bool) (now : ℕ) (n : Node) (b : Bucket) → ofInsert (insertOrUpdateIn s fails now n b .0) ≡ true
-insert-or-update s fails now n b =
-    let r = updateStatus s (n .key) (n .connected) (some (n .incoming)) b in
-    cases (Holds ofInsert) fails (λ _. refl)
-    (λ _. cases (Holds ofInsert) (holds (n .key) b)
-    (λ h. cases (Holds ofInsert) (isFailed (r .0)) (λ _. refl)
-    (λ f. updated (updateValue s (n .key) (n .value) (r .1) .0) (r .0)
-    (held-value s (n .key) (n .value) (r .1) (present-stays s (n .key) (n .connected) (some (n .incoming)) b h f))
-    (held-status s (n .key) (n .connected) (some (n .incoming)) b h) f))
-    (λ h. inserted (insert s now n b .0) (new-insert s now n b h)))
+  -- on a held key
+  updated : (v r : UpdateResult) → heldValues v ≡ true → presentUpdates r ≡ true → isFailed r ≡ false → accepts (insertUpdates v r) ≡ true
+  updated UpdateResult.Updated UpdateResult.Updated h g f = w .updated false
+  updated UpdateResult.Updated UpdateResult.UpdatedAndPromoted h g f = w .updated true
+  updated UpdateResult.Updated UpdateResult.UpdatedPending h g f = clash g refl
+  updated UpdateResult.Updated (UpdateResult.Failed x) h g f = clash refl f
+  updated UpdateResult.Updated UpdateResult.NotModified h g f = w .value-updated
+  updated UpdateResult.NotModified UpdateResult.Updated h g f = w .status-updated false
+  updated UpdateResult.NotModified UpdateResult.UpdatedAndPromoted h g f = w .status-updated true
+  updated UpdateResult.NotModified UpdateResult.UpdatedPending h g f = clash g refl
+  updated UpdateResult.NotModified (UpdateResult.Failed x) h g f = clash refl f
+  updated UpdateResult.NotModified UpdateResult.NotModified h g f = w .updated false
+  updated UpdateResult.UpdatedAndPromoted r h g f = clash h refl
+  updated UpdateResult.UpdatedPending r h g f = clash h refl
+  updated (UpdateResult.Failed FailureReason.TooManyIncoming) r h g f = clash h refl
+  updated (UpdateResult.Failed FailureReason.BucketFilter) r h g f = w .filtered
+  updated (UpdateResult.Failed FailureReason.TableFilter) r h g f = clash h refl
+  updated (UpdateResult.Failed FailureReason.KeyNonExistent) r h g f = clash h refl
+  updated (UpdateResult.Failed FailureReason.BucketFull) r h g f = clash h refl
+  updated (UpdateResult.Failed FailureReason.InvalidSelfUpdate) r h g f = clash h refl
+
+  -- on a key that is not held
+  inserted : (r : BucketInsertResult) → absentInserts r ≡ true → accepts (inserts r) ≡ true
+  inserted BucketInsertResult.Inserted h = w .inserted
+  inserted (BucketInsertResult.Pending k) h = w .pending k
+  inserted BucketInsertResult.FailedFilter h = w .filtered
+  inserted BucketInsertResult.TooManyIncoming h = w .too-many
+  inserted BucketInsertResult.Full h = w .full
+  inserted BucketInsertResult.NodeExists h = clash h refl
+
+  -- insert_or_update: TableFilter only where the table filter fails
+  pub insert-or-update : (s : BucketSettings) (fails : Bool) → (fails ≡ true → accepts (InsertResult.Failed FailureReason.TableFilter) ≡ true)
+      → (now : ℕ) (n : Node) (b : Bucket) → q (insertOrUpdateIn s fails now n b .0) ≡ true
+  insert-or-update s fails t now n b =
+      let r = updateStatus s (n .key) (n .connected) (some (n .incoming)) b in
+      cases (Holds q) fails t
+      (λ _. cases (Holds q) (holds (n .key) b)
+      (λ h. cases (Holds q) (isFailed (r .0)) (λ _. w .too-many)
+      (λ f. updated (updateValue s (n .key) (n .value) (r .1) .0) (r .0)
+      (held-value s (n .key) (n .value) (r .1) (present-stays s (n .key) (n .connected) (some (n .incoming)) b h f))
+      (held-status s (n .key) (n .connected) (some (n .incoming)) b h) f))
+      (λ h. inserted (insert s now n b .0) (new-insert s now n b h)))
+
+-- the answers that are listed for the two calls
+abbrev listedNode : Answer → Bool
+listedNode a = among (Listed.onKey (kinds false false nodeUpdates no no)) a
+
+abbrev listedInsert : Answer → Bool
+listedInsert a = among (Listed.onKey (kinds false false no insertResults no)) a
+
+of-node : OfNode listedNode
+of-node = record { not-modified = refl; updated = refl; promoted = refl; pending = refl; too-many = refl; filtered = refl; no-key = refl }
+
+of-insert : OfInsert listedInsert
+of-insert =
+    record { inserted = refl; pending = λ k. refl; status-updated = λ p. refl; value-updated = refl; updated = λ p. refl; too-many = refl; filtered = refl; full = refl }
 
 -- what a call on one key answers, of the key's bucket and of the local key
 effect-listed : (c : KeyCall) (k : List ℕ) (t : Table) (i : ℕ) (b : Bucket) → keyArguments c .kind (kindOf (number k) b) ≡ true
     → among (Listed.onKey (keyKinds c)) (effect c k t i b .answer) ≡ true
 effect-listed (KeyCall.updateNodeStatus st dr now) k t i b h = status-listed (t .settings .bucket) (number k) (isOne st) (optional dr) _
 effect-listed (KeyCall.updateNode v st now) k t i b h =
-    update-node (t .settings .bucket) (failsTableFilter t i (number k) (valueOf v)) now (number k) (valueOf v) (optional st) _
+    update-node listedNode of-node (t .settings .bucket) (failsTableFilter t i (number k) (valueOf v)) (λ _. refl) now (number k) (valueOf v) (optional st) _
 effect-listed (KeyCall.insertOrUpdate v st dr now) k t i b h =
-    insert-or-update (t .settings .bucket) (failsTableFilter t i (number k) (valueOf v)) now (nodeOf k v st dr) _
+    insert-or-update listedInsert of-insert (t .settings .bucket) (failsTableFilter t i (number k) (valueOf v)) (λ _. refl) now (nodeOf k v st dr) _
 effect-listed (KeyCall.remove now) k t i b h = refl
 effect-listed (KeyCall.entry now) k t i b h = refl
 effect-listed (KeyCall.presentUpdate st dr) k t i b h = held-status (t .settings .bucket) (number k) (isOne st) (optional dr) b (present-held (number k) b h)

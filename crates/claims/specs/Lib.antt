@@ -1,4 +1,5 @@
--- The answers that each call can give; what demands 1 and 3 are stated with, for the code and for a host; that every call returns.
+-- The answers that each call can give; what demands 1 and 3 are stated with, for the code and for a host; that every call returns; the promise
+-- of a member's own old record.
 pub mod Listed
 pub mod Ran
 pub mod Runs
@@ -6,3 +7,4 @@ pub mod Returns
 pub mod EntryPoints
 pub mod Exports
 pub mod HostFunctions
+pub mod OwnRecord

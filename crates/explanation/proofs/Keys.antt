@@ -15,9 +15,9 @@ use Rattle.model.specs.Value.{Value}
 use Rattle.model.specs.Filter.{counted}
 use Rattle.model.specs.Table.{heldNodes}
 use Rattle.model.specs.Explain.{space, keyText, keysText, keysOf, filterKeys}
-use Rattle.laws.proofs.Tests.{split}
 use Rattle.laws.proofs.All.{all-any}
 use Rattle.laws.proofs.Lists.{joined-append, length-joined, tabulate-one-more}
+use Rattle.laws.proofs.KeepLists.{select-append}
 use Rattle.laws.proofs.Join.{take-append}
 use Rattle.node.specs.declared.Node.{Node}
 use Rattle.node.specs.Node.{nodeOf}
@@ -82,10 +82,6 @@ key-put {o} {t} r k e p f h =
     }
 
 -- keys of the nodes that pass a test
-
-select-append : {A : Type 0} (p : A → Bool) (xs ys : List A) → select p (xs ++ ys) ≡ select p xs ++ select p ys
-select-append p [] ys = refl
-select-append p (x ∷ xs) ys = split (p x) (λ e. rw (e, select-append p xs ys)) (λ e. rw (e, select-append p xs ys))
 
 module _ (p : model.Node → Bool) where
   -- of two lists, one behind the other

@@ -13,7 +13,7 @@ use Rattle.model.specs.Node.{Node, connectedIncoming}
 use Rattle.model.specs.Filter.{counted, maxNodesPerSubnetTable, maxNodesPerSubnetBucket}
 use Rattle.model.specs.Result.{FailureReason}
 use Rattle.model.specs.Bucket.{Bucket, nodes, incomingNodes}
-use Rattle.model.specs.Table.{numBuckets, heldNodes}
+use Rattle.model.specs.Table.{otherNodes}
 use Rattle.model.specs.Explain.{Told, Explanation, space, lineFeed, toldText, failureText, flagText, reasonText, reasonKeys, keysOf, keysText, filterKeys, line}
 use Rattle.laws.proofs.Tests.{split}
 use Rattle.key.specs.Key.{num}
@@ -80,7 +80,7 @@ incoming-text b h p q l =
 reason-short : (bs : ℕ → Bucket) (b : Bucket) (v : Value) (r : declared.Reason) → length (nodes b) ≤ 16 → length (whyText (reasonOf bs b v r)) ≤ 1054
 unfolding whyText
 reason-short bs b v reason.None h = rw keys-text-none (omega arith)
-reason-short bs b v reason.TableFilter h = let ks : List ℕ = filterKeys maxNodesPerSubnetTable v (heldNodes numBuckets bs) in omega (arith, length-keys-text ks, filter-few maxNodesPerSubnetTable v (heldNodes numBuckets bs))
+reason-short bs b v (reason.TableFilter k) h = let ks : List ℕ = filterKeys maxNodesPerSubnetTable v (otherNodes (num k) bs) in omega (arith, length-keys-text ks, filter-few maxNodesPerSubnetTable v (otherNodes (num k) bs))
 reason-short bs b v reason.BucketFilter h = let ks : List ℕ = filterKeys maxNodesPerSubnetBucket v (nodes b) in omega (arith, length-keys-text ks, filter-few maxNodesPerSubnetBucket v (nodes b))
 reason-short bs b v reason.IncomingLimit h = let ks : List ℕ = keysOf (incomingNodes (nodes b)) in omega (arith, length-keys-text ks, incoming-few b h)
 reason-short bs b v reason.NewcomerDisconnected h = rw keys-text-none (omega arith)

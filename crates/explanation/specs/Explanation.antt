@@ -35,7 +35,7 @@ toldOf (told.Removed r) = explain.Told.Removed r
 -- the reason with its keys: bs is the table's buckets, for the table filter; b and v are the bucket and the value that were tested
 abbrev pub reasonOf : (ℕ → Bucket) → Bucket → model.Value → Reason → explain.Reason
 reasonOf bs b v reason.None = explain.Reason.None
-reasonOf bs b v reason.TableFilter = tableFilterReason v bs
+reasonOf bs b v (reason.TableFilter k) = tableFilterReason (num k) v bs
 reasonOf bs b v reason.BucketFilter = bucketFilterReason v b
 reasonOf bs b v reason.IncomingLimit = incomingLimitReason b
 reasonOf bs b v reason.NewcomerDisconnected = explain.Reason.NewcomerDisconnected

@@ -8,10 +8,12 @@ use Rattle.model.specs.Bytes.{splice}
 use Rattle.model.specs.Node.{Node, connectedIncoming}
 use Rattle.model.specs.Filter.{counts}
 use Rattle.model.specs.Explain.{keysText}
+use Rattle.key.specs.Key.{num}
 use Rattle.node.specs.Node.{valueOf}
+use Rattle.table_filter.specs.Counted.{countsOther}
 use Rattle.explanation.specs.declared.Room.{Room}
 use Rattle.explanation.specs.declared.Test.{Test}
-use Rattle.explanation.specs.declared.Test.the-variants.{Counts, Incoming}
+use Rattle.explanation.specs.declared.Test.the-variants.{Counts, CountsOther, Incoming}
 
 -- 02: a key is 64 digits; one space stands in front of it
 abbrev pub keyTextSize : ℕ
@@ -43,4 +45,5 @@ pub record PutKeys (ks o : List ℕ) (r : Room) (u : List ℕ) (q : Room) : Type
 -- a reason names the node
 abbrev pub passes : Test → Node → Bool
 passes (Counts v) n = counts (valueOf v) (n .value)
+passes (CountsOther k v) n = countsOther (num k) (valueOf v) n
 passes Incoming n = connectedIncoming n

@@ -49,10 +49,10 @@ pub enum Told {
     Removed(bool),
 }
 
-// The reason, without the keys behind it but for the pending's.
+// The reason, without the keys behind it but for the pending's. The table filter's key is the call's: its own node is not counted.
 pub enum Reason {
     None,
-    TableFilter,
+    TableFilter(Key),
     BucketFilter,
     IncomingLimit,
     NewcomerDisconnected,
@@ -69,9 +69,10 @@ pub struct Why {
     pub value: Value,
 }
 
-// The nodes that a reason names: those that count against a value, or those connected incoming.
+// The nodes that a reason names: those that count against a value, the same but for a key's own, or those connected incoming.
 enum Test {
     Counts(Value),
+    CountsOther(Key, Value),
     Incoming,
 }
 
@@ -238,6 +239,9 @@ fn passes(test: Test, node: Node) -> bool
 {
     match test {
         Test::Counts(value) => node::filter::counts(value, node.value),
+        Test::CountsOther(key, value) => {
+            node::filter::counts(value, node.value) & !node.key.eq(key)
+        }
         Test::Incoming => node.is_connected_incoming(),
     }
 }
@@ -314,18 +318,18 @@ fn put_table(s: &[u8], out: &mut [u8], room: Room, test: Test) -> Room
     next
 }
 
-// The table filter as a reason, put at `at`.
-fn put_table_filter(s: &[u8], out: &mut [u8], at: usize, value: Value) -> usize
+// The table filter as a reason, put at `at`: the nodes that it counts for the value of the key.
+fn put_table_filter(s: &[u8], out: &mut [u8], at: usize, key: Key, value: Value) -> usize
     requires { ⌜ (length (now s) ≡ storageSize) × (formed (now s) ≡ true) ⌝ }
     requires { ⌜ (at ≤ longestTold + 1) × (explanationRoom ≤ length (now out)) ⌝ }
-    ensures { λ r. ⌜ Put (whyText (tableFilterReason (valueOf value) (tableOf (now (s .entry)) .buckets))) (now (out .entry)) at (now (out .exit)) r ⌝ }
+    ensures { λ r. ⌜ Put (whyText (tableFilterReason (num key) (valueOf value) (tableOf (now (s .entry)) .buckets))) (now (out .entry)) at (now (out .exit)) r ⌝ }
 {
     let next = put_word(out, at, b"table filter");
     let room = Room {
         at: next,
         left: node::filter::MAX_NODES_PER_SUBNET_TABLE,
     };
-    let end = put_table(s, out, room, Test::Counts(value));
+    let end = put_table(s, out, room, Test::CountsOther(key, value));
     end.at
 }
 
@@ -382,7 +386,7 @@ fn put_why(s: &[u8], out: &mut [u8], at: usize, why: Why) -> usize
     let value = why.value;
     match reason {
         Reason::None => put_word(out, at, b"none"),
-        Reason::TableFilter => put_table_filter(s, out, at, value),
+        Reason::TableFilter(key) => put_table_filter(s, out, at, key, value),
         Reason::BucketFilter => put_bucket_filter(out, at, bucket, value),
         Reason::IncomingLimit => put_incoming_limit(out, at, bucket),
         Reason::NewcomerDisconnected => put_word(out, at, b"newcomer disconnected"),

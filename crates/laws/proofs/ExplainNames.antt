@@ -16,7 +16,7 @@ use Rattle.model.specs.Node.{Node, PendingNode, connectedIncoming, withStatus}
 use Rattle.model.specs.Filter.{counts, counted, ipFilterFails, maxNodesPerSubnetTable, maxNodesPerSubnetBucket}
 use Rattle.model.specs.Result.{isFailed}
 use Rattle.model.specs.Bucket.{Bucket, BucketSettings, nodes, get, holds, isFull, failsBucketFilter, incomingNodes, isMaxIncoming, takeOut, takenOut, updateStatus, updateValue}
-use Rattle.model.specs.Table.{Table, numBuckets, heldNodes, isDuplicate, failsTableFilter, indexIn}
+use Rattle.model.specs.Table.{Table, otherNodes, isDuplicate, failsTableFilter, indexIn}
 use Rattle.model.specs.Call.{KeyCall, isOne, optional, valueOf}
 use Rattle.model.specs.Listing.{applied}
 use Rattle.model.specs.Step.{nodeOf}
@@ -251,12 +251,12 @@ module _ (s : BucketSettings) where
 
 -- the table filter
 table-number : (t : Table) (i k : ℕ) (v : Value) → failsTableFilter t i k v ≡ true
-    → length (filterKeys maxNodesPerSubnetTable v (heldNodes numBuckets (t .buckets))) ≡ maxNodesPerSubnetTable
+    → length (filterKeys maxNodesPerSubnetTable v (otherNodes k (t .buckets))) ≡ maxNodesPerSubnetTable
 unfolding failsTableFilter
 table-number t i k v h =
-    let f = ipFilterFails maxNodesPerSubnetTable v (heldNodes numBuckets (t .buckets)) in
+    let f = ipFilterFails maxNodesPerSubnetTable v (otherNodes k (t .buckets)) in
     let d = not (isDuplicate v (get k (t .buckets i))) in
-    filter-number maxNodesPerSubnetTable v (heldNodes numBuckets (t .buckets)) (and-right d f (and-right (t .settings .tableFilter) (d && f) h))
+    filter-number maxNodesPerSubnetTable v (otherNodes k (t .buckets)) (and-right d f (and-right (t .settings .tableFilter) (d && f) h))
 
 module _ (t : Table) (fits : Fits t) where
   applied-formed : (now i : ℕ) → Formed (t .settings .bucket .maxIncoming) (applied now t i)

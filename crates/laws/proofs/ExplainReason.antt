@@ -326,7 +326,7 @@ then-status-fits s k none v b e = stays-none v e
 then-status-fits s k (some u) v b e = both-fit v (updateStatus s k u none b .0) (statusReason s k u none b) e (status-fits s k u none b)
 
 update-node-fits : (s : BucketSettings) (f : Bool) (now k : ℕ) (v : Value) (u : Option Bool) (b : Bucket) (bs : ℕ → Bucket)
-    → Fit (told (updateNodeIn s f now k v u b .0)) (cond f (tableFilterReason v bs) (updateNodeReason s k v u b))
+    → Fit (told (updateNodeIn s f now k v u b .0)) (cond f (tableFilterReason k v bs) (updateNodeReason s k v u b))
 unfolding updateNodeReason
 update-node-fits s true now k v u b bs = refl
 update-node-fits s false now k v u b bs =
@@ -344,7 +344,7 @@ then-value-fits s n b h =
     insert-updates-fit (updateValue s (n .key) (n .value) (x .1) .0) (x .0) (valueReason s (n .key) (n .value) (x .1)) e (value-fits s (n .key) (n .value) (x .1))))
 
 insert-or-update-fits : (s : BucketSettings) (f : Bool) (now : ℕ) (n : Node) (b : Bucket) (bs : ℕ → Bucket)
-    → Fit (told (insertOrUpdateIn s f now n b .0)) (cond f (tableFilterReason (n .value) bs) (insertOrUpdateReason s n b))
+    → Fit (told (insertOrUpdateIn s f now n b .0)) (cond f (tableFilterReason (n .key) (n .value) bs) (insertOrUpdateReason s n b))
 unfolding insertOrUpdateReason
 insert-or-update-fits s true now n b bs = refl
 insert-or-update-fits s false now n b bs =

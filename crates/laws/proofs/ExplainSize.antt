@@ -13,7 +13,7 @@ use Rattle.model.specs.Node.{Node, PendingNode, connectedIncoming, withStatus}
 use Rattle.model.specs.Filter.{counts, counted, maxNodesPerSubnetTable, maxNodesPerSubnetBucket}
 use Rattle.model.specs.Result.{FailureReason, BucketInsertResult, UpdateResult, isFailed}
 use Rattle.model.specs.Bucket.{Bucket, BucketSettings, maxNodesPerBucket, nodes, get, holds, isFull, failsBucketFilter, incomingNodes, isMaxIncoming, takeOut, takenOut, insertFull, insert, updateStatus, updateValue}
-use Rattle.model.specs.Table.{Table, Answer, numBuckets, heldNodes, failsTableFilter, bothUpdates, thenStatus, updateNodeIn, insertUpdates, inserts, thenValue, insertOrUpdateIn, indexIn}
+use Rattle.model.specs.Table.{Table, Answer, numBuckets, heldNodes, otherNodes, failsTableFilter, bothUpdates, thenStatus, updateNodeIn, insertUpdates, inserts, thenValue, insertOrUpdateIn, indexIn}
 use Rattle.model.specs.Sizes.{keySize}
 use Rattle.model.specs.Call.{Call, KeyCall, isOne, optional, valueOf}
 use Rattle.model.specs.Listing.{applied}
@@ -25,6 +25,7 @@ use Rattle.laws.proofs.Tests.{clash, cases}
 use Rattle.laws.proofs.Lists.{length-joined}
 use Rattle.laws.proofs.All.{all-append, all-any, all-map, all-take, all-select, opt-map}
 use Rattle.laws.proofs.Bytes.{length-bytes}
+use Rattle.laws.proofs.KeepLists.{all-omit}
 use Rattle.laws.proofs.KeepEach.{takeOut-each, applyPending-each, updateStatus-each, updateValue-each}
 use Rattle.laws.proofs.ExplainRead.{FitsKey, toldKeys, FitsExplanation}
 use Rattle.laws.proofs.ExplainReason.{keyFits, reasonFits, reason-fits}
@@ -231,17 +232,19 @@ module _ (t : Table) (fits : Fits t) where
   applied-keys : (now i : ℕ) → KeysFit (applied now t i)
   applied-keys now i = applyPending-each KeyFits Any (t .settings .bucket) now (t .buckets i) (stored-keys i)
 
-  table-fits : (v : Value) → Fit (tableFilterReason v (t .buckets))
-  table-fits v = filter-fits maxNodesPerSubnetTable v (heldNodes numBuckets (t .buckets)) (held-fits numBuckets (t .buckets) stored-keys)
+  table-fits : (k : ℕ) (v : Value) → Fit (tableFilterReason k v (t .buckets))
+  table-fits k v =
+      filter-fits maxNodesPerSubnetTable v (otherNodes k (t .buckets))
+      (all-omit KeyFits k (heldNodes numBuckets (t .buckets)) (held-fits numBuckets (t .buckets) stored-keys))
 
   reason-at : (c : KeyCall) (k : List ℕ) (i : ℕ) → Fit (bucketReason c k t i)
   reason-at (KeyCall.updateNodeStatus st dr now) k i =
       status-fits (t .settings .bucket) (number k) (isOne st) (optional dr) (applied now t i) (applied-keys now i)
   reason-at (KeyCall.updateNode v st now) k i =
-      cases Fit (failsTableFilter t i (number k) (valueOf v)) (λ _. table-fits (valueOf v))
+      cases Fit (failsTableFilter t i (number k) (valueOf v)) (λ _. table-fits (number k) (valueOf v))
       (λ _. update-fits (t .settings .bucket) (number k) (valueOf v) (optional st) (applied now t i) (applied-keys now i))
   reason-at (KeyCall.insertOrUpdate v st dr now) k i =
-      cases Fit (failsTableFilter t i (number k) (valueOf v)) (λ _. table-fits (valueOf v))
+      cases Fit (failsTableFilter t i (number k) (valueOf v)) (λ _. table-fits (number k) (valueOf v))
       (λ _. insert-or-update-fits (t .settings .bucket) (nodeOf k v st dr) (applied now t i) (applied-keys now i))
   reason-at (KeyCall.remove now) k i = remove-fits (t .settings .bucket) (number k) (applied now t i)
   reason-at (KeyCall.entry now) k i = tt

@@ -1,11 +1,11 @@
 -- Laws of the lists of nodes that the bucket's rules build: one more node, a key taken out, another value in its place.
-use Prim.Native.Nat.{ℕ, suc, _≤_, _<_}
+use Prim.Native.Nat.{ℕ, suc, _+_, _≤_, _<_}
 use native.Mathlib.Omega.{arith}
 use mathlib.Core.Path.{_≡_, refl, sym, ap, _∙_, subst, subst⁻¹}
 use mathlib.Core.Bool.{Bool, true, false, cond, not}
 use mathlib.Core.List.{List, [], _∷_, _++_, append-nil, append-assoc}
 use mathlib.Core.Option.{Option, none, some}
-use lib.ListN.{length}
+use lib.ListN.{length, length-append}
 use Rattle.model.specs.Base.{same, select, isSome}
 use Rattle.model.specs.Value.{Value}
 use Rattle.model.specs.Node.{Node, connectedIncoming, withValue}
@@ -63,6 +63,14 @@ length-select-insert p a (x ∷ xs) ys =
     ∙ ap (more (p x)) (length-select-insert p a xs ys)
     ∙ more-swap (p x) (p a) (length (select p (xs ++ ys)))
     ∙ ap (more (p a)) (sym (length-cond (p x) x (select p (xs ++ ys))))
+
+-- a test, one list after the other
+pub select-append : {A : Type 0} (p : A → Bool) (xs ys : List A) → select p (xs ++ ys) ≡ select p xs ++ select p ys
+select-append p [] ys = refl
+select-append p (x ∷ xs) ys = split (p x) (λ e. rw (e, select-append p xs ys)) (λ e. rw (e, select-append p xs ys))
+
+pub length-select-append : {A : Type 0} (p : A → Bool) (xs ys : List A) → length (select p (xs ++ ys)) ≡ length (select p xs) + length (select p ys)
+length-select-append p xs ys = ap length (select-append p xs ys) ∙ length-append (select p xs) (select p ys)
 
 pub length-insert : {A : Type 0} (a : A) (xs ys : List A) → length (xs ++ (a ∷ ys)) ≡ suc (length (xs ++ ys))
 length-insert a [] ys = refl

@@ -25,6 +25,7 @@ pub mod NodeFormed
 pub mod BucketBytes
 pub mod BucketFormed
 pub mod BucketBack
+pub mod OwnNet
 pub mod Questions
 pub mod KeepStep
 pub mod Frame

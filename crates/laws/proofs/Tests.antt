@@ -55,6 +55,10 @@ pub and-right : (a b : Bool) → (a && b) ≡ true → b ≡ true
 and-right true b h = h
 and-right false b h = clash h refl
 
+pub and-none : (a b : Bool) → b ≡ false → (a && b) ≡ false
+and-none true b h = h
+and-none false b h = refl
+
 pub or-rest : (a b : Bool) → (a || b) ≡ true → a ≡ false → b ≡ true
 or-rest true b h e = clash refl e
 or-rest false b h e = h

@@ -60,6 +60,10 @@ numbers k n = from (λ x. x) k n
 abbrev pub members : ℕ → List Call
 members n = start 16 1 0 ∷ from member 32 n
 
+-- table filter on; ten nodes of one /24, and 42 with the same value as 32
+abbrev pub equalMember : List Call
+equalMember = members 10 ++ (Call.onKey (key 42) (KeyCall.absentInsert (addressed 32 0) 0 0 0) ∷ [])
+
 -- table filter on; bucket 5 full of disconnected nodes, ten of one /24, and 48 pending since time 0 with an eleventh value of it
 abbrev eleventhPending : List Call
 eleventhPending =
@@ -129,6 +133,10 @@ octets = record { flag = 1; a = 1; b = 2; c = 3; d = 4; slot = 72623859790382856
 -- bucket filter on; 10.0.0.1 is held with slot 0 and with slot x
 abbrev oneAddress : ℕ → List Call
 oneAddress x = start 16 0 1 ∷ Call.onKey (key 32) (KeyCall.absentInsert (addressed 1 0) 0 0 0) ∷ Call.onKey (key 33) (KeyCall.absentInsert (addressed 1 x) 0 0 0) ∷ []
+
+-- 64 is held with it
+abbrev stranger : Call
+stranger = Call.onKey (key 64) (KeyCall.absentInsert octets 0 0 0)
 
 -- the /24 of a, b, c
 abbrev net : (a b c : ℕ) → PredicateArgument
@@ -263,7 +271,7 @@ unequalSlots x =
     -- another slot is an update, the same is none; it takes the member of a full /24 past the duplicate test
     Row.answers (start 16 0 0 ∷ Call.onKey (key 32) (KeyCall.absentInsert (plain 0) 0 0 0) ∷ []) (updateNode 32 x 2 ∷ updateNode 32 x 2 ∷ updateNode 32 0 2 ∷ [])
     (Answer.Update UpdateResult.Updated ∷ Answer.Update UpdateResult.NotModified ∷ Answer.Update UpdateResult.Updated ∷ [])
-    ∷ Row.answers (members 10) (Call.onKey (key 32) (KeyCall.updateNode (addressed 32 x) 2 0) ∷ []) (updateFailed FailureReason.TableFilter ∷ [])
+    ∷ Row.answers (members 11) (Call.onKey (key 32) (KeyCall.updateNode (addressed 32 x) 2 0) ∷ []) (updateFailed FailureReason.TableFilter ∷ [])
     -- one address with both slots: the filter counts two beside a third slot, and one beside the second
     ∷ Row.answers (oneAddress x) (Call.onKey (key 34) (KeyCall.absentInsert (addressed 1 (2 * x)) 0 0 0) ∷ Call.onKey (key 34) (KeyCall.absentInsert (addressed 1 x) 0 0 0) ∷ [])
     (Answer.Insert BucketInsertResult.FailedFilter ∷ Answer.Insert BucketInsertResult.Inserted ∷ [])
@@ -307,18 +315,29 @@ allAnswers =
 
 unfoldable pub cases : List Row
 cases =
-    -- the table filter: nine of one /24 held, one of them gets another slot: its old value makes nine; it keeps its place
-    Row.answers (members 9) (Call.onKey (key 32) (KeyCall.updateNode (addressed 32 7) 2 0) ∷ []) (Answer.Update UpdateResult.Updated ∷ [])
-    ∷ Row.places (members 9 ++ (Call.onKey (key 32) (KeyCall.updateNode (addressed 32 7) 2 0) ∷ [])) 5 (nodeOf (key 32) (addressed 32 7) 0 0 ∷ from memberNode 33 8)
-    -- ten held: its old value makes ten; the call fails and the node is gone
-    ∷ Row.answers (members 10) (Call.onKey (key 32) (KeyCall.updateNode (addressed 32 7) 2 0) ∷ Call.onKey (key 32) (KeyCall.entry 0) ∷ [])
+    -- the table filter (02, slip 3): ten of one /24 held, one of them gets another slot: its old value is not counted; it keeps its place
+    Row.answers (members 10) (Call.onKey (key 32) (KeyCall.updateNode (addressed 32 7) 2 0) ∷ []) (Answer.Update UpdateResult.Updated ∷ [])
+    ∷ Row.places (members 10 ++ (Call.onKey (key 32) (KeyCall.updateNode (addressed 32 7) 2 0) ∷ [])) 5 (nodeOf (key 32) (addressed 32 7) 0 0 ∷ from memberNode 33 9)
+    ∷ Row.answers (members 10) (Call.onKey (key 32) (KeyCall.insertOrUpdate (addressed 32 7) 0 0 0) ∷ []) (Answer.InsertOrUpdate InsertResult.ValueUpdated ∷ [])
+    -- eleven held: the ten others are counted; the call fails and the node is gone
+    ∷ Row.answers (members 11) (Call.onKey (key 32) (KeyCall.updateNode (addressed 32 7) 2 0) ∷ Call.onKey (key 32) (KeyCall.entry 0) ∷ [])
     (updateFailed FailureReason.TableFilter ∷ absent ∷ [])
-    ∷ Row.answers (members 10) (Call.onKey (key 32) (KeyCall.insertOrUpdate (addressed 32 7) 0 0 0) ∷ Call.onKey (key 32) (KeyCall.entry 0) ∷ [])
+    ∷ Row.answers (members 11) (Call.onKey (key 32) (KeyCall.insertOrUpdate (addressed 32 7) 0 0 0) ∷ Call.onKey (key 32) (KeyCall.entry 0) ∷ [])
     (insertFailed FailureReason.TableFilter ∷ absent ∷ [])
-    -- ten held: the filter is skipped for an equal value, and by an entry's insert; a new key fails; with the filter off it does not
+    -- so is the value of another key that is equal to the old one
+    ∷ Row.answers equalMember (Call.onKey (key 32) (KeyCall.updateNode (addressed 32 7) 2 0) ∷ []) (updateFailed FailureReason.TableFilter ∷ [])
+    -- the old value is of another /24: nine others let the new one in, ten do not
+    ∷ Row.answers (members 9 ++ (stranger ∷ [])) (Call.onKey (key 64) (KeyCall.updateNode (addressed 64 0) 2 0) ∷ []) (Answer.Update UpdateResult.Updated ∷ [])
+    ∷ Row.answers (members 10 ++ (stranger ∷ [])) (Call.onKey (key 64) (KeyCall.updateNode (addressed 64 0) 2 0) ∷ Call.onKey (key 64) (KeyCall.entry 0) ∷ [])
+    (updateFailed FailureReason.TableFilter ∷ absent ∷ [])
+    ∷ Row.answers (members 10 ++ (stranger ∷ [])) (Call.onKey (key 64) (KeyCall.insertOrUpdate (addressed 64 0) 0 0 0) ∷ []) (insertFailed FailureReason.TableFilter ∷ [])
+    -- eleven held: the filter is skipped for an equal value
+    ∷ Row.answers (members 11) (Call.onKey (key 32) (KeyCall.updateNode (addressed 32 0) 2 0) ∷ Call.onKey (key 33) (KeyCall.insertOrUpdate (addressed 33 0) 0 1 0) ∷ [])
+    (Answer.Update UpdateResult.NotModified ∷ Answer.InsertOrUpdate (InsertResult.StatusUpdated false) ∷ [])
+    -- ten held: a new key fails; the filter is skipped by an entry's insert; with the filter off a new key does not fail
     ∷ Row.answers (members 10)
-    (Call.onKey (key 32) (KeyCall.updateNode (addressed 32 0) 2 0) ∷ Call.onKey (key 64) (KeyCall.insertOrUpdate (addressed 64 0) 0 0 0) ∷ Call.onKey (key 64) (KeyCall.entry 0) ∷ member 65 ∷ [])
-    (Answer.Update UpdateResult.NotModified ∷ insertFailed FailureReason.TableFilter ∷ absent ∷ Answer.Insert BucketInsertResult.Inserted ∷ [])
+    (Call.onKey (key 64) (KeyCall.insertOrUpdate (addressed 64 0) 0 0 0) ∷ Call.onKey (key 64) (KeyCall.entry 0) ∷ member 65 ∷ [])
+    (insertFailed FailureReason.TableFilter ∷ absent ∷ Answer.Insert BucketInsertResult.Inserted ∷ [])
     ∷ Row.answers (start 16 0 0 ∷ from member 32 10) (Call.onKey (key 64) (KeyCall.insertOrUpdate (addressed 64 0) 0 0 0) ∷ [])
     (Answer.InsertOrUpdate InsertResult.Inserted ∷ [])
     -- update_value: a failed bucket filter takes the node out

@@ -13,7 +13,7 @@ use Rattle.model.specs.Node.{Node, PendingNode, withStatus}
 use Rattle.model.specs.Filter.{counted, maxNodesPerSubnetTable, maxNodesPerSubnetBucket}
 use Rattle.model.specs.Result.{FailureReason, BucketInsertResult, UpdateResult, InsertResult, Reply, isFailed}
 use Rattle.model.specs.Bucket.{Bucket, BucketSettings, nodes, get, holds, isFull, failsBucketFilter, incomingNodes, isMaxIncoming, takeOut, takenOut, updateStatus, updateValue}
-use Rattle.model.specs.Table.{Table, Answer, numBuckets, heldNodes, failsTableFilter, indexIn}
+use Rattle.model.specs.Table.{Table, Answer, otherNodes, failsTableFilter, indexIn}
 use Rattle.model.specs.Sizes.{keySize}
 use Rattle.model.specs.Call.{Call, KeyCall, isOne, optional, valueOf}
 use Rattle.model.specs.Listing.{applied}
@@ -97,8 +97,9 @@ keysOf ns = map (λ (n : Node). n .key) ns
 unfoldable pub filterKeys : ℕ → Value → List Node → List ℕ
 filterKeys limit v ns = keysOf (take limit (counted v ns))
 
-abbrev pub tableFilterReason : Value → (ℕ → Bucket) → Reason
-tableFilterReason v bs = Reason.TableFilter (filterKeys maxNodesPerSubnetTable v (heldNodes numBuckets bs))
+-- 02, slip 3: the key's own node is not counted
+abbrev pub tableFilterReason : (key : ℕ) → Value → (ℕ → Bucket) → Reason
+tableFilterReason k v bs = Reason.TableFilter (filterKeys maxNodesPerSubnetTable v (otherNodes k bs))
 
 abbrev pub bucketFilterReason : Value → Bucket → Reason
 bucketFilterReason v b = Reason.BucketFilter (filterKeys maxNodesPerSubnetBucket v (nodes b))
@@ -177,10 +178,10 @@ removeReason k b = cond (holds k b) Reason.None Reason.NoSuchKey
 abbrev pub bucketReason : KeyCall → (key : List ℕ) → Table → ℕ → Reason
 bucketReason (KeyCall.updateNodeStatus st dr now) k t i = statusReason (t .settings .bucket) (number k) (isOne st) (optional dr) (applied now t i)
 bucketReason (KeyCall.updateNode v st now) k t i =
-    cond (failsTableFilter t i (number k) (valueOf v)) (tableFilterReason (valueOf v) (t .buckets))
+    cond (failsTableFilter t i (number k) (valueOf v)) (tableFilterReason (number k) (valueOf v) (t .buckets))
     (updateNodeReason (t .settings .bucket) (number k) (valueOf v) (optional st) (applied now t i))
 bucketReason (KeyCall.insertOrUpdate v st dr now) k t i =
-    cond (failsTableFilter t i (number k) (valueOf v)) (tableFilterReason (valueOf v) (t .buckets))
+    cond (failsTableFilter t i (number k) (valueOf v)) (tableFilterReason (number k) (valueOf v) (t .buckets))
     (insertOrUpdateReason (t .settings .bucket) (nodeOf k v st dr) (applied now t i))
 bucketReason (KeyCall.remove now) k t i = removeReason (number k) (applied now t i)
 bucketReason (KeyCall.presentUpdate st dr) k t i = statusReason (t .settings .bucket) (number k) (isOne st) (optional dr) (t .buckets i)

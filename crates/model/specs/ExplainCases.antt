@@ -13,7 +13,7 @@ use Rattle.model.specs.Step.{questions, step}
 use Rattle.model.specs.Numbers.{sameNumbers}
 use Rattle.model.specs.Explain.{Told, Reason, Explained, told, explanation, toldText, line, explained, explainBytes}
 use Rattle.model.specs.Rows.{noTable, after, key, plain, addressed, start, disconnected, connected, from, pendingAt100, twoOfANet}
-use Rattle.model.specs.Cases.{member, members, numbers, oneBetweenEquals, pendingOverOne, fullAtOnce, applied}
+use Rattle.model.specs.Cases.{member, members, equalMember, numbers, oneBetweenEquals, pendingOverOne, fullAtOnce, applied}
 
 pub data ExplainRow : Type 0 where
   -- after the calls, what is told of a call on a key and its reason; and the call then gives the answer that is told
@@ -137,9 +137,15 @@ explainCases =
     ∷ ExplainRow.explains pendingAt100 48 (KeyCall.pendingUpdate 0 1) Told.UpdatedPending Reason.None
     ∷ ExplainRow.explains single 33 (absentInsert (plain 33) 0 0) Told.Inserted Reason.None
     ∷ ExplainRow.explains allDisconnected 48 (absentInsert (plain 48) 1 0) (Told.Pending 32) Reason.None
-    -- table filter: ten keys, the key's own old value among the counted; the first ten where twelve are held; bucket and place order
-    ∷ ExplainRow.explains (members 10) 32 (updateNode (addressed 32 7) 2) (Told.Failed FailureReason.TableFilter) (Reason.TableFilter (numbers 32 10))
-    ∷ ExplainRow.explains (members 10) 32 (insertOrUpdate (addressed 32 7) 0 0) (Told.Failed FailureReason.TableFilter) (Reason.TableFilter (numbers 32 10))
+    -- table filter: none where ten are held, the key's own among them
+    ∷ ExplainRow.explains (members 10) 32 (updateNode (addressed 32 7) 2) Told.Updated Reason.None
+    ∷ ExplainRow.explains (members 10) 32 (insertOrUpdate (addressed 32 7) 0 0) Told.ValueUpdated Reason.None
+    -- ten keys, not the key's own, in front of them and between; another key with a value that is equal to the old one
+    ∷ ExplainRow.explains (members 11) 32 (updateNode (addressed 32 7) 2) (Told.Failed FailureReason.TableFilter) (Reason.TableFilter (numbers 33 10))
+    ∷ ExplainRow.explains (members 11) 32 (insertOrUpdate (addressed 32 7) 0 0) (Told.Failed FailureReason.TableFilter) (Reason.TableFilter (numbers 33 10))
+    ∷ ExplainRow.explains (members 12) 36 (updateNode (addressed 36 7) 2) (Told.Failed FailureReason.TableFilter) (Reason.TableFilter (numbers 32 4 ++ numbers 37 6))
+    ∷ ExplainRow.explains equalMember 32 (updateNode (addressed 32 7) 2) (Told.Failed FailureReason.TableFilter) (Reason.TableFilter (numbers 33 10))
+    -- the first ten where twelve are held; bucket and place order
     ∷ ExplainRow.explains (members 12) 64 (updateNode (addressed 64 0) 1) (Told.Failed FailureReason.TableFilter) (Reason.TableFilter (numbers 32 10))
     ∷ ExplainRow.explains (start 16 1 0 ∷ member 64 ∷ Call.onKey (key 33) (absentInsert (addressed 33 0) 1 0) ∷ member 16 ∷ member 32 ∷ from member 34 8) 65 (updateNode (addressed 64 0) 1) (Told.Failed FailureReason.TableFilter) (Reason.TableFilter (16 ∷ 32 ∷ from (λ x. x) 34 8))
     ∷ ExplainRow.explains (members 12) 64 (insertOrUpdate (addressed 64 0) 1 0) (Told.Failed FailureReason.TableFilter) (Reason.TableFilter (numbers 32 10))

@@ -16,6 +16,10 @@ counts v w = sharesNet (v .address) (w .address) && not (sameValue w v)
 abbrev pub counted : Value → List Node → List Node
 counted v ns = select (λ n. counts v (n .value)) ns
 
+-- the nodes of the /24 of v
+abbrev pub ofNet : Value → List Node → List Node
+ofNet v ns = select (λ n. sharesNet (v .address) (n .value .address)) ns
+
 -- 01: fails exactly when the value has an address and at least `limit` of the others count against it
 unfoldable pub ipFilterFails : ℕ → Value → List Node → Bool
 ipFilterFails limit v ns = hasAddress v && leb limit (length (counted v ns))

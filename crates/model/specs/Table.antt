@@ -9,7 +9,7 @@ use Rattle.model.specs.Value.{Value, sameValue}
 use Rattle.model.specs.Node.{Node, PendingNode, AppliedPending}
 use Rattle.model.specs.Filter.{ipFilterFails, maxNodesPerSubnetTable}
 use Rattle.model.specs.Result.{FailureReason, BucketInsertResult, UpdateResult, InsertResult, isFailed}
-use Rattle.model.specs.Bucket.{Bucket, BucketSettings, emptyBucket, nodes, get, holds, insert, applyPending, updateStatus, updateValue, remove}
+use Rattle.model.specs.Bucket.{Bucket, BucketSettings, emptyBucket, nodes, get, holds, omit, insert, applyPending, updateStatus, updateValue, remove}
 
 pub record Settings : Type 0 where
   pub localKey : ℕ
@@ -94,12 +94,16 @@ abbrev pub isDuplicate : Value → Option Node → Bool
 isDuplicate v none = false
 isDuplicate v (some n) = sameValue (n .value) v
 
--- 01, kbucket.rs: the table filter runs on the table as the call found it; it is skipped if the key is held with an equal value; it
--- counts the key's own old value. i is the key's bucket.
+-- 02, slip 3: the nodes that the table filter looks at for a value of key k: all that are held, but the key's own
+abbrev pub otherNodes : (k : ℕ) → (ℕ → Bucket) → List Node
+otherNodes k bs = omit k (heldNodes numBuckets bs)
+
+-- 01, kbucket.rs: the table filter runs on the table as the call found it; it is skipped if the key is held with an equal value. 02, slip 3:
+-- the old value of the same key is not counted. i is the key's bucket.
 unfoldable pub failsTableFilter : Table → ℕ → ℕ → Value → Bool
 failsTableFilter t i k v =
     t .settings .tableFilter
-    && (not (isDuplicate v (get k (t .buckets i))) && ipFilterFails maxNodesPerSubnetTable v (heldNodes numBuckets (t .buckets)))
+    && (not (isDuplicate v (get k (t .buckets i))) && ipFilterFails maxNodesPerSubnetTable v (otherNodes k (t .buckets)))
 
 -- kbucket.rs, update_node: what the value's step and the status's step answer together, in the order of the Rust's match. Never met: a
 -- value's step that failed or promotes, and UpdatedPending of one step alone; the answers there are the Rust's.

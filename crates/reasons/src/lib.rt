@@ -235,10 +235,10 @@ pub fn update_node_why(b: KBucket, fails: bool, key: Key, value: Value, state: u
     requires { ⌜ Sound b ⌝ }
     requires { ⌜ valueCodes value ≡ true ⌝ }
     requires { ⌜ state ≤ 2 ⌝ }
-    ensures { λ r. ⌜ Tells (λ bs. cond fails (tableFilterReason (valueOf value) bs) (updateNodeReason (settingsOf b) (num key) (valueOf value) (optional state) (bucketOf b))) r ⌝ }
+    ensures { λ r. ⌜ Tells (λ bs. cond fails (tableFilterReason (num key) (valueOf value) bs) (updateNodeReason (settingsOf b) (num key) (valueOf value) (optional state) (bucketOf b))) r ⌝ }
 {
     if fails {
-        let filtered = Reason::TableFilter;
+        let filtered = Reason::TableFilter(key);
         return Why {
             reason: filtered,
             bucket: b,
@@ -274,14 +274,15 @@ pub fn insert_or_update_reason(b: KBucket, node: Node) -> Why
 pub fn insert_or_update_why(b: KBucket, fails: bool, node: Node) -> Why
     requires { ⌜ Sound b ⌝ }
     requires { ⌜ nodeCodes node ≡ true ⌝ }
-    ensures { λ r. ⌜ Tells (λ bs. cond fails (tableFilterReason (valueOf (node .value)) bs) (insertOrUpdateReason (settingsOf b) (nodeOf node) (bucketOf b))) r ⌝ }
+    ensures { λ r. ⌜ Tells (λ bs. cond fails (tableFilterReason (num (node .key)) (valueOf (node .value)) bs) (insertOrUpdateReason (settingsOf b) (nodeOf node) (bucketOf b))) r ⌝ }
 {
     if !fails {
         return insert_or_update_reason(b, node);
     }
+    let key = node.key;
     let value = node.value;
     Why {
-        reason: Reason::TableFilter,
+        reason: Reason::TableFilter(key),
         bucket: b,
         value: value,
     }

@@ -1,9 +1,10 @@
-// Runs two situations with the table filter on, and writes the answers and the bucket before and after. Nine members of one /24 are
-// held and one of them re-signs its record after a port change: the record is taken, and the entry keeps its place. Ten members, the
-// same call: Failed(TableFilter), and the peer is gone.
+// Runs three situations with the table filter on, and writes the answers and the bucket before and after. Nine members of one /24 are
+// held, or ten, and one of them re-signs its record after a port change: the record is taken, and the entry keeps its place, since its own
+// old record is not counted (document 02, slip 3). Eleven members, the same call: Failed(TableFilter), and the peer is gone.
 ghost use mathlib.Core.Path.{_≡_};
 ghost use lib.ListN.{length};
 use bucket::FailureReason;
+use bucket::InsertAnswer;
 use bucket::NewAnswer;
 use bucket::UpdateAnswer;
 use bucket::UpdateResult;
@@ -170,12 +171,47 @@ fn say_insert(a: InsertOrUpdateAnswer) {
     }
 }
 
-// A member joins, connected and outgoing.
+fn say_placed(r: bucket::InsertResult) {
+    match r {
+        bucket::InsertResult::Inserted => {
+            io::write_all(1, b"Inserted");
+        }
+        bucket::InsertResult::Pending(_) => {
+            io::write_all(1, b"Pending");
+        }
+        bucket::InsertResult::FailedFilter => {
+            io::write_all(1, b"FailedFilter");
+        }
+        bucket::InsertResult::TooManyIncoming => {
+            io::write_all(1, b"TooManyIncoming");
+        }
+        bucket::InsertResult::Full => {
+            io::write_all(1, b"Full");
+        }
+        bucket::InsertResult::NodeExists => {
+            io::write_all(1, b"NodeExists");
+        }
+    }
+}
+
+fn say_absent_insert(a: InsertAnswer) {
+    match a {
+        InsertAnswer::Refused(q) => say_refused(q),
+        InsertAnswer::Answered(r) => say_placed(r),
+    }
+}
+
+// A member joins, connected and outgoing. The table filter lets no eleventh of a /24 in by insert_or_update; an entry's insert passes it by.
 fn join(s: &mut [u8], member: u8) {
     let key = key_of(member);
     let value = record_of(member, member as Slot);
-    let a = update::insert_or_update(s, &key, value, 1, 0, 1000);
     io::write_all(1, b" ");
+    if 10 < member {
+        let e = entry::absent_insert(s, &key, value, 1, 0, 1000);
+        say_absent_insert(e);
+        return;
+    }
+    let a = update::insert_or_update(s, &key, value, 1, 0, 1000);
     say_insert(a);
 }
 
@@ -215,4 +251,5 @@ fn situation(members: u8) {
 fn main() {
     situation(9);
     situation(10);
+    situation(11);
 }

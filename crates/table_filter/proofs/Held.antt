@@ -1,6 +1,6 @@
--- The nodes that are held, one more place or bucket at a time: those that count against a value, and the node of a key.
+-- The nodes that are held, one more place or bucket at a time: those that count against the value of a key, and the node of a key.
 use mathlib.Core.Path.{_≡_, refl, sym, ap, _∙_}
-use mathlib.Core.Bool.{Bool, true, false}
+use mathlib.Core.Bool.{Bool, true, false, not}
 use mathlib.Core.List.{List, [], _∷_, _++_}
 use mathlib.Core.Option.{none, some}
 use mathlib.Core.Logic.{⊎-elim}
@@ -17,14 +17,14 @@ use Rattle.model.specs.Bytes.{number, part}
 use Rattle.model.specs.Value.{Value, hasAddress}
 use Rattle.model.specs.Node.{Node}
 use Rattle.model.specs.Filter.{counts, counted, ipFilterFails}
-use Rattle.model.specs.Bucket.{Bucket, maxNodesPerBucket, nodes, find, get}
-use Rattle.model.specs.Table.{numBuckets, heldNodes}
+use Rattle.model.specs.Bucket.{Bucket, maxNodesPerBucket, nodes, find, get, omit}
+use Rattle.model.specs.Table.{numBuckets, heldNodes, otherNodes}
 use Rattle.model.specs.Sizes.{keySize, valueSize, nodeSize, bucketSize, bucketAt, tableFilterAt}
 use Rattle.model.specs.Layout.{valueIn, nodeIn, nodesIn, bucketIn, settingsIn, bucketPart, tableOf}
 use Rattle.model.specs.Formed.{formed}
 use Rattle.laws.proofs.Tests.{split}
 use Rattle.laws.proofs.Lists.{tabulate-one-more}
-use Rattle.laws.proofs.KeepLists.{find-append, get-nodes}
+use Rattle.laws.proofs.KeepLists.{length-select-append, find-append, get-nodes}
 use Rattle.laws.proofs.Parts.{part-part, part-zero, getD-part}
 use Rattle.laws.proofs.BucketFormed.{checked}
 use Rattle.laws.proofs.BucketBack.{nodes-in}
@@ -34,38 +34,41 @@ use Rattle.node.specs.Node.{valueOf}
 use Rattle.storage.specs.Read.{readValue}
 use Rattle.storage.proofs.Nodes.{valueOf-read}
 use Rattle.well_formed.specs.Tests.{nodeAt}
-use Rattle.table_filter.specs.Counted.{countedBelow}
+use Rattle.table_filter.specs.Counted.{countsOther, countedBelow}
 
--- how many count against a value
+-- how many count against the value of a key
 
-pub length-select-append : {A : Type 0} (p : A → Bool) (xs ys : List A) → length (select p (xs ++ ys)) ≡ length (select p xs) + length (select p ys)
-length-select-append p [] ys = omega arith
-length-select-append p (x ∷ xs) ys =
-    split (p x) (λ e. rw (e, length-select-append p xs ys) (omega arith)) (λ e. rw (e, length-select-append p xs ys))
+-- the key's own left out, by a test
+pub counted-others : (k : ℕ) (v : Value) (ns : List Node) → counted v (omit k ns) ≡ select (countsOther k v) ns
+counted-others k v [] = refl
+counted-others k v (n ∷ ns) =
+    split (same (n .key) k)
+    (λ e. split (counts v (n .value)) (λ c. rw (e, c, counted-others k v ns)) (λ c. rw (e, c, counted-others k v ns)))
+    (λ e. split (counts v (n .value)) (λ c. rw (e, c, counted-others k v ns)) (λ c. rw (e, c, counted-others k v ns)))
 
 length-select-one : {A : Type 0} (p : A → Bool) (x : A) → length (select p (x ∷ [])) ≡ boolByte (p x)
 length-select-one p x = split (p x) (λ e. rw e) (λ e. rw e)
 
 -- one more place
-pub counted-none : (v : Value) (bs : List ℕ) → countedBelow v bs 0 ≡ 0
+pub counted-none : (k : ℕ) (v : Value) (bs : List ℕ) → countedBelow k v bs 0 ≡ 0
 unfolding countedBelow tabulate
-counted-none v bs = refl
+counted-none k v bs = refl
 
-pub counted-place : (v : Value) (bs : List ℕ) (j : ℕ) → countedBelow v bs (j + 1) ≡ countedBelow v bs j + boolByte (counts v (nodeAt bs j .value))
+pub counted-place : (k : ℕ) (v : Value) (bs : List ℕ) (j : ℕ) → countedBelow k v bs (j + 1) ≡ countedBelow k v bs j + boolByte (countsOther k v (nodeAt bs j))
 unfolding countedBelow
-counted-place v bs j =
+counted-place k v bs j =
     rw tabulate-one-more
-    (length-select-append (λ (n : Node). counts v (n .value)) (tabulate j (nodeAt bs)) (nodeAt bs j ∷ [])
-    ∙ ap (λ k. length (counted v (tabulate j (nodeAt bs))) + k) (length-select-one (λ (n : Node). counts v (n .value)) (nodeAt bs j)))
+    (length-select-append (countsOther k v) (tabulate j (nodeAt bs)) (nodeAt bs j ∷ [])
+    ∙ ap (λ m. length (select (countsOther k v) (tabulate j (nodeAt bs))) + m) (length-select-one (countsOther k v) (nodeAt bs j)))
 
-module _ (v : Value) (bs : ℕ → Bucket) where
+module _ (p : Node → Bool) (bs : ℕ → Bucket) where
   -- one more bucket
-  pub counted-bucket : (i : ℕ) → length (counted v (heldNodes (i + 1) bs)) ≡ length (counted v (heldNodes i bs)) + length (counted v (nodes (bs i)))
+  pub counted-bucket : (i : ℕ) → length (select p (heldNodes (i + 1) bs)) ≡ length (select p (heldNodes i bs)) + length (select p (nodes (bs i)))
   unfolding heldNodes
-  counted-bucket i = rw add-one (length-select-append (λ (n : Node). counts v (n .value)) (heldNodes i bs) (nodes (bs i)))
+  counted-bucket i = rw add-one (length-select-append p (heldNodes i bs) (nodes (bs i)))
 
   -- what a scan that ends early has counted is no more than the whole
-  pub counted-mono : (i k : ℕ) → i ≤ k → length (counted v (heldNodes i bs)) ≤ length (counted v (heldNodes k bs))
+  pub counted-mono : (i k : ℕ) → i ≤ k → length (select p (heldNodes i bs)) ≤ length (select p (heldNodes k bs))
   counted-mono i zero h = let e : i ≡ 0 = omega arith in rw e (omega arith)
   counted-mono i (suc k) h =
       ⊎-elim
@@ -85,13 +88,17 @@ pub filter-no-address : (limit : ℕ) (v : Value) (ns : List Node) → hasAddres
 unfolding ipFilterFails
 filter-no-address limit v ns e = rw e
 
-pub filter-fails : (limit : ℕ) (v : Value) (ns : List Node) → hasAddress v ≡ true → limit ≤ length (counted v ns) → ipFilterFails limit v ns ≡ true
-unfolding ipFilterFails
-filter-fails limit v ns e h = rw (e, le-leb limit (length (counted v ns)) h)
+module _ (limit k : ℕ) (v : Value) (bs : ℕ → Bucket) (e : hasAddress v ≡ true) where
+  abbrev count : ℕ
+  count = length (select (countsOther k v) (heldNodes numBuckets bs))
 
-pub filter-passes : (limit : ℕ) (v : Value) (ns : List Node) → hasAddress v ≡ true → length (counted v ns) < limit → ipFilterFails limit v ns ≡ false
-unfolding ipFilterFails
-filter-passes limit v ns e h = rw (e, lt-leb limit (length (counted v ns)) h)
+  pub filter-fails : limit ≤ count → ipFilterFails limit v (otherNodes k bs) ≡ true
+  unfolding ipFilterFails
+  filter-fails h = rw (e, counted-others k v (heldNodes numBuckets bs), le-leb limit count h)
+
+  pub filter-passes : count < limit → ipFilterFails limit v (otherNodes k bs) ≡ false
+  unfolding ipFilterFails
+  filter-passes h = rw (e, counted-others k v (heldNodes numBuckets bs), lt-leb limit count h)
 
 -- the node of a key, where no place before j has the key
 
@@ -125,10 +132,10 @@ nodes-at s at = nodes-in (part s at bucketSize) ∙ rw (getD-part s at bucketSiz
 pub get-at : (k : ℕ) (s : List ℕ) (at : ℕ) → get k (bucketIn (part s at bucketSize)) ≡ find k (tabulate (getD s at 0) (nodeAt (part s at bucketSize)))
 get-at k s at = get-nodes k (bucketIn (part s at bucketSize)) ∙ ap (find k) (nodes-at s at)
 
-pub counted-at : (v : Value) (s : List ℕ) (at : ℕ)
-    → length (counted v (nodes (bucketIn (part s at bucketSize)))) ≡ countedBelow v (part s at bucketSize) (getD s at 0)
+pub counted-at : (k : ℕ) (v : Value) (s : List ℕ) (at : ℕ)
+    → length (select (countsOther k v) (nodes (bucketIn (part s at bucketSize)))) ≡ countedBelow k v (part s at bucketSize) (getD s at 0)
 unfolding countedBelow
-counted-at v s at = rw (nodes-at s at)
+counted-at k v s at = rw (nodes-at s at)
 
 -- a well-formed table has no more than 16 nodes in a bucket
 pub bucket-count : (s : List ℕ) (i : ℕ) → formed s ≡ true → i < numBuckets → getD s (bucketAt i) 0 ≤ maxNodesPerBucket
@@ -143,3 +150,14 @@ value-at s at = ap valueIn (part-part s at nodeSize (keySize + 2) valueSize (ome
 pub key-at : (s : List ℕ) (at : ℕ) → nodeIn (part s at nodeSize) .key ≡ number (part s at keySize)
 unfolding nodeIn
 key-at s at = ap number (part-zero s at nodeSize keySize (omega arith))
+
+-- a place counts, by its value and then its key
+abbrev pub valueThere : List ℕ → ℕ → Value
+valueThere s at = valueOf (readValue (part s (at + (keySize + 2)) valueSize))
+
+module _ (k : ℕ) (v : Value) (s : List ℕ) (at : ℕ) where
+  pub place-passed : counts v (valueThere s at) ≡ false → false ≡ countsOther k v (nodeIn (part s at nodeSize))
+  place-passed e = rw (value-at, e)
+
+  pub place-by-key : counts v (valueThere s at) ≡ true → not (same (number (part s at keySize)) k) ≡ countsOther k v (nodeIn (part s at nodeSize))
+  place-by-key e = rw (value-at, key-at, e)

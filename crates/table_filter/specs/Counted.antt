@@ -1,12 +1,19 @@
--- The filter's count over the places of a bucket's bytes, as the code takes it: over all that are held it is the model's `counted`.
+-- The table filter's count over the places of a bucket's bytes, as the code takes it: over all that are held it is the model's `counted` of
+-- `otherNodes`.
 use Prim.Native.Nat.{ℕ}
+use mathlib.Core.Bool.{Bool, not, _&&_}
 use mathlib.Core.List.{List}
 use lib.ListN.{length}
-use Rattle.model.specs.Base.{tabulate}
+use Rattle.model.specs.Base.{same, select, tabulate}
 use Rattle.model.specs.Value.{Value}
-use Rattle.model.specs.Filter.{counted}
+use Rattle.model.specs.Node.{Node}
+use Rattle.model.specs.Filter.{counts}
 use Rattle.well_formed.specs.Tests.{nodeAt}
 
--- how many of the nodes of the places below k count against v
-unfoldable pub countedBelow : Value → List ℕ → ℕ → ℕ
-countedBelow v bs k = length (counted v (tabulate k (nodeAt bs)))
+-- 02, slip 3: a node counts against the value v of key k, where it is not the key's own
+abbrev pub countsOther : (k : ℕ) → Value → Node → Bool
+countsOther k v n = counts v (n .value) && not (same (n .key) k)
+
+-- how many of the nodes of the places below j count against the value v of key k
+unfoldable pub countedBelow : (k : ℕ) → Value → List ℕ → (j : ℕ) → ℕ
+countedBelow k v bs j = length (select (countsOther k v) (tabulate j (nodeAt bs)))

@@ -4,54 +4,59 @@ ghost use mathlib.Core.Bool.{true};
 ghost use Prim.Native.Nat.{_+_, _≤_, _<_};
 ghost use lib.ListN.{length, getD};
 ghost use Rattle.model.specs.Bytes.{part};
-ghost use Rattle.model.specs.Filter.{counts, counted, ipFilterFails, maxNodesPerSubnetTable};
+ghost use Rattle.model.specs.Base.{select};
+ghost use Rattle.model.specs.Filter.{ipFilterFails, maxNodesPerSubnetTable};
 ghost use Rattle.model.specs.Bucket.{maxNodesPerBucket, nodes, get};
-ghost use Rattle.model.specs.Table.{numBuckets, heldNodes, isDuplicate, failsTableFilter};
+ghost use Rattle.model.specs.Table.{numBuckets, otherNodes, isDuplicate, failsTableFilter};
 ghost use Rattle.model.specs.Sizes.{nodeSize, bucketSize, storageSize};
 ghost use Rattle.model.specs.Layout.{nodeIn, bucketIn, tableOf};
 ghost use Rattle.model.specs.Formed.{formed};
 ghost use Rattle.key.specs.Key.{num};
 ghost use Rattle.node.specs.Node.{valueOf};
-ghost use Rattle.table_filter.specs.Counted.{countedBelow};
+ghost use Rattle.table_filter.specs.Counted.{countsOther, countedBelow};
 use key::Key;
 use node::Value;
 use storage::Layout;
 
-// The value of the node at `at` counts against the given one.
-fn counts_at(s: &[u8], at: usize, value: Value) -> bool
+// The node at `at` counts against the value of the key. The key's own does not (document 02, slip 3).
+fn counts_at(s: &[u8], at: usize, key: Key, value: Value) -> bool
     requires { ⌜ at + nodeSize ≤ length (now s) ⌝ }
-    ensures { λ r. ⌜ r ≡ counts (valueOf value) (nodeIn (part (now (s .entry)) at nodeSize) .value) ⌝ }
+    ensures { λ r. ⌜ r ≡ countsOther (num key) (valueOf value) (nodeIn (part (now (s .entry)) at nodeSize)) ⌝ }
 {
     let other = storage::load_value(s, at + Layout::VALUE_AT);
-    node::filter::counts(value, other)
+    if !node::filter::counts(value, other) {
+        return false;
+    }
+    let held = Key::load(s, at);
+    !held.eq(key)
 }
 
-// How many of the places below count of the bucket at `at` count against the value.
-fn counted_below(s: &[u8], at: usize, count: usize, value: Value) -> usize
+// How many of the places below count of the bucket at `at` count against the value of the key.
+fn counted_below(s: &[u8], at: usize, count: usize, key: Key, value: Value) -> usize
     requires { ⌜ (at + bucketSize ≤ length (now s)) × (count ≤ maxNodesPerBucket) ⌝ }
-    ensures { λ r. ⌜ (r ≡ countedBelow (valueOf value) (part (now (s .entry)) at bucketSize) count) × (r ≤ maxNodesPerBucket) ⌝ }
+    ensures { λ r. ⌜ (r ≡ countedBelow (num key) (valueOf value) (part (now (s .entry)) at bucketSize) count) × (r ≤ maxNodesPerBucket) ⌝ }
 {
     let mut n: usize = 0;
     let mut j: usize = 0;
     while j < count {
-        n += counts_at(s, at + (Layout::PLACES_AT + j * Layout::NODE), value) as usize;
+        n += counts_at(s, at + (Layout::PLACES_AT + j * Layout::NODE), key, value) as usize;
         j += 1;
     }
     n
 }
 
-// How many of the held nodes of the bucket at `at` count against the value. The pending is not among them.
-fn counted(s: &[u8], at: usize, value: Value) -> usize
+// How many of the held nodes of the bucket at `at` count against the value of the key. The pending is not among them.
+fn counted(s: &[u8], at: usize, key: Key, value: Value) -> usize
     requires { ⌜ (at + bucketSize ≤ length (now s)) × (getD (now s) at 0 ≤ maxNodesPerBucket) ⌝ }
-    ensures { λ r. ⌜ (r ≡ length (counted (valueOf value) (nodes (bucketIn (part (now (s .entry)) at bucketSize))))) × (r ≤ maxNodesPerBucket) ⌝ }
+    ensures { λ r. ⌜ (r ≡ length (select (countsOther (num key) (valueOf value)) (nodes (bucketIn (part (now (s .entry)) at bucketSize))))) × (r ≤ maxNodesPerBucket) ⌝ }
 {
-    counted_below(s, at, s[at] as usize, value)
+    counted_below(s, at, s[at] as usize, key, value)
 }
 
-// Internal: the value fails the IP filter of the table. The scan ends at the limit.
-pub fn fails_table_filter(s: &[u8], value: Value) -> bool
+// Internal: the value of the key fails the IP filter of the table. The scan ends at the limit.
+pub fn fails_table_filter(s: &[u8], key: Key, value: Value) -> bool
     requires { ⌜ (length (now s) ≡ storageSize) × (formed (now s) ≡ true) ⌝ }
-    ensures { λ r. ⌜ r ≡ ipFilterFails maxNodesPerSubnetTable (valueOf value) (heldNodes numBuckets (tableOf (now (s .entry)) .buckets)) ⌝ }
+    ensures { λ r. ⌜ r ≡ ipFilterFails maxNodesPerSubnetTable (valueOf value) (otherNodes (num key) (tableOf (now (s .entry)) .buckets)) ⌝ }
 {
     if value.flag != 1 {
         return false;
@@ -59,7 +64,7 @@ pub fn fails_table_filter(s: &[u8], value: Value) -> bool
     let mut n: usize = 0;
     let mut i: usize = 0;
     while i < model::NUM_BUCKETS {
-        n += counted(s, Layout::HEADER + i * Layout::BUCKET, value);
+        n += counted(s, Layout::HEADER + i * Layout::BUCKET, key, value);
         if node::filter::MAX_NODES_PER_SUBNET_TABLE <= n {
             return true;
         }
@@ -106,5 +111,5 @@ pub fn table_filter_fails(s: &[u8], i: usize, key: Key, value: Value) -> bool
     if is_duplicate(s, i, key, value) {
         return false;
     }
-    fails_table_filter(s, value)
+    fails_table_filter(s, key, value)
 }

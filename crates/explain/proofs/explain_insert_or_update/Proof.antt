@@ -66,7 +66,7 @@ module _ (b : tie.After-begin-at) where
 
   abbrev why : Bool → (ℕ → rules.Bucket) → rules.BucketSettings → ℕ → rules.Bucket → model.Reason
   why fails bs u n x =
-      cond fails (tableFilterReason (valueOf value) bs) (insertOrUpdateReason u (record { key = n; value = valueOf value; connected = isOne state; incoming = isOne direction }) x)
+      cond fails (tableFilterReason n (valueOf value) bs) (insertOrUpdateReason u (record { key = n; value = valueOf value; connected = isOne state; incoming = isOne direction }) x)
 
 in-range-requires : tie.Need-in-range-requires
 in-range-requires c κs = search needs

@@ -63,7 +63,7 @@ module _ (b : tie.After-begin-at) where
   does fails u n x = updateNodeIn u fails time n (valueOf value) (optional state) x
 
   abbrev why : Bool → (ℕ → rules.Bucket) → rules.BucketSettings → ℕ → rules.Bucket → model.Reason
-  why fails bs u n x = cond fails (tableFilterReason (valueOf value) bs) (updateNodeReason u n (valueOf value) (optional state) x)
+  why fails bs u n x = cond fails (tableFilterReason n (valueOf value) bs) (updateNodeReason u n (valueOf value) (optional state) x)
 
 in-range-requires : tie.Need-in-range-requires
 in-range-requires c κs = search needs

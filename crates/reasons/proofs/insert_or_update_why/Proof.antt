@@ -13,7 +13,9 @@ returns c =
     record { reason = λ bs. rw (not-true (c .before .before .args .fails) (c .before .if1 .taken)) (x .reason bs); sound = x .sound }
 
 returns-2 : tie.Need-returns-2
-returns-2 c = tells _ (c .before .before .pre .0) _ (λ bs. rw (not-false (c .before .before .args .fails) (c .before .if1 .left)))
+returns-2 c =
+    let e = c .before .before in
+    tells _ (e .before .pre .0) _ (λ bs. rw (not-false (e .before .args .fails) (e .if1 .left)))
 
 pub insert-or-update-why-spec : {M : Type 1} → statement M
 insert-or-update-why-spec = tie.close (tie.spec insert-or-update-reason-requires returns returns-2)

@@ -4,6 +4,7 @@ use Prim.Native.Nat.{_-_, _≤_}
 use native.Mathlib.Omega.{arith}
 use Rattle.model.specs.Bytes.{part}
 use Rattle.model.specs.Sizes.{bucketSize}
+use Rattle.key.specs.Key.{num}
 use Rattle.node.specs.Node.{valueOf}
 use Rattle.places.proofs.Laws.{flag≤1}
 use Rattle.well_formed.proofs.Places.{place-node}
@@ -13,13 +14,13 @@ use Rattle.table_filter.proofs.counted_below.Statement.{statement}
 use Rattle.table_filter.proofs.counted_below.Tie as tie
 
 abbrev Inv-loop : tie.InvT-loop
-Inv-loop s at count value n₀ j₀ n j = (j ≤ count) × ((n ≤ j) × (n ≡ countedBelow (valueOf value) (part s at bucketSize) j))
+Inv-loop s at count key value n₀ j₀ n j = (j ≤ count) × ((n ≤ j) × (n ≡ countedBelow (num key) (valueOf value) (part s at bucketSize) j))
 
 abbrev μ-loop : tie.MeasureT-loop
-μ-loop s at count value n₀ j₀ n j = count - j
+μ-loop s at count key value n₀ j₀ n j = count - j
 
 loop-holds : tie.Need-loop-holds Inv-loop μ-loop
-loop-holds c = (omega arith, (omega arith, sym (counted-none _ _)))
+loop-holds c = (omega arith, (omega arith, sym (counted-none _ _ _)))
 
 mul-counts-at : tie.Need-mul-counts-at Inv-loop μ-loop
 mul-counts-at c = search needs

@@ -1,7 +1,23 @@
-use Rattle.table_filter.proofs.Held.{value-at}
+use mathlib.Core.Path.{_≡_, sym, ap, _∙_}
+use mathlib.Core.Bool.{Bool, not}
+use Prim.Native.Nat.{ℕ}
+use borrow.Author.Tests.{not-true, not-false}
+use Rattle.model.specs.Base.{same}
+use Rattle.model.specs.Filter.{counts}
+use Rattle.key.specs.Key.{num}
+use Rattle.node.specs.Node.{valueOf}
+use Rattle.table_filter.proofs.Held.{valueThere, place-passed, place-by-key}
 use borrow.Author.Needs.{needs}
 use Rattle.table_filter.proofs.counts_at.Statement.{statement}
 use Rattle.table_filter.proofs.counts_at.Tie as tie
+
+-- the value there counts or not, as it was tested
+module _ (n : tie.After-counts) where
+  abbrev o : tie.Start
+  o = n .before .before .before
+
+  tested : (t : Bool) → n .counts .result ≡ t → counts (valueOf (o .args .value)) (valueThere (o .args .s .now) (o .args .at)) ≡ t
+  tested t e = ap (λ w. counts (valueOf (o .args .value)) (valueOf w)) (sym (n .before .load-value .ensures)) ∙ sym (n .counts .ensures) ∙ e
 
 add-load-value : tie.Need-add-load-value
 add-load-value c = search needs
@@ -13,7 +29,31 @@ counts-requires : tie.Need-counts-requires
 counts-requires c κs = search needs
 
 returns : tie.Need-returns
-returns c = rw value-at (cc)
+returns c =
+    let a = o (c .before) .args in
+    place-passed (num (a .key)) (valueOf (a .value)) (a .s .now) (a .at) (tested (c .before) _ (not-true _ (c .if1 .taken)))
+
+load-requires : tie.Need-load-requires
+load-requires c κs = search needs
+
+eq-requires : tie.Need-eq-requires
+eq-requires c κs = search needs
+
+returns-2 : tie.Need-returns-2
+returns-2 c =
+    let e = c .before .before in
+    let a = o (e .before) .args in
+    ap not (c .eq .ensures ∙ ap (λ (m : ℕ). same m (num (a .key))) (c .before .load .ensures))
+    ∙ place-by-key (num (a .key)) (valueOf (a .value)) (a .s .now) (a .at) (tested (e .before) _ (not-false _ (e .if1 .left)))
 
 pub counts-at-spec : {M : Type 1} → statement M
-counts-at-spec = tie.close (tie.spec add-load-value load-value-requires counts-requires returns)
+counts-at-spec =
+    tie.close
+    (tie.spec
+    add-load-value
+    load-value-requires
+    counts-requires
+    returns
+    load-requires
+    eq-requires
+    returns-2)

@@ -3,21 +3,24 @@ use mathlib.Core.Path.{_≡_, refl, sym}
 use Prim.Native.Nat.{_+_, _-_, _≤_, _<_}
 use native.Mathlib.Omega.{arith}
 use lib.ListN.{length}
-use Rattle.model.specs.Filter.{counted, maxNodesPerSubnetTable}
+use Rattle.model.specs.Base.{select}
+use Rattle.model.specs.Filter.{maxNodesPerSubnetTable}
 use Rattle.model.specs.Bucket.{nodes}
 use Rattle.model.specs.Table.{numBuckets, heldNodes}
 use Rattle.model.specs.Layout.{tableOf}
+use Rattle.key.specs.Key.{num}
 use Rattle.node.specs.Node.{valueOf}
+use Rattle.table_filter.specs.Counted.{countsOther}
 use Rattle.table_filter.proofs.Held.{counted-bucket, counted-mono, has-address, no-address, filter-no-address, filter-fails, filter-passes, table-bucket, bucket-count}
 use Rattle.table_filter.proofs.fails_table_filter.Statement.{statement}
 use Rattle.table_filter.proofs.fails_table_filter.Tie as tie
 
 abbrev Inv-loop : tie.InvT-loop
-Inv-loop s value n₀ i₀ n i =
-    (i ≤ numBuckets) × ((n < maxNodesPerSubnetTable) × (n ≡ length (counted (valueOf value) (heldNodes i (tableOf s .buckets)))))
+Inv-loop s key value n₀ i₀ n i =
+    (i ≤ numBuckets) × ((n < maxNodesPerSubnetTable) × (n ≡ length (select (countsOther (num key) (valueOf value)) (heldNodes i (tableOf s .buckets)))))
 
 abbrev μ-loop : tie.MeasureT-loop
-μ-loop s value n₀ i₀ n i = numBuckets - i
+μ-loop s key value n₀ i₀ n i = numBuckets - i
 
 returns : tie.Need-returns Inv-loop μ-loop
 returns c =
@@ -47,12 +50,12 @@ returns-2 : tie.Need-returns-2 Inv-loop μ-loop
 returns-2 c =
     let l = c .before .before .before in
     let a = l .before .before .before .before .args in
-    let v = valueOf (a .value) in
+    let p = countsOther (num (a .key)) (valueOf (a .value)) in
     let bs = tableOf (a .s .now) .buckets in
-    let more = counted-bucket v bs (l .loop .i) in
-    let all = counted-mono v bs (l .loop .i + 1) numBuckets (omega arith) in
-    let here : c .before .counted .result ≡ length (counted v (nodes (bs (l .loop .i)))) = rw table-bucket (c .before .counted .ensures .0) in
-    sym (filter-fails maxNodesPerSubnetTable v (heldNodes numBuckets bs) (has-address (a .value) (l .before .if1 .left)) (omega arith))
+    let more = counted-bucket p bs (l .loop .i) in
+    let all = counted-mono p bs (l .loop .i + 1) numBuckets (omega arith) in
+    let here : c .before .counted .result ≡ length (select p (nodes (bs (l .loop .i)))) = rw table-bucket (c .before .counted .ensures .0) in
+    sym (filter-fails maxNodesPerSubnetTable (num (a .key)) (valueOf (a .value)) bs (has-address (a .value) (l .before .if1 .left)) (omega arith))
 
 add-i : tie.Need-add-i Inv-loop μ-loop
 add-i c = search needs
@@ -64,20 +67,20 @@ loop-again : tie.Need-loop-again Inv-loop μ-loop
 loop-again c =
     let l = c .before .before .before in
     let a = l .before .before .before .before .args in
-    let v = valueOf (a .value) in
+    let p = countsOther (num (a .key)) (valueOf (a .value)) in
     let bs = tableOf (a .s .now) .buckets in
-    let more = counted-bucket v bs (l .loop .i) in
-    let here : c .before .counted .result ≡ length (counted v (nodes (bs (l .loop .i)))) = rw table-bucket (c .before .counted .ensures .0) in
+    let more = counted-bucket p bs (l .loop .i) in
+    let here : c .before .counted .result ≡ length (select p (nodes (bs (l .loop .i)))) = rw table-bucket (c .before .counted .ensures .0) in
     (omega arith, (omega arith, omega arith))
 
 returns-3 : tie.Need-returns-3 Inv-loop μ-loop
 returns-3 c =
     let l = c .before in
     let a = l .before .before .before .before .args in
-    let v = valueOf (a .value) in
+    let p = countsOther (num (a .key)) (valueOf (a .value)) in
     let e : l .loop .i ≡ numBuckets = omega arith in
-    let k : length (counted v (heldNodes numBuckets (tableOf (a .s .now) .buckets))) < maxNodesPerSubnetTable = rw (← e, ← l .loop .inv .1 .1) (omega arith) in
-    sym (filter-passes maxNodesPerSubnetTable v _ (has-address (a .value) (l .before .if1 .left)) k)
+    let k : length (select p (heldNodes numBuckets (tableOf (a .s .now) .buckets))) < maxNodesPerSubnetTable = rw (← e, ← l .loop .inv .1 .1) (omega arith) in
+    sym (filter-passes maxNodesPerSubnetTable (num (a .key)) (valueOf (a .value)) _ (has-address (a .value) (l .before .if1 .left)) k)
 
 pub fails-table-filter-spec : {M : Type 1} → statement M
 fails-table-filter-spec =

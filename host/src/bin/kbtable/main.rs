@@ -46,7 +46,7 @@ DIRECTION):
   STATE DIRECTION    0 disconnected or 1 connected; 0 outgoing or 1 incoming; 2 for 'not given' where a '?' stands
   NOW TIMEOUT        milliseconds
   MAX_INCOMING       the most connected incoming nodes of a bucket, 0 to 16
-  TABLE_FILTER       1: a value fails where the table holds 10 values of its /24 that are unequal to it; 0: off
+  TABLE_FILTER       1: a value fails where the table holds 10 values of its /24 that are unequal to it, the key's own apart; 0: off
   BUCKET_FILTER      1: a value fails where the bucket holds 2 values of its /24 that are unequal to it; 0: off
   DISTANCES          log2 distances joined by commas, '-' for none; distance D, 1 to 256, is bucket D - 1, others are dropped
   PREDICATE          0 always, 1 has an address, 2:a.b.c address in that /24, 3:SLOT slot equals
