@@ -31,7 +31,7 @@
 
 /* The version of this header: 0x00MMmmpp, a byte each for major, minor and patch. */
 #define KBUCKETS_VERSION_MAJOR 0
-#define KBUCKETS_VERSION_MINOR 3
+#define KBUCKETS_VERSION_MINOR 4
 #define KBUCKETS_VERSION_PATCH 0
 #define KBUCKETS_VERSION (KBUCKETS_VERSION_MAJOR * 0x10000 + KBUCKETS_VERSION_MINOR * 0x100 + KBUCKETS_VERSION_PATCH)
 
@@ -54,7 +54,7 @@ enum {
     KBUCKETS_VALUE_BYTES = 5 + KBUCKETS_SLOT_BYTES,
     /* key, state, direction, value */
     KBUCKETS_NODE_BYTES = KBUCKETS_KEY_BYTES + 2 + KBUCKETS_VALUE_BYTES,
-    /* inserted key, evicted flag, evicted node (zero where the flag is 0) */
+    /* the key of a pending, its ending (KBUCKETS_ENDING_..), the evicted node (zero but for KBUCKETS_ENDING_REPLACED) */
     KBUCKETS_RECORD_BYTES = KBUCKETS_KEY_BYTES + 1 + KBUCKETS_NODE_BYTES,
 
     KBUCKETS_MAX_NODES_PER_BUCKET = 16,
@@ -184,13 +184,30 @@ enum {
     KBUCKETS_APPLIED_RECORD = 1 /* the record stands in the first KBUCKETS_RECORD_BYTES of `answer` */
 };
 
+/* What became of a pending: the byte behind the key of a record, at KBUCKETS_KEY_BYTES. */
+enum {
+    KBUCKETS_ENDING_PLACED = 0,            /* placed, and no node evicted */
+    KBUCKETS_ENDING_REPLACED = 1,          /* placed, and the node at place 0 evicted, which stands behind this byte */
+    KBUCKETS_ENDING_FIRST_CONNECTED = 2,   /* dropped: 16 nodes are held, and the one at place 0 is connected */
+    KBUCKETS_ENDING_BUCKET_FILTER = 3,     /* dropped by the bucket filter */
+    KBUCKETS_ENDING_TOO_MANY_INCOMING = 4, /* dropped by the incoming limit */
+    KBUCKETS_ENDING_INSERTED = 5,          /* cleared by a direct insert of its key */
+    KBUCKETS_ENDING_FIRST_CONFIRMED = 6    /* cleared: the node at place 0 was given CONNECTED */
+};
+
 /* The table. `storage` is KBUCKETS_STORAGE_BYTES; `now` is a count of milliseconds, and may go back. A value is address flag, octets a, b,
  * c, d, and slot.
  *
  * A pending whose deadline has come is applied by the first call about its bucket that is given `now` and is no entry action (an
- * explanation is none): it takes a free place or evicts the node at place 0, and is a record in the queue, or it is dropped without a record. The call then acts on the
+ * explanation is none): it takes a free place or evicts the node at place 0, or it is dropped, because 16 are held and the node at place 0
+ * is connected, by the bucket filter, or by the incoming limit; the first of these that holds is its ending. The call then acts on the
  * bucket as that left it. One thing comes before: the table filter of kbuckets_update_node and kbuckets_insert_or_update looks at the
- * values that were held before the pending was applied.
+ * values that were held before the pending was applied. A pending that is not due is cleared where its key is inserted into a free place,
+ * or the node at place 0 given CONNECTED, also where that call fails or changes nothing.
+ *
+ * However a pending ends, it leaves one record in the queue, of its key and its ending; only kbuckets_new ends pendings without. So the
+ * inserts that answered PENDING since then are the records left and the pendings that still wait. A listing may leave several records, in
+ * the order of its visit, any other call at most one. A call that would leave more than 64 in the queue is refused with QUEUE.
  *
  * The filters. A value with an address fails the table filter where the table holds 10 values of its /24 that are unequal to it, and the
  * bucket filter where its bucket holds 2; the old value of its own key is not counted. So a held key whose new value keeps the /24 of the old
@@ -236,7 +253,7 @@ KBUCKETS_MUST_USE uint32_t kbuckets_entry(uint8_t *storage, size_t storage_len, 
  * as for the local key. */
 
 /* Of a Present key: sets the status, as kbuckets_update_node_status does. direction: also NOT_GIVEN. Answers any UPDATE_.. but
- * UPDATED_PENDING, FAILED_TOO_MANY_INCOMING or FAILED_BUCKET_FILTER. Questions 1 to 4, 7. */
+ * UPDATED_PENDING, FAILED_TOO_MANY_INCOMING or FAILED_BUCKET_FILTER. Questions 1 to 4, 7, 8. */
 KBUCKETS_MUST_USE uint32_t kbuckets_present_update(
     uint8_t *storage, size_t storage_len, const uint8_t *key, size_t key_len, uint8_t state, uint8_t direction);
 
@@ -282,7 +299,7 @@ KBUCKETS_MUST_USE uint32_t kbuckets_closest_values_predicate(
     uint8_t *storage, size_t storage_len, const uint8_t *target, size_t target_len, uint8_t predicate, uint8_t a, uint8_t b, uint8_t c,
     kbuckets_slot slot, size_t n, uint64_t now, uint8_t *output, size_t output_len);
 
-/* Takes the oldest record of an applied pending out of the queue. `answer` is at least KBUCKETS_ANSWER_BYTES. Answers APPLIED_RECORD with
+/* Takes the oldest record, whatever its ending, out of the queue. `answer` is at least KBUCKETS_ANSWER_BYTES. Answers APPLIED_RECORD with
  * the record in `answer`, or APPLIED_NONE. Questions 1, 2, 6. */
 KBUCKETS_MUST_USE uint32_t kbuckets_take_applied_pending(uint8_t *storage, size_t storage_len, uint8_t *answer, size_t answer_len);
 
@@ -341,7 +358,7 @@ KBUCKETS_MUST_USE uint32_t kbuckets_explain_insert_or_update(
 KBUCKETS_MUST_USE uint32_t kbuckets_explain_remove(
     const uint8_t *storage, size_t storage_len, const uint8_t *key, size_t key_len, uint64_t now, uint8_t *output, size_t output_len);
 
-/* Explains kbuckets_present_update. Reasons: none, bucket filter, incoming limit. Questions 1 to 4, 6, 7. */
+/* Explains kbuckets_present_update. Reasons: none, bucket filter, incoming limit. Questions 1 to 4, 6 to 8. */
 KBUCKETS_MUST_USE uint32_t kbuckets_explain_present_update(
     const uint8_t *storage, size_t storage_len, const uint8_t *key, size_t key_len, uint8_t state, uint8_t direction, uint8_t *output,
     size_t output_len);
@@ -358,7 +375,7 @@ KBUCKETS_MUST_USE uint32_t kbuckets_explain_absent_insert(
     uint8_t d, kbuckets_slot slot, uint8_t state, uint8_t direction, uint64_t now, uint8_t *output, size_t output_len);
 
 /* A bucket by itself. `bucket` is KBUCKETS_BUCKET_BYTES: what a table stores of a bucket, then pending timeout, max_incoming and filter.
- * Question 2 asks nothing of the index of its keys. */
+ * Question 2 asks nothing of the index of its keys. It has no queue: what becomes of its pending leaves no record. */
 
 /* Makes the bytes, whatever they were, an empty bucket. max_incoming: 0 to 16. Answers 0. Questions 1, 4. */
 KBUCKETS_MUST_USE uint32_t kbuckets_b_new(
@@ -369,8 +386,8 @@ KBUCKETS_MUST_USE uint32_t kbuckets_b_insert(
     uint8_t *bucket, size_t bucket_len, const uint8_t *key, size_t key_len, uint8_t flag, uint8_t a, uint8_t b, uint8_t c, uint8_t d,
     kbuckets_slot slot, uint8_t state, uint8_t direction, uint64_t now, uint8_t *answer, size_t answer_len);
 
-/* Applies the pending if its deadline has come. `answer` is at least KBUCKETS_ANSWER_BYTES. Answers APPLIED_RECORD with the record in
- * `answer`, or APPLIED_NONE where none is due or it was dropped. Questions 1, 2, 5, 6. */
+/* Applies the pending if its deadline has come. `answer` is at least KBUCKETS_ANSWER_BYTES. Answers APPLIED_RECORD with the record of a
+ * pending that was placed in `answer`, or APPLIED_NONE where none is due or it was dropped. Questions 1, 2, 5, 6. */
 KBUCKETS_MUST_USE uint32_t kbuckets_b_apply_pending(uint8_t *bucket, size_t bucket_len, uint64_t now, uint8_t *answer, size_t answer_len);
 
 /* Sets the status of the key's node or pending, fails and answers as kbuckets_update_node_status does. direction: also NOT_GIVEN.

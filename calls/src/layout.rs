@@ -1,6 +1,6 @@
 //! The bytes of a table and of a bucket by itself: offsets, reading and writing, and question 2. All numbers are big-endian.
 
-use crate::text::{NodeCodes, RecordCodes, Slot, ValueCodes, Write};
+use crate::text::{EndingCodes, NodeCodes, RecordCodes, Slot, Unplaced, ValueCodes, Write};
 
 pub const PLACES: usize = 16;
 pub const BUCKETS: usize = 256;
@@ -14,8 +14,11 @@ const SLOT_AT: usize = OCTETS_AT + 4;
 pub const VALUE: usize = SLOT_AT + size_of::<Slot>();
 /// Key, state, direction, value.
 pub const NODE: usize = KEY + 2 + VALUE;
-/// Inserted key, evicted flag, evicted node.
+/// Key, ending, evicted node.
 pub const RECORD: usize = KEY + 1 + NODE;
+/// The endings of a pending that was placed: without an eviction, with one.
+const PLACED: u8 = 0;
+const EVICTING: u8 = 1;
 
 /// Count, first connected place, the places; then pending flag, pending node, deadline.
 const PENDING_AT: usize = 2 + PLACES * NODE;
@@ -99,7 +102,12 @@ pub fn node_in(bytes: &[u8]) -> NodeCodes {
 }
 
 pub fn record_in(bytes: &[u8]) -> RecordCodes {
-    RecordCodes { inserted: key_in(bytes), evicted: (bytes[KEY] == 1).then(|| node_in(&bytes[KEY + 1..])) }
+    let ending = match bytes[KEY] {
+        PLACED => EndingCodes::Placed(None),
+        EVICTING => EndingCodes::Placed(Some(node_in(&bytes[KEY + 1..]))),
+        code => EndingCodes::Unplaced(code),
+    };
+    RecordCodes { key: key_in(bytes), ending }
 }
 
 fn write_node(node: &NodeCodes, bytes: &mut [u8]) {
@@ -120,10 +128,14 @@ pub fn value_bytes(value: &ValueCodes) -> [u8; VALUE] {
 /// The bytes of a record; those of the node are zero where none is evicted.
 pub fn record_bytes(record: &RecordCodes) -> [u8; RECORD] {
     let mut bytes = [0; RECORD];
-    bytes[..KEY].copy_from_slice(&record.inserted);
-    if let Some(node) = &record.evicted {
-        bytes[KEY] = 1;
-        write_node(node, &mut bytes[KEY + 1..]);
+    bytes[..KEY].copy_from_slice(&record.key);
+    match &record.ending {
+        EndingCodes::Placed(None) => bytes[KEY] = PLACED,
+        EndingCodes::Placed(Some(node)) => {
+            bytes[KEY] = EVICTING;
+            write_node(node, &mut bytes[KEY + 1..]);
+        }
+        EndingCodes::Unplaced(code) => bytes[KEY] = *code,
     }
     bytes
 }
@@ -272,10 +284,10 @@ impl TableBytes {
             && settings.bucket_filter <= 1
             && all_zero(&self.0[PADDING_AT..RECORDS_AT])
             && count <= RECORDS
-            && self.record_parts().all(|bytes| match bytes[KEY] {
-                0 => all_zero(&bytes[KEY..]),
-                1 => codes_in_range(&node_in(&bytes[KEY + 1..])),
-                _ => false,
+            && self.record_parts().all(|bytes| match record_in(bytes).ending {
+                EndingCodes::Placed(Some(node)) => codes_in_range(&node),
+                EndingCodes::Placed(None) => all_zero(&bytes[KEY + 1..]),
+                EndingCodes::Unplaced(code) => Unplaced::of_code(code).is_some() && all_zero(&bytes[KEY + 1..]),
             })
             && all_zero(&self.0[RECORDS_AT + count * RECORD..BUCKETS_AT])
             && (0..BUCKETS).all(|i| self.bucket(i).formed(|key| index(&local, key) == Some(i), settings.max_incoming))

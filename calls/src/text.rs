@@ -20,11 +20,68 @@ pub struct NodeCodes {
     pub value: ValueCodes,
 }
 
-/// A record of an applied pending as storage keeps it.
+/// A record of a pending that ended, as storage keeps it.
 #[derive(Clone, Copy, Debug, PartialEq, Eq)]
 pub struct RecordCodes {
-    pub inserted: [u8; 32],
-    pub evicted: Option<NodeCodes>,
+    pub key: [u8; 32],
+    pub ending: EndingCodes,
+}
+
+/// How a pending ended.
+#[derive(Clone, Copy, Debug, PartialEq, Eq)]
+pub enum EndingCodes {
+    /// Placed, with the node that it evicted, if any.
+    Placed(Option<NodeCodes>),
+    /// Not placed: a code of [`Unplaced`], or of any other number.
+    Unplaced(u8),
+}
+
+/// The endings without a place, by their codes.
+#[derive(Clone, Copy, Debug, PartialEq, Eq)]
+#[repr(u8)]
+pub enum Unplaced {
+    /// 16 are held and place 0 is connected.
+    FirstConnected = 2,
+    BucketFilter,
+    TooManyIncoming,
+    /// By a direct insert of its key.
+    Inserted,
+    /// Place 0 was given Connected.
+    FirstConfirmed,
+}
+
+impl Unplaced {
+    const ALL: [Unplaced; 5] = [
+        Unplaced::FirstConnected,
+        Unplaced::BucketFilter,
+        Unplaced::TooManyIncoming,
+        Unplaced::Inserted,
+        Unplaced::FirstConfirmed,
+    ];
+
+    pub fn of_code(code: u8) -> Option<Unplaced> {
+        Unplaced::ALL.into_iter().find(|ending| *ending as u8 == code)
+    }
+
+    fn of_word(word: &str) -> Option<Unplaced> {
+        Unplaced::ALL.into_iter().find(|ending| ending.word() == word)
+    }
+
+    pub fn word(self) -> &'static str {
+        match self {
+            Unplaced::FirstConnected => "dropped_place_0",
+            Unplaced::BucketFilter => "dropped_bucket_filter",
+            Unplaced::TooManyIncoming => "dropped_incoming_limit",
+            Unplaced::Inserted => "cleared_inserted",
+            Unplaced::FirstConfirmed => "cleared_confirmed",
+        }
+    }
+}
+
+impl From<Unplaced> for EndingCodes {
+    fn from(ending: Unplaced) -> EndingCodes {
+        EndingCodes::Unplaced(ending as u8)
+    }
 }
 
 /// Which values `closest_values_predicate` marks. `Code` is a number alone: 0 always, 1 has an address, others out of range.
@@ -207,7 +264,7 @@ pub const RAW_FORMS: [&str; 5] = [
     "raw_node I KEY VALUE STATE DIRECTION",
     "raw_fcp I PLACE",
     "raw_pending I KEY VALUE STATE DIRECTION DEADLINE",
-    "raw_record KEY EVICTED",
+    "raw_record KEY ENDING",
     "raw_byte OFFSET NUMBER",
 ];
 
@@ -380,7 +437,7 @@ fn raw(name: &str, words: &mut Words) -> Result<Option<Raw>, String> {
         "raw_node" => Raw::Node(words.which()?, words.node()?),
         "raw_fcp" => Raw::FirstConnected(words.which()?, words.place()?),
         "raw_pending" => Raw::Pending(words.which()?, words.node()?, words.number()?),
-        "raw_record" => Raw::Record(RecordCodes { inserted: words.whole_key()?, evicted: words.evicted()? }),
+        "raw_record" => Raw::Record(RecordCodes { key: words.whole_key()?, ending: words.ending()? }),
         "raw_byte" => Raw::Byte(words.number()?, words.code()?),
         _ => return Ok(None),
     }))
@@ -432,12 +489,18 @@ impl<'a> Words<'a> {
         Ok(NodeCodes { key, value, state: self.code()?, direction: self.code()? })
     }
 
-    fn evicted(&mut self) -> Result<Option<NodeCodes>, String> {
-        if self.rest == Some("-") {
-            self.rest = None;
-            return Ok(None);
-        }
-        self.node().map(Some)
+    /// A word of [`Unplaced`], or, of a pending that was placed, `-` or the evicted node.
+    fn ending(&mut self) -> Result<EndingCodes, String> {
+        let mut ahead = Words { rest: self.rest };
+        let ending = match ahead.word()? {
+            "-" => EndingCodes::Placed(None),
+            word => match Unplaced::of_word(word) {
+                Some(ending) => ending.into(),
+                None => return self.node().map(|node| EndingCodes::Placed(Some(node))),
+            },
+        };
+        self.rest = ahead.rest;
+        Ok(ending)
     }
 
     fn which(&mut self) -> Result<Which, String> {
@@ -552,12 +615,22 @@ pub trait Write {
         self.number(direction.into());
     }
 
+    /// `KEY^NODE`, `KEY^-` or `KEY!ENDING`; a code that is no ending's as a number.
     fn record(&mut self, record: &RecordCodes) {
-        self.key(&record.inserted);
-        self.text("^");
-        match &record.evicted {
-            Some(node) => self.node(node),
-            None => self.text("-"),
+        self.key(&record.key);
+        match &record.ending {
+            EndingCodes::Placed(Some(node)) => {
+                self.text("^");
+                self.node(node);
+            }
+            EndingCodes::Placed(None) => self.text("^-"),
+            EndingCodes::Unplaced(code) => {
+                self.text("!");
+                match Unplaced::of_code(*code) {
+                    Some(ending) => self.text(ending.word()),
+                    None => self.number((*code).into()),
+                }
+            }
         }
     }
 

@@ -1,11 +1,12 @@
 //! Lines are read as they are written, and bytes are written and dumped where the layout says.
 
 use calls::layout::{
-    ALONE, AloneBytes, KEY, NODE, RECORD, RECORDS, STORAGE, Settings, TableBytes, VALUE, bucket_at, value_in,
+    ALONE, AloneBytes, KEY, NODE, RECORD, RECORDS, STORAGE, Settings, TableBytes, VALUE, bucket_at, record_bytes,
+    record_in, value_in,
 };
 use calls::text::{
-    BUCKET_FORMS, BucketCall, Line, Listing, NodeCodes, PEER_CALLS, Predicate, RAW_FORMS, Raw, RecordCodes, Slot,
-    TABLE_FORMS, TableCall, ValueCodes, Which, Write, parse,
+    BUCKET_FORMS, BucketCall, EndingCodes, Line, Listing, NodeCodes, PEER_CALLS, Predicate, RAW_FORMS, Raw,
+    RecordCodes, Slot, TABLE_FORMS, TableCall, Unplaced, ValueCodes, Which, Write, parse,
 };
 
 fn read(line: &str) -> Line {
@@ -19,7 +20,7 @@ fn example(form: &str) -> String {
         "VALUE" => "1:10.0.0.1:7".to_string(),
         "DISTANCES" => "3,256".to_string(),
         "PREDICATE" => "2:10.0.0".to_string(),
-        "EVICTED" | "PLACE" => "-".to_string(),
+        "ENDING" | "PLACE" => "-".to_string(),
         "CALL" => "remove 1 :4".to_string(),
         _ if word.chars().any(|c| c.is_ascii_lowercase()) => word.to_string(),
         _ => "1".to_string(),
@@ -134,6 +135,75 @@ fn words() {
     let Line::Raw(Raw::FirstConnected(Which::Itself, None)) = read("raw_fcp b -") else { panic!() };
 }
 
+/// The six endings of a raw record, with their codes in storage, and the words of a dump.
+#[test]
+fn records() {
+    let evicted = node(4, 1);
+    let slot = evicted.value.slot;
+    for (text, word, code) in [
+        ("-", "^-", 0),
+        (&format!(":4 1:10.0.0.4:{slot} 1 1")[..], &format!("^{:0>64}/1:10.0.0.4:{slot}/1/1", 4)[..], 1),
+        ("dropped_place_0", "!dropped_place_0", 2),
+        ("dropped_bucket_filter", "!dropped_bucket_filter", 3),
+        ("dropped_incoming_limit", "!dropped_incoming_limit", 4),
+        ("cleared_inserted", "!cleared_inserted", 5),
+        ("cleared_confirmed", "!cleared_confirmed", 6),
+    ] {
+        let Line::Raw(Raw::Record(record)) = read(&format!("raw_record :7 {text}")) else { panic!() };
+        let bytes = record_bytes(&record);
+        assert_eq!((bytes[31], bytes[KEY]), (7, code));
+        assert_eq!(record_in(&bytes), record);
+        let node = if code == 1 { record_bytes(&placed(0, Some(evicted)))[KEY + 1..].to_vec() } else { vec![0; NODE] };
+        assert_eq!(bytes[KEY + 1..], node, "zero but for an evicted node");
+        assert_eq!(self::text(|out| out.record(&record)), format!("{:0>64}{word}", 7));
+        assert!(parse(&format!("raw_record :7 {text} 0")).is_err());
+    }
+    for bad in ["dropped", "2", "!dropped_place_0", "cleared_confirmed ", "- -", "dropped_place_0 -"] {
+        assert!(parse(&format!("raw_record :7 {bad}")).is_err(), "{bad}");
+    }
+    let codes = [2, 3, 4, 5, 6].map(|code| Unplaced::of_code(code).unwrap() as u8);
+    assert_eq!(codes, [2, 3, 4, 5, 6]);
+    assert!([0, 1, 7, 255].into_iter().all(|code| Unplaced::of_code(code).is_none()));
+}
+
+/// Question 2 of records: an ending above 6, bytes behind one without an evicted node, the codes of an evicted node.
+#[test]
+fn records_that_are_malformed() {
+    let table = |kind: u8, change: Option<(usize, u8)>| {
+        let mut table = TableBytes::new(&[0; 32], &Settings::default());
+        let evicted = (kind == 1).then(|| node(4, 1));
+        table.push_record(&placed(7, evicted)).unwrap();
+        let record = bucket_at(0) - RECORDS * RECORD;
+        table.0[record + KEY] = kind;
+        if let Some((at, byte)) = change {
+            table.0[record + at] = byte;
+        }
+        table
+    };
+    for kind in 0..=255 {
+        assert_eq!(table(kind, None).formed(), kind <= 6, "{kind}");
+        for at in [KEY + 1, RECORD - 1] {
+            assert_eq!(table(kind, Some((at, 1))).formed(), kind == 1, "{kind} {at}");
+        }
+    }
+    for at in [KEY + 1 + KEY, KEY + 1 + KEY + 1, KEY + 1 + KEY + 2] {
+        assert!(!table(1, Some((at, 2))).formed(), "a code of the evicted node at {at}");
+    }
+    assert!(table(1, Some((KEY + 1 + KEY, 0))).formed());
+    let queue = |table: TableBytes| text(|out| table.dump(out)).split_once("queue=").unwrap().1.to_string();
+    assert_eq!(queue(table(7, None)), format!("[{:0>64}!7]\n", 7));
+    assert_eq!(queue(table(255, Some((KEY + 1, 1)))), format!("[{:0>64}!255]\n", 7));
+    assert_eq!(queue(table(6, Some((KEY + 1, 1)))), format!("[{:0>64}!cleared_confirmed]\n", 7));
+    assert_eq!(queue(table(0, Some((KEY + 1, 1)))), format!("[{:0>64}^-]\n", 7));
+}
+
+/// A record of a pending that was placed.
+fn placed(last: u8, evicted: Option<NodeCodes>) -> RecordCodes {
+    let mut key = [0; 32];
+    key[31] = last;
+    RecordCodes { key, ending: EndingCodes::Placed(evicted) }
+}
+
 /// A slot, in a value and in predicate 3, is any number up to 2^64 - 1; over it the line is a bad one.
 #[test]
 fn slots() {
@@ -145,7 +215,9 @@ fn slots() {
             matches!(line, Line::Bucket { call: BucketCall::UpdateValue { value: read, .. }, .. } if read == value)
         );
         let line = read(&format!("raw_record :1 :2 1:10.0.0.1:{slot} 0 0"));
-        assert!(matches!(line, Line::Raw(Raw::Record(RecordCodes { evicted: Some(node), .. })) if node.value == value));
+        assert!(
+            matches!(line, Line::Raw(Raw::Record(RecordCodes { ending: EndingCodes::Placed(Some(node)), .. })) if node.value == value)
+        );
         let line = read(&format!("closest_values_predicate 0 :1 3:{slot} 2"));
         let Line::Table { call: TableCall::List { listing, .. }, .. } = line else { panic!() };
         assert!(matches!(listing, Listing::ClosestValuesPredicate(_, Predicate::Slot(read)) if read == slot));
@@ -200,8 +272,8 @@ fn places_of_the_bytes() {
     let pending = bucket + 2 + 16 * NODE;
     assert_eq!((table.0[pending], table.0[pending + 1 + 31]), (1, 6));
     assert_eq!(table.0[pending + 1 + NODE..bucket + stored_bucket], [0, 0, 0, 0, 0, 0, 0x0f, 0]);
-    table.push_record(&RecordCodes { inserted: [1; 32], evicted: None }).unwrap();
-    table.push_record(&RecordCodes { inserted: [2; 32], evicted: Some(node(4, 0)) }).unwrap();
+    table.push_record(&placed(1, None)).unwrap();
+    table.push_record(&placed(2, Some(node(4, 0)))).unwrap();
     assert_eq!(table.0[settings_end - 1..records_at], [2, 0, 0, 0, 0]);
     let (first, second) = (records_at, records_at + RECORD);
     assert_eq!((table.0[first + KEY], table.0[second + KEY]), (0, 1));
@@ -247,8 +319,9 @@ fn dumps() {
     table.bucket_mut(2).push_node(&node(5, 1)).unwrap();
     table.bucket_mut(2).set_first_connected(Some(1));
     table.bucket_mut(4).set_pending(&node(17, 1), 9);
-    table.push_record(&RecordCodes { inserted: [0; 32], evicted: Some(node(5, 0)) }).unwrap();
-    table.push_record(&RecordCodes { inserted: [0; 32], evicted: None }).unwrap();
+    table.push_record(&placed(0, Some(node(5, 0)))).unwrap();
+    table.push_record(&placed(0, None)).unwrap();
+    table.push_record(&RecordCodes { key: [0; 32], ending: Unplaced::FirstConfirmed.into() }).unwrap();
     let key = |last: &str| format!("{}{last}", "0".repeat(62));
     let (four, five, seventeen) = (key("04"), key("05"), key("11"));
     let slot = node(4, 0).value.slot;
@@ -258,7 +331,7 @@ fn dumps() {
             "dump local={zeros} timeout=5 max=1 tf=0 bf=1 \
              b2{{fcp=1 nodes=[{four}/1:10.0.0.4:{slot}/0/1 {five}/1:10.0.0.5:{slot}/1/1] pending=-}} \
              b4{{fcp=- nodes=[] pending={seventeen}/1:10.0.0.17:{slot}/1/1@9}} \
-             queue=[{zeros}^{five}/1:10.0.0.5:{slot}/0/1 {zeros}^-]\n"
+             queue=[{zeros}^{five}/1:10.0.0.5:{slot}/0/1 {zeros}^- {zeros}!cleared_confirmed]\n"
         )
     );
     let mut bucket = AloneBytes::new(&settings);
@@ -279,9 +352,9 @@ fn full() {
     }
     assert!(table.bucket_mut(255).push_node(&node(16, 0)).is_err());
     for _ in 0..64 {
-        table.push_record(&RecordCodes { inserted: [0; 32], evicted: None }).unwrap();
+        table.push_record(&placed(0, None)).unwrap();
     }
-    assert!(table.push_record(&RecordCodes { inserted: [0; 32], evicted: None }).is_err());
+    assert!(table.push_record(&placed(0, None)).is_err());
     table.set_byte(bucket_at(255) as u64, 255).unwrap();
     table.set_byte(43, 255).unwrap();
     let dump = text(|out| table.dump(out));

@@ -1,4 +1,5 @@
-// Reads and sets the private fields of a table, reaches an entry without applying a pending, and lists all values but a key's own.
+// Reads and sets the private fields of a table, reaches an entry without applying a pending, lists all values but a key's own, and has the
+// visit of the closest calls.
 
 use super::*;
 pub use super::bucket::{KBucket, access as bucket};
@@ -51,4 +52,12 @@ pub fn stored_entry<'a, TNodeId: Clone, TVal: Eq>(
         Some(i) => Entry::new(&mut table.buckets[i.get()], key),
         None => Entry::SelfEntry,
     }
+}
+
+/// The buckets in the order in which the closest calls visit them.
+pub fn closest_buckets<TNodeId, TVal: Eq>(
+    table: &KBucketsTable<TNodeId, TVal>,
+    target: &Key<TNodeId>,
+) -> Vec<usize> {
+    ClosestBucketsIter::new(table.local_key.distance(target)).map(BucketIndex::get).collect()
 }

@@ -12,9 +12,14 @@ use crate::program::{Implementation, Unanswered};
 use crate::stand_ins::Value;
 use crate::stand_ins::clock::{self, Instant};
 use crate::stand_ins::enr::NodeId;
-use crate::text::{BucketCall, Listing, NodeCodes, Predicate, RecordCodes, TableCall, ValueCodes, Write};
+use crate::text::{
+    BucketCall, EndingCodes, Listing, NodeCodes, Predicate, RecordCodes, TableCall, Unplaced, ValueCodes, Write,
+};
+use endings::Reach;
+use std::collections::VecDeque;
 use std::time::Duration;
 
+mod endings;
 mod explain;
 
 pub type Table = KBucketsTable<NodeId, Value>;
@@ -23,11 +28,12 @@ pub type Bucket = KBucket<NodeId, Value>;
 /// Question 6.
 const MAX_COUNT: u64 = 4096;
 
-/// The table and its settings.
+/// The table, its settings, and all records. The Rust's own queue has those of pendings that were placed, in the same order.
 #[derive(Clone)]
 struct HeldTable {
     settings: Settings,
     table: Table,
+    queue: VecDeque<RecordCodes>,
 }
 
 /// The bucket by itself and its settings.
@@ -194,7 +200,7 @@ pub fn new_table(local: &[u8; 32], settings: &Settings) -> Table {
 
 impl HeldTable {
     fn new(local: &[u8; 32], settings: Settings) -> HeldTable {
-        HeldTable { settings, table: new_table(local, &settings) }
+        HeldTable { settings, table: new_table(local, &settings), queue: VecDeque::new() }
     }
 
     /// Questions 3 to 8, then the call.
@@ -206,35 +212,37 @@ impl HeldTable {
                 let key = key_of(&key_bytes(key)?);
                 ask(4, *state <= 1 && *direction <= 2)?;
                 ask_clock(*now, settings)?;
-                let result =
-                    self.at(*now, |t| t.update_node_status(&key, state_of(*state), given(*direction, direction_of)))?;
+                let update =
+                    |t: &mut Table| t.update_node_status(&key, state_of(*state), given(*direction, direction_of));
+                let result = self.run(Some(*now), Reach::Applied(&key), update)?;
                 update_result(&result, out);
             }
             TableCall::UpdateNode { now, key, value, state } => {
                 let key = key_of(&key_bytes(key)?);
                 ask(4, layout::value_in_range(value) && *state <= 2)?;
                 ask_clock(*now, settings)?;
-                let result = self.at(*now, |t| t.update_node(&key, value_of(value), given(*state, state_of)))?;
+                let update = |t: &mut Table| t.update_node(&key, value_of(value), given(*state, state_of));
+                let result = self.run(Some(*now), Reach::Applied(&key), update)?;
                 update_result(&result, out);
             }
             TableCall::InsertOrUpdate { now, key, value, state, direction } => {
                 let key = key_of(&key_bytes(key)?);
                 ask(4, layout::value_in_range(value) && *state <= 1 && *direction <= 1)?;
                 ask_clock(*now, settings)?;
-                let result =
-                    self.at(*now, |t| t.insert_or_update(&key, value_of(value), status_of(*state, *direction)))?;
+                let insert = |t: &mut Table| t.insert_or_update(&key, value_of(value), status_of(*state, *direction));
+                let result = self.run(Some(*now), Reach::Applied(&key), insert)?;
                 insert_result(&result, out);
             }
             TableCall::Remove { now, key } => {
                 let key = key_of(&key_bytes(key)?);
                 ask_clock(*now, settings)?;
-                let removed = self.at(*now, |t| t.remove(&key))?;
+                let removed = self.run(Some(*now), Reach::Applied(&key), |t| t.remove(&key))?;
                 out.text(if removed { "true" } else { "false" });
             }
             TableCall::Entry { now, key } => {
                 let key = key_of(&key_bytes(key)?);
                 ask_clock(*now, settings)?;
-                let (name, status) = self.at(*now, |t| match t.entry(&key) {
+                let (name, status) = self.run(Some(*now), Reach::Applied(&key), |t| match t.entry(&key) {
                     Entry::Present(_, status) => ("Present", Some(status)),
                     Entry::Pending(_, status) => ("Pending", Some(status)),
                     Entry::Absent(_) => ("Absent", None),
@@ -251,15 +259,17 @@ impl HeldTable {
                 let key = key_of(&key_bytes(key)?);
                 ask(4, *state <= 1 && *direction <= 2)?;
                 ask(7, self.kind(&key) == Some(Kind::Present))?;
-                update_result(&self.present_update(&key, state_of(*state), given(*direction, direction_of)), out);
+                let update = |t: &mut Table| present_update(t, &key, state_of(*state), given(*direction, direction_of));
+                update_result(&self.run(None, Reach::Stored(&key), update)?, out);
             }
             TableCall::PendingUpdate { key, state, direction } => {
                 let key = key_of(&key_bytes(key)?);
                 ask(4, *state <= 1 && *direction <= 1)?;
                 ask(7, self.kind(&key) == Some(Kind::Pending))?;
-                clock::set(None);
-                let Entry::Pending(entry, _) = access::stored_entry(&mut self.table, &key) else { unreachable!() };
-                entry.update(status_of(*state, *direction));
+                self.run(None, Reach::Stored(&key), |t| {
+                    let Entry::Pending(entry, _) = access::stored_entry(t, &key) else { unreachable!() };
+                    entry.update(status_of(*state, *direction));
+                })?;
                 out.text("UpdatedPending");
             }
             TableCall::AbsentInsert { now, key, value, state, direction } => {
@@ -267,7 +277,7 @@ impl HeldTable {
                 ask(4, layout::value_in_range(value) && *state <= 1 && *direction <= 1)?;
                 ask_clock(*now, settings)?;
                 ask(7, self.kind(&key) == Some(Kind::Absent))?;
-                let result = self.at(*now, |t| match access::stored_entry(t, &key) {
+                let result = self.run(Some(*now), Reach::Stored(&key), |t| match access::stored_entry(t, &key) {
                     Entry::Absent(entry) => entry.insert(value_of(value), status_of(*state, *direction)),
                     _ => unreachable!(),
                 })?;
@@ -276,27 +286,27 @@ impl HeldTable {
             TableCall::List { now, listing, n, room } => self.list(*now, listing, *n, *room, out)?,
             TableCall::TakeAppliedPending => {
                 clock::set(None);
-                applied(self.table.take_applied_pending(), out);
+                taken(self.take(), out);
             }
             TableCall::Explain { call, room } => self.explain(call, *room, out)?,
         }
         Ok(())
     }
 
-    /// Question 8, by a trial on a clone, then the call itself. No trial is needed where even all pendings that are due would leave
-    /// room: each gives at most one record.
-    fn at<R>(&mut self, now: u64, call: impl Fn(&mut Table) -> R) -> Result<R, Unanswered> {
-        clock::set(Some(now));
-        let due = access::buckets(&self.table)
-            .iter()
-            .filter(|b| access::bucket::pending(b).is_some_and(|(_, deadline)| deadline <= Instant(now)))
-            .count();
-        if access::applied_pending(&self.table).len() + due > layout::RECORDS {
-            let mut trial = self.table.clone();
-            call(&mut trial);
-            ask(8, access::applied_pending(&trial).len() <= layout::RECORDS)?;
+    /// The call itself, the records that it leaves, and question 8, where the table is then as it was. Each pending leaves at most one
+    /// record, so a clone is kept only where there are enough of them.
+    fn run<R>(&mut self, now: Option<u64>, reach: Reach, call: impl FnOnce(&mut Table) -> R) -> Result<R, Unanswered> {
+        clock::set(now);
+        let (waiting, placed) = (self.waiting(), access::applied_pending(&self.table).len());
+        let kept = (self.queue.len() + waiting.len() > layout::RECORDS).then(|| self.table.clone());
+        let result = call(&mut self.table);
+        let records = self.records(waiting, placed, now, &reach);
+        if self.queue.len() + records.len() > layout::RECORDS {
+            self.table = kept.expect("more records than pendings");
+            return Err(Unanswered::Refused(8));
         }
-        Ok(call(&mut self.table))
+        self.queue.extend(records);
+        Ok(result)
     }
 
     /// Question 7: the kind of a key as stored.
@@ -307,23 +317,6 @@ impl HeldTable {
             Entry::Absent(_) => Some(Kind::Absent),
             Entry::SelfEntry => None,
         }
-    }
-
-    /// Present `update`. The Rust's says only whether it failed; the result is that of `update_status` on a clone of the bucket.
-    fn present_update(
-        &mut self,
-        key: &Key<NodeId>,
-        state: ConnectionState,
-        direction: Option<ConnectionDirection>,
-    ) -> UpdateResult {
-        clock::set(None);
-        let result = self.table.get_bucket(key).unwrap().clone().update_status(key, state, direction);
-        let Entry::Present(entry, _) = access::stored_entry(&mut self.table, key) else { unreachable!() };
-        match entry.update(state, direction) {
-            Ok(_) => assert!(!result.failed()),
-            Err(reason) => assert!(result == UpdateResult::Failed(reason)),
-        }
-        result
     }
 
     fn list(
@@ -347,7 +340,8 @@ impl HeldTable {
         let most = if matches!(listing, Listing::NodesByDistances(_)) { n.max(1) } else { n };
         ask(6, n <= MAX_COUNT && room.is_none_or(|room| most <= room))?;
         let n = n as usize;
-        let (count, items) = self.at(now, |t| items(t, listing, target.as_ref(), n))?;
+        let reach = Reach::Visited(visit(&self.table, listing, target.as_ref()));
+        let (count, items) = self.run(Some(now), reach, |t| items(t, listing, target.as_ref(), n))?;
         out.text("List ");
         out.number(count);
         out.extend_from_slice(&items);
@@ -363,14 +357,14 @@ impl HeldTable {
                 dump_bucket(bucket, out);
             }
         }
-        out.queue(access::applied_pending(&self.table).iter().map(record_codes));
+        out.queue(self.queue.iter().copied());
         out.text("\n");
     }
 
     fn bytes(&self) -> TableBytes {
         let mut bytes = TableBytes::new(&access::local_key(&self.table).preimage().raw(), &self.settings);
-        for record in access::applied_pending(&self.table) {
-            bytes.push_record(&record_codes(record)).unwrap();
+        for record in &self.queue {
+            bytes.push_record(record).unwrap();
         }
         for (i, bucket) in access::buckets(&self.table).iter().enumerate() {
             write_bucket(bucket, bytes.bucket_mut(i));
@@ -384,11 +378,43 @@ impl HeldTable {
         for (i, bucket) in access::buckets_mut(&mut held.table).iter_mut().enumerate() {
             read_bucket(bucket, bytes.bucket(i));
         }
-        access::applied_pending_mut(&mut held.table).extend(bytes.records().map(|record| AppliedPending {
-            inserted: key_of(&record.inserted),
-            evicted: record.evicted.as_ref().map(node_of),
-        }));
+        held.queue = bytes.records().collect();
+        let placed = held.queue.iter().filter_map(|record| match &record.ending {
+            EndingCodes::Placed(evicted) => {
+                Some(AppliedPending { inserted: key_of(&record.key), evicted: evicted.as_ref().map(node_of) })
+            }
+            EndingCodes::Unplaced(_) => None,
+        });
+        access::applied_pending_mut(&mut held.table).extend(placed);
         held
+    }
+}
+
+/// Present `update`. The Rust's says only whether it failed; the result is that of `update_status` on a clone of the bucket.
+fn present_update(
+    table: &mut Table,
+    key: &Key<NodeId>,
+    state: ConnectionState,
+    direction: Option<ConnectionDirection>,
+) -> UpdateResult {
+    let result = table.get_bucket(key).unwrap().clone().update_status(key, state, direction);
+    let Entry::Present(entry, _) = access::stored_entry(table, key) else { unreachable!() };
+    match entry.update(state, direction) {
+        Ok(_) => assert!(!result.failed()),
+        Err(reason) => assert!(result == UpdateResult::Failed(reason)),
+    }
+    result
+}
+
+/// The buckets in the order in which a listing visits them.
+fn visit(table: &Table, listing: &Listing, target: Option<&Key<NodeId>>) -> Vec<usize> {
+    match listing {
+        Listing::Iter => (0..layout::BUCKETS).collect(),
+        Listing::NodesByDistances(distances) => {
+            let there = distances.iter().filter(|distance| (1..=layout::BUCKETS as u64).contains(*distance));
+            there.map(|distance| *distance as usize - 1).collect()
+        }
+        _ => access::closest_buckets(table, target.unwrap()),
     }
 }
 
@@ -471,7 +497,7 @@ impl HeldBucket {
             BucketCall::ApplyPending { now } => {
                 ask_clock(*now, settings)?;
                 clock::set(Some(*now));
-                applied(bucket.apply_pending(), out);
+                taken(bucket.apply_pending().as_ref().map(record_codes), out);
             }
             BucketCall::UpdateStatus { key, state, direction } => {
                 let key = key_of(&key_bytes(key)?);
@@ -613,18 +639,23 @@ fn node_of(codes: &NodeCodes) -> Node<NodeId, Value> {
 }
 
 fn record_codes(record: &AppliedPending<NodeId, Value>) -> RecordCodes {
-    RecordCodes { inserted: record.inserted.preimage().raw(), evicted: record.evicted.as_ref().map(node_codes) }
+    let ending = EndingCodes::Placed(record.evicted.as_ref().map(node_codes));
+    RecordCodes { key: record.inserted.preimage().raw(), ending }
 }
 
-fn applied(record: Option<AppliedPending<NodeId, Value>>, out: &mut Vec<u8>) {
+fn taken(record: Option<RecordCodes>, out: &mut Vec<u8>) {
     match record {
         None => out.text("None"),
         Some(record) => {
             out.text("Some(");
-            out.record(&record_codes(&record));
+            out.record(&record);
             out.text(")");
         }
     }
+}
+
+fn raw_key(node: &Node<NodeId, Value>) -> [u8; 32] {
+    node.key.preimage().raw()
 }
 
 fn reason(reason: &FailureReason, out: &mut Vec<u8>) {

@@ -71,6 +71,8 @@ enum Theme {
     Edge,
     /// A full or nearly full queue before buckets with due pendings.
     FullQueue,
+    /// Pendings with every ground to end, and the calls that end them.
+    Endings,
     /// Due pendings in more buckets than the queue has room for.
     Many,
     /// Every bucket as full as it can be.
@@ -85,13 +87,14 @@ enum Theme {
     Limits,
 }
 
-const THEMES: [(Theme, u64); 11] = [
+const THEMES: [(Theme, u64); 12] = [
     (Theme::Calls, 300),
     (Theme::Nets, 150),
     (Theme::Queue, 60),
     (Theme::Raw, 200),
     (Theme::Edge, 80),
     (Theme::FullQueue, 60),
+    (Theme::Endings, 160),
     (Theme::Many, 15),
     (Theme::Big, 2),
     (Theme::Malformed, 60),
@@ -169,6 +172,43 @@ const RECORDS: [(&str, u64); 8] = [
     ("take_applied_pending", 1),
 ];
 
+/// Calls that end pendings.
+const ENDING: [(&str, u64); 13] = [
+    ("update_node_status", 10),
+    ("update_node", 8),
+    ("insert_or_update", 14),
+    ("remove", 5),
+    ("entry", 5),
+    ("present_update", 10),
+    ("pending_update", 2),
+    ("absent_insert", 2),
+    ("iter", 3),
+    ("nodes_by_distances", 5),
+    ("closest_keys", 3),
+    ("closest_values", 3),
+    ("closest_values_predicate", 3),
+];
+
+/// The grounds on which a pending ends, in the order of the endings; `Any`: as it falls.
+#[derive(Clone, Copy, PartialEq)]
+enum Ground {
+    First,
+    Filter,
+    Incoming,
+    Inserted,
+    Confirmed,
+    Any,
+}
+
+const GROUNDS: [(Ground, u64); 6] = [
+    (Ground::First, 2),
+    (Ground::Filter, 4),
+    (Ground::Incoming, 3),
+    (Ground::Inserted, 3),
+    (Ground::Confirmed, 2),
+    (Ground::Any, 3),
+];
+
 const ALONE: [(&str, u64); 7] = [
     ("b_new", 1),
     ("b_insert", 45),
@@ -178,6 +218,10 @@ const ALONE: [(&str, u64); 7] = [
     ("b_update_pending", 8),
     ("b_remove", 8),
 ];
+
+/// The endings of a pending that was not placed.
+const UNPLACED: [&str; 5] =
+    ["dropped_place_0", "dropped_bucket_filter", "dropped_incoming_limit", "cleared_inserted", "cleared_confirmed"];
 
 /// Random lists of calls. Each begins with `new` or `b_new`, so that lists can stand one behind the other.
 pub struct Generator {
@@ -319,6 +363,7 @@ impl<'a> World<'a> {
         };
         let timeout = match theme {
             Theme::Queue => random.pick(&[0, 0, 1]),
+            Theme::Endings => random.pick(&[0, 10, 10, 100]),
             _ => random.weighted(&[
                 (0, 15),
                 (1, 10),
@@ -331,7 +376,7 @@ impl<'a> World<'a> {
             ]),
         };
         let nets: Vec<[u8; 3]> = match random.below(3) {
-            _ if theme == Theme::Edge => vec![[10, 0, 0]],
+            _ if matches!(theme, Theme::Edge | Theme::Endings) => vec![[10, 0, 0]],
             0 => vec![[10, 0, 0]],
             1 => vec![[10, 0, 0], [10, 0, 1]],
             _ => vec![[10, 0, 0], [10, 1, 0], [11, 0, 0], [255, 255, 255]],
@@ -375,7 +420,7 @@ impl<'a> World<'a> {
         let count = match self.theme {
             Theme::Calls | Theme::FullQueue | Theme::Malformed => 1 + self.random.below(3),
             Theme::Edge => 1 + self.random.below(2),
-            Theme::Queue | Theme::Bucket | Theme::RawBucket | Theme::Limits => 1,
+            Theme::Queue | Theme::Endings | Theme::Bucket | Theme::RawBucket | Theme::Limits => 1,
             Theme::Nets => 2 + self.random.below(6),
             Theme::Raw => 1 + self.random.below(8),
             Theme::Many => 70 + self.random.below(20),
@@ -390,7 +435,7 @@ impl<'a> World<'a> {
             all.swap(0, at);
         }
         self.indices = all[..count as usize].to_vec();
-        if matches!(self.theme, Theme::Queue | Theme::FullQueue | Theme::Edge | Theme::Limits) {
+        if matches!(self.theme, Theme::Queue | Theme::FullQueue | Theme::Edge | Theme::Limits | Theme::Endings) {
             for i in &mut self.indices {
                 *i = 5 + *i % 251;
             }
@@ -449,6 +494,11 @@ impl<'a> World<'a> {
                     self.calls(&FILTERED, 6);
                 }
             }
+            Theme::Endings => {
+                for _ in 0..10 {
+                    self.endings();
+                }
+            }
             Theme::Many => {
                 self.new_table();
                 self.raw_table();
@@ -499,6 +549,122 @@ impl<'a> World<'a> {
                     self.limits();
                 }
             }
+        }
+    }
+
+    /// A bucket with a pending, by bytes or by calls alone, then calls that end it and take the records.
+    fn endings(&mut self) {
+        let ground = self.random.weighted(&GROUNDS);
+        self.max_incoming = match ground {
+            Ground::Incoming => self.random.pick(&[0, 1, 3]),
+            _ => self.random.pick(&[1, 5, 16]),
+        };
+        self.bucket_filter = (ground == Ground::Filter || self.random.percent(30)).into();
+        self.table_filter = self.random.percent(10).into();
+        self.plain = self.random.pick(&[50, 95]);
+        (self.connected, self.incoming) = (self.random.pick(&[50, 90]), self.random.pick(&[30, 90]));
+        self.recent.clear();
+        self.new_table();
+        self.raw_records();
+        if self.timeout > 0 && ground == Ground::Any && self.random.percent(60) {
+            self.pending_by_calls();
+        } else if ground == Ground::Any {
+            self.raw_bucket(&self.indices[0].to_string(), 0);
+        } else {
+            self.raw_ground(ground);
+        }
+        let count = 1 + self.random.below(2);
+        self.calls(&ENDING, count);
+        let count = self.random.below(3);
+        self.calls(&[("take_applied_pending", 1)], count);
+    }
+
+    /// A bucket written as bytes whose pending ends on this ground, sometimes on another that comes before it, and for the last two the call
+    /// that ends it.
+    fn raw_ground(&mut self, ground: Ground) {
+        let mut keys = self.pools[0].clone();
+        self.random.shuffle(&mut keys);
+        let count = match ground {
+            Ground::First => 16,
+            Ground::Inserted => self.random.pick(&[1, 9, 15]),
+            _ => self.random.pick(&[5, 15, 16, 16, 16]),
+        };
+        let disconnected = match ground {
+            Ground::First => 0,
+            _ if count == 16 => self.random.pick(&[0, 1, 1, 1, 3]),
+            _ => self.random.below(2) as usize,
+        };
+        let bucket = self.indices[0];
+        let mut incoming = self.max_incoming;
+        for (j, key) in keys.iter().take(count).enumerate() {
+            let value = match ground {
+                Ground::Filter if j % 3 == 0 => format!("1:10.0.0.{j}:1"),
+                _ => format!("0:0.0.0.0:{j}"),
+            };
+            let (state, mut direction) = (u8::from(j >= disconnected), u8::from(ground == Ground::Incoming));
+            if state == 1 && direction == 1 {
+                direction = u8::from(incoming > 0);
+                incoming = incoming.saturating_sub(1);
+            }
+            self.lines.push(format!("raw_node {bucket} {} {value} {state} {direction}", text(key)));
+        }
+        let place = if disconnected == count { "-".to_string() } else { disconnected.to_string() };
+        self.lines.push(format!("raw_fcp {bucket} {place}"));
+        let value = if ground == Ground::Filter { "1:10.0.0.99:1".to_string() } else { self.value() };
+        let direction = if ground == Ground::Incoming { 1 } else { self.direction() };
+        let ends_early = matches!(ground, Ground::Inserted | Ground::Confirmed);
+        let deadline = if ends_early { self.now.saturating_add(1 + self.random.below(20)) } else { self.now };
+        let waiting = text(&keys[count]);
+        self.lines.push(format!("raw_pending {bucket} {waiting} {value} 1 {direction} {deadline}"));
+        self.recent.extend([keys[0], keys[count], keys[1], keys[2]]);
+        let (now, first) = (self.now, text(&keys[0]));
+        match ground {
+            Ground::Inserted => self.lines.push(format!("insert_or_update {now} {waiting} 0:0.0.0.0:9 1 0")),
+            Ground::Confirmed => {
+                let (value, direction) = (self.value(), self.direction());
+                let line = match self.random.below(4) {
+                    0 => format!("update_node_status {now} {first} 1 {direction}"),
+                    1 => format!("update_node {now} {first} {value} 1"),
+                    2 => format!("insert_or_update {now} {first} {value} 1 {direction}"),
+                    _ => format!("present_update {first} 1 {direction}"),
+                };
+                self.lines.push(line);
+            }
+            _ => (),
+        }
+    }
+
+    /// A full bucket of which one node is disconnected, a pending that waits for its place, and calls that give it a ground to end
+    /// otherwise: a free place, place 0 connected, two others of its /24, nodes connected incoming. Some go on when it is due.
+    fn pending_by_calls(&mut self) {
+        let mut keys = self.pools[0].clone();
+        self.random.shuffle(&mut keys);
+        let now = self.now;
+        for (j, key) in keys.iter().take(16).enumerate() {
+            let state = u8::from(j > 0);
+            self.lines.push(format!("insert_or_update {now} {} 0:0.0.0.0:{j} {state} 0", text(key)));
+        }
+        let (waiting, value, direction) = (text(&keys[16]), self.value(), self.direction());
+        self.lines.push(format!("absent_insert {now} {waiting} {value} 1 {direction}"));
+        self.recent.extend([keys[0], keys[16], keys[16]]);
+        for _ in 0..self.random.below(3) {
+            match self.random.below(5) {
+                0 => self.lines.push(format!("remove {now} {}", text(&keys[5]))),
+                1 => {
+                    self.lines.push(format!("remove {now} {}", text(&keys[0])));
+                    self.lines.push(format!("absent_insert {now} {} 0:0.0.0.0:0 1 0", text(&keys[17])));
+                }
+                2 => {
+                    for (key, host) in [(&keys[1], 21), (&keys[2], 22)] {
+                        self.lines.push(format!("update_node {now} {} 1:10.0.0.{host}:1 2", text(key)));
+                    }
+                }
+                3 => self.lines.push(format!("update_node_status {now} {} 1 1", text(&keys[3]))),
+                _ => self.lines.push(format!("present_update {} 1 1", text(&keys[4]))),
+            }
+        }
+        if self.random.percent(60) {
+            self.now += self.timeout;
         }
     }
 
@@ -687,6 +853,9 @@ impl<'a> World<'a> {
     }
 
     fn pick_key(&mut self) -> Key {
+        if self.theme == Theme::Endings && !self.recent.is_empty() && self.random.percent(60) {
+            return self.random.pick(&self.recent);
+        }
         match self.random.below(40) {
             0 => self.local,
             1 => random_key(self.random),
@@ -851,18 +1020,27 @@ impl<'a> World<'a> {
 
     /// Buckets and records written as bytes, well-formed.
     fn raw_table(&mut self) {
+        self.raw_records();
+        for pool in 0..self.pools.len() {
+            self.raw_bucket(&self.indices[pool].to_string(), pool);
+        }
+    }
+
+    fn raw_records(&mut self) {
         let records = match self.theme {
             Theme::FullQueue => self.random.pick(&[62, 63, 64, 64]),
             Theme::Many => self.random.pick(&[0, 10, 64]),
+            Theme::Endings => self.random.pick(&[0, 0, 0, 0, 1, 62, 63, 64]),
             _ => self.random.pick(&[0, 0, 0, 1, 3]),
         };
         for _ in 0..records {
-            let (inserted, evicted) = (self.pool_key(), self.pool_key());
-            let evicted = if self.random.percent(70) { self.raw_node_text(&evicted) } else { "-".to_string() };
-            self.lines.push(format!("raw_record {} {evicted}", text(&inserted)));
-        }
-        for pool in 0..self.pools.len() {
-            self.raw_bucket(&self.indices[pool].to_string(), pool);
+            let (key, evicted) = (self.pool_key(), self.pool_key());
+            let ending = match self.random.below(10) {
+                0..5 => self.raw_node_text(&evicted),
+                5..7 => "-".to_string(),
+                _ => self.random.pick(&UNPLACED).to_string(),
+            };
+            self.lines.push(format!("raw_record {} {ending}", text(&key)));
         }
     }
 
@@ -898,13 +1076,19 @@ impl<'a> World<'a> {
         }
         let place = if disconnected == count { "-".to_string() } else { disconnected.to_string() };
         self.lines.push(format!("raw_fcp {which} {place}"));
-        let odds = if matches!(self.theme, Theme::Many | Theme::FullQueue | Theme::Edge) { 95 } else { 60 };
+        let odds = match self.theme {
+            Theme::Many | Theme::FullQueue | Theme::Edge | Theme::Endings => 95,
+            _ => 60,
+        };
         if keys.len() > count && self.random.percent(odds) {
             self.pending_value = None;
             let (key, value) = (text(&keys[count]), self.value());
             let node = format!("{key} {value} {} {}", self.state(), self.direction());
             self.pending_value = Some(value);
             self.recent.push(keys[count]);
+            if self.theme == Theme::Endings {
+                self.recent.push(keys[0]);
+            }
             let deadline = match self.random.below(8) {
                 0 => 0,
                 1 => self.now.saturating_add(1 + self.random.below(20)),
@@ -929,7 +1113,7 @@ impl<'a> World<'a> {
             _ => layout::bucket_at(self.random.pick(&self.indices)) + self.random.pick(&layout::BUCKET_OFFSETS),
         };
         let byte = match self.random.below(3) {
-            0 => self.random.pick(&[0, 1, 2, 16, 17, 64, 65, 255]),
+            0 => self.random.pick(&[0, 1, 2, 6, 7, 16, 17, 64, 65, 255]),
             1 => self.random.below(4),
             _ => self.random.below(256),
         };

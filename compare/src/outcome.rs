@@ -1,5 +1,6 @@
 //! The outcomes that a comparison reaches: by call, the answer without what it carries; by explained call, the answer and the reason with
-//! the number of its keys. And what the listings and the explanations were asked for, and which slots were told apart.
+//! the number of its keys; by call, how it ended pendings. And what the listings and the explanations were asked for, and which slots were
+//! told apart.
 
 use crate::explained::{self, Parts};
 use crate::text::{self, BucketCall, Line, Listing, Predicate, Slot, TableCall, ValueCodes, Write};
@@ -87,6 +88,7 @@ const OUTCOMES: [(&str, &[&str]); 22] = [
             "Refused 3",
             "Refused 4",
             "Refused 7",
+            "Refused 8",
         ],
     ),
     ("pending_update", &["UpdatedPending", "Refused 1", "Refused 2", "Refused 3", "Refused 4", "Refused 7"]),
@@ -164,7 +166,21 @@ const OUTCOMES: [(&str, &[&str]); 22] = [
             "Refused 8",
         ],
     ),
-    ("take_applied_pending", &["None", "Some(evicted)", "Some(none evicted)", "Refused 1", "Refused 2"]),
+    (
+        "take_applied_pending",
+        &[
+            "None",
+            "Some(evicted)",
+            "Some(none evicted)",
+            "Some(dropped_place_0)",
+            "Some(dropped_bucket_filter)",
+            "Some(dropped_incoming_limit)",
+            "Some(cleared_inserted)",
+            "Some(cleared_confirmed)",
+            "Refused 1",
+            "Refused 2",
+        ],
+    ),
     ("b_new", &["New", "Refused 1", "Refused 4"]),
     (
         "b_insert",
@@ -307,6 +323,7 @@ const EXPLAINED: [(&str, &[&str]); 7] = [
             "Refused 4",
             "Refused 6",
             "Refused 7",
+            "Refused 8",
         ],
     ),
     ("explain pending_update", &["none", "Refused 1", "Refused 2", "Refused 3", "Refused 4", "Refused 6", "Refused 7"]),
@@ -329,6 +346,28 @@ const EXPLAINED: [(&str, &[&str]); 7] = [
             "Refused 7",
         ],
     ),
+];
+
+/// How a pending that is due ends, and the ending of place 0 confirmed and of a direct insert (02, slip 4). A pending that was placed is
+/// told by whether it evicted a node.
+const DUE: [&str; 5] =
+    ["evicted", "none evicted", "dropped_place_0", "dropped_bucket_filter", "dropped_incoming_limit"];
+const CONFIRMED: &str = "cleared_confirmed";
+const INSERTED: &str = "cleared_inserted";
+
+/// The calls that end pendings, and how. What is missing here can be met by no list of calls.
+const ENDED: [(&str, &[&[&str]]); 11] = [
+    ("update_node_status", &[&DUE, &[CONFIRMED]]),
+    ("update_node", &[&DUE, &[CONFIRMED]]),
+    ("insert_or_update", &[&DUE, &[CONFIRMED, INSERTED]]),
+    ("remove", &[&DUE]),
+    ("entry", &[&DUE]),
+    ("present_update", &[&[CONFIRMED]]),
+    ("iter", &[&DUE]),
+    ("nodes_by_distances", &[&DUE]),
+    ("closest_keys", &[&DUE]),
+    ("closest_values", &[&DUE]),
+    ("closest_values_predicate", &[&DUE]),
 ];
 
 /// What listings are asked for that question 6 is about, and its answer. The rooms are those of `out=`, in entries.
@@ -440,6 +479,15 @@ fn explanation(line: &str, explanation: &str) -> Option<(&'static str, String)> 
     Some((name, outcome))
 }
 
+/// The ending that a record's text tells.
+fn ending(record: &str) -> Option<&str> {
+    match record.split_once('^') {
+        Some((_, "-")) => Some("none evicted"),
+        Some(_) => Some("evicted"),
+        None => record.split_once('!').map(|(_, ending)| ending),
+    }
+}
+
 /// The call of a line and the outcome that its answer is.
 pub fn outcome(line: &str, answer: &str) -> Option<(&'static str, String)> {
     if let Some(explanation) = explanation(line, answer) {
@@ -455,8 +503,8 @@ pub fn outcome(line: &str, answer: &str) -> Option<(&'static str, String)> {
             "0" => "List none",
             _ => "List fewer",
         }
-    } else if answer.starts_with("Some(") {
-        if answer.ends_with("^-)") { "Some(none evicted)" } else { "Some(evicted)" }
+    } else if let Some(record) = answer.strip_prefix("Some(").and_then(|rest| rest.strip_suffix(')')) {
+        return ending(record).map(|ending| (name, format!("Some({ending})")));
     } else if answer.starts_with("Pending") {
         "Pending"
     } else if answer.starts_with("Present(") {
@@ -536,6 +584,11 @@ impl Counts {
         Counts::none(&[SLOT_EQUALS, VALUE_GIVEN].map(|name| (name, &SLOTS[..])))
     }
 
+    fn endings() -> Counts {
+        let all: Vec<(&str, Vec<&str>)> = ENDED.iter().map(|(name, parts)| (*name, parts.concat())).collect();
+        Counts::none(&all.iter().map(|(name, endings)| (*name, &endings[..])).collect::<Vec<_>>())
+    }
+
     fn none(of: &[(&'static str, &[&str])]) -> Counts {
         Counts {
             names: of.iter().map(|(name, _)| *name).collect(),
@@ -596,9 +649,109 @@ impl Counts {
     }
 }
 
+/// How the pendings ended, by the call that ended them: the records that it added to the queue, as the dumps show it.
+pub struct Endings {
+    pub by_call: Counts,
+    /// The records in the queue; none where a raw line may have changed their number.
+    queued: Option<usize>,
+}
+
+impl Endings {
+    pub fn new() -> Endings {
+        Endings { by_call: Counts::endings(), queued: Some(0) }
+    }
+
+    /// A line, its answer, and the dump behind it; nothing where there is none.
+    pub fn add(&mut self, line: &str, answer: &str, dump: &[u8]) {
+        let call = line.strip_prefix("! ").unwrap_or(line).split(' ').next().unwrap_or_default();
+        match call {
+            "raw_record" => self.queued = self.queued.map(|queued| queued + 1),
+            "raw_byte" => self.queued = None,
+            _ => (),
+        }
+        let dump = String::from_utf8_lossy(dump);
+        let Some((_, queue)) = dump.rsplit_once(" queue=[") else { return };
+        let records: Vec<&str> = queue.trim_end_matches(']').split(' ').filter(|record| !record.is_empty()).collect();
+        let kept = match answer {
+            "New" => Some(0),
+            _ if answer.starts_with("Some(") => self.queued.map(|queued| queued.saturating_sub(1)),
+            _ => self.queued,
+        };
+        let added = kept.and_then(|kept| records.get(kept..)).unwrap_or_default();
+        if let Some((name, _)) = ENDED.iter().find(|(name, _)| *name == call) {
+            for ending in added.iter().filter_map(|record| ending(record)) {
+                *self.by_call.counts.entry((name, ending.to_string())).or_default() += 1;
+            }
+        }
+        self.queued = Some(records.len());
+    }
+
+    /// How often each ending occurred.
+    pub fn totals(&self) -> BTreeMap<&str, u64> {
+        let mut totals = BTreeMap::new();
+        for ((_, ending), count) in &self.by_call.counts {
+            *totals.entry(&ending[..]).or_default() += count;
+        }
+        totals
+    }
+}
+
+impl Default for Endings {
+    fn default() -> Self {
+        Endings::new()
+    }
+}
+
 #[cfg(test)]
 mod tests {
     use super::*;
+
+    /// A record counts for the call that added it, and once; not one that a raw line wrote, or that may have been there before.
+    #[test]
+    fn counts_endings_by_call() {
+        let key = "0".repeat(64);
+        let placed = format!("{key}^-");
+        let evicting = format!("{key}^{key}/0:0.0.0.0:1/0/0");
+        let confirmed = format!("{key}!cleared_confirmed");
+        let dropped = format!("{key}!dropped_place_0");
+        let dump = |queue: &[&String]| {
+            let records: Vec<&str> = queue.iter().map(|record| &record[..]).collect();
+            format!("dump local=0 queue=[{}]", records.join(" "))
+        };
+        let mut endings = Endings::new();
+        for (line, answer, dump) in [
+            ("new :0 0 0 0 0", "New", dump(&[])),
+            ("iter 0 5", "List 0", dump(&[&dropped, &placed, &dropped])),
+            ("iter 0 5", "List 0", dump(&[&dropped, &placed, &dropped])),
+            ("take_applied_pending", "Some(..)", dump(&[&placed, &dropped])),
+            ("! remove 0 :1", "Refused 1", dump(&[&placed, &dropped])),
+            ("present_update :1 1 2", "Updated", dump(&[&placed, &dropped, &confirmed])),
+            ("take_applied_pending", "Some(..)", dump(&[&dropped, &confirmed])),
+            ("new :0 0 0 0 0", "New", dump(&[])),
+            ("remove 0 :1", "true", dump(&[&evicting])),
+            ("raw_record :1 -", "Raw", String::new()),
+            ("b_apply_pending 0", "Some(..)", "bdump timeout=0".to_string()),
+            ("entry 0 :1", "Absent", dump(&[&evicting, &placed, &placed])),
+            ("raw_byte 43 1", "Raw", String::new()),
+            ("entry 0 :1", "Absent", dump(&[&evicting, &placed, &placed, &placed])),
+            ("entry 0 :1", "Absent", dump(&[&evicting, &placed, &placed, &placed, &dropped])),
+        ] {
+            endings.add(line, answer, dump.as_bytes());
+        }
+        let reached = endings.by_call.counts.iter().filter(|(_, count)| **count > 0);
+        assert_eq!(
+            reached.map(|((name, ending), count)| format!("{name} {ending} {count}")).collect::<Vec<_>>(),
+            [
+                "entry dropped_place_0 1",
+                "entry none evicted 1",
+                "iter dropped_place_0 2",
+                "iter none evicted 1",
+                "present_update cleared_confirmed 1",
+                "remove evicted 1",
+            ]
+        );
+        assert_eq!((endings.totals()["dropped_place_0"], endings.totals()["cleared_inserted"]), (3, 0));
+    }
 
     #[test]
     fn counts_what_listings_are_asked_for() {

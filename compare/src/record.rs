@@ -364,6 +364,10 @@ fn answers(call: &str) -> &'static [&'static str] {
 const REASONS: [&str; 6] =
     ["TooManyIncoming", "BucketFilter", "TableFilter", "KeyNonExistent", "BucketFull", "InvalidSelfUpdate"];
 
+/// The endings of a pending that was not placed, in the order of their codes, from 2 on.
+const UNPLACED: [&str; 5] =
+    ["dropped_place_0", "dropped_bucket_filter", "dropped_incoming_limit", "cleared_inserted", "cleared_confirmed"];
+
 /// The code of an answer, and what the call writes to the output or the answer.
 fn code(call: &str, answer: &str) -> Option<(u32, Vec<u8>)> {
     if let Some(question) = answer.strip_prefix("Refused ") {
@@ -375,15 +379,17 @@ fn code(call: &str, answer: &str) -> Option<(u32, Vec<u8>)> {
         return Some((count, words.map(item).collect::<Option<Vec<_>>>()?.concat()));
     }
     if let Some(record) = within(answer, "Some(", ")") {
-        let (inserted, evicted) = record.split_once('^')?;
-        let mut bytes = key(inserted)?;
-        match evicted {
-            "-" => bytes.extend([0; 1 + NODE]),
-            node => {
+        let (ended, ending) = record.split_at(record.find(['^', '!'])?);
+        let mut bytes = key(ended)?;
+        match ending.strip_prefix('^') {
+            Some("-") => bytes.push(0),
+            Some(node) => {
                 bytes.push(1);
                 bytes.extend(item(node)?);
             }
+            None => bytes.push(2 + UNPLACED.iter().position(|word| ending[1..] == **word)? as u8),
         }
+        bytes.resize(ANSWER, 0);
         return Some((1, bytes));
     }
     if let Some(evicted) = within(answer, "Pending{disconnected:", "}") {

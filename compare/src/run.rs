@@ -29,6 +29,8 @@ pub struct Answered<'a> {
     pub explained: bool,
     /// The dump that stood before the call; nothing where there was none, or raw lines followed it.
     pub before: &'a [u8],
+    /// The dump that follows it; nothing behind a raw line.
+    pub after: &'a [u8],
 }
 
 /// A running program that is being fed a list.
@@ -108,32 +110,33 @@ pub fn compare(
     let mut second = programs[1].start(list, true)?;
     let (mut one, mut two) = (Vec::new(), Vec::new());
     let mut explained: Option<(Asked, String)> = None;
-    let mut dump = Vec::new();
+    let (mut before, mut after) = (Vec::new(), Vec::new());
     for (at, call) in list.iter().enumerate() {
         let lines = text::parse(call).ok().flatten().map_or(0, |line| line.answer_lines());
-        for i in 0..lines {
+        let mut answer = None;
+        after.clear();
+        for _ in 0..lines {
             let (a, b) = (first.line(&mut one)?, second.line(&mut two)?);
-            let Some(answer) = a.filter(|_| a == b) else {
+            let Some(both) = a.filter(|_| a == b) else {
                 let both_ended = a.is_none() && b.is_none();
                 let (first, second) = (shown(a, first)?, shown(b, second)?);
                 return Ok(Some(Disagreement { at, first, second, both_ended }));
             };
-            if i == 0 {
-                let answer = String::from_utf8_lossy(answer);
-                let before = explained.take().filter(|(asked, _)| asked.call == *call);
-                if let Some((_, explanation)) = before.as_ref().filter(|(a, e)| !explained::holds(a, e, &answer)) {
-                    let said = format!("explained as \"{explanation}\", and answered \"{answer}\"");
-                    return parted(at, &said, first, second);
-                }
-                answered(&Answered { call, answer: &answer, explained: before.is_some(), before: &dump });
-                explained = explained::asked(call).map(|asked| (asked, answer.into_owned()));
+            match answer {
+                None => answer = Some(String::from_utf8_lossy(both).into_owned()),
+                Some(_) => after.extend_from_slice(both),
             }
         }
-        // The last line is the dump; a raw line, which has none, leaves bytes that no dump has shown.
-        match lines {
-            2 => std::mem::swap(&mut dump, &mut one),
-            _ => dump.clear(),
+        let Some(answer) = answer else { continue };
+        let asked = explained.take().filter(|(asked, _)| asked.call == *call);
+        if let Some((_, explanation)) = asked.as_ref().filter(|(a, e)| !explained::holds(a, e, &answer)) {
+            let said = format!("explained as \"{explanation}\", and answered \"{answer}\"");
+            return parted(at, &said, first, second);
         }
+        answered(&Answered { call, answer: &answer, explained: asked.is_some(), before: &before, after: &after });
+        explained = explained::asked(call).map(|asked| (asked, answer));
+        // Behind a raw line, which has no dump, the bytes are such as no dump has shown.
+        std::mem::swap(&mut before, &mut after);
     }
     let (a, b) = (first.line(&mut one)?, second.line(&mut two)?);
     if a != b {

@@ -73,6 +73,19 @@ fn finds_and_shrinks_a_changed_dump() {
     }
 }
 
+/// In the queue of a dump, though no call answers it.
+#[test]
+fn finds_and_shrinks_a_changed_ending() {
+    if has_reference() {
+        let (lines, first, second) = shrunk("/^dump/s/!cleared_confirmed/!cleared_inserted/g");
+        let (_, queue) = first.split_once(" queue=[").expect(&first);
+        assert!(queue.ends_with("!cleared_confirmed]"), "{first}");
+        assert_eq!(second, first.replace("!cleared_confirmed", "!cleared_inserted"));
+        // At most: a table, sixteen nodes, a pending, and the call that confirms place 0.
+        assert!(lines.len() <= 19, "{lines:?}");
+    }
+}
+
 #[test]
 fn finds_and_shrinks_a_changed_explanation() {
     if has_reference() {
@@ -152,24 +165,44 @@ fn fails_where_fewer_were_explained_than_were_asked_for() {
     assert!(text.ends_with(" s, and 10 were to be explained\n"), "{text}");
 }
 
-/// Two programs that agree, and never give one of the answers.
+/// What compare says of 200,000 calls to two programs that agree, both the reference with its lines edited.
+fn agreeing(edit: &str) -> String {
+    let changed = script("changed.sh");
+    let run = Command::new(env!("CARGO_BIN_EXE_compare"))
+        .args(["--calls", "200000", &changed, &changed])
+        .env("REFERENCE", REFERENCE)
+        .env("EDIT", edit)
+        .output()
+        .unwrap();
+    let text = String::from_utf8(run.stdout).unwrap();
+    assert_eq!(run.status.code(), Some(1), "{text}");
+    text
+}
+
+/// Two programs that never give one of the answers, and never end a pending in one of the ways.
 #[test]
 fn fails_where_an_outcome_is_not_reached() {
     if has_reference() {
-        let changed = script("changed.sh");
-        let run = Command::new(env!("CARGO_BIN_EXE_compare"))
-            .args(["--calls", "200000", &changed, &changed])
-            .env("REFERENCE", REFERENCE)
-            .env("EDIT", "s/^UpdatedAndPromoted\\( none\\)\\{0,1\\}$/Updated\\1/")
-            .output()
-            .unwrap();
-        let text = String::from_utf8(run.stdout).unwrap();
-        assert_eq!(run.status.code(), Some(1), "{text}");
-        let missing: Vec<String> = ["b_update_status", "present_update", "update_node", "update_node_status"]
-            .map(|call| format!("{call} UpdatedAndPromoted"))
-            .to_vec();
-        assert!(text.contains(&format!("not reached: {}\n", missing.join(", "))), "{text}");
-        assert!(text.contains("4 outcomes that must be reached are not"), "{text}");
+        let text = agreeing(
+            "s/^UpdatedAndPromoted\\( none\\)\\{0,1\\}$/Updated\\1/; /^dump/s/!cleared_confirmed/!cleared_inserted/g",
+        );
+        let not_reached = |what: &str, calls: &[&str]| {
+            let missing: Vec<String> = calls.iter().map(|call| format!("{call} {what}")).collect();
+            assert!(text.contains(&format!("not reached: {}\n", missing.join(", "))), "{text}");
+        };
+        let updates = ["present_update", "update_node", "update_node_status"];
+        not_reached("UpdatedAndPromoted", &[&["b_update_status"], &updates[..]].concat());
+        not_reached("cleared_confirmed", &[&["insert_or_update"], &updates[..]].concat());
+        assert!(text.contains("8 outcomes that must be reached are not"), "{text}");
+    }
+}
+
+/// One of 16 pendings that are cleared by a direct insert is told so.
+#[test]
+fn fails_where_an_ending_is_rare() {
+    if has_reference() {
+        let text = agreeing("s/\\([0-9a-e]\\)!cleared_inserted/\\1!cleared_confirmed/g");
+        assert!(text.contains(", and 1 endings occur less than once in 1000 calls"), "{text}");
     }
 }
 

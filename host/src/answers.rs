@@ -2,6 +2,7 @@
 
 use crate::node::{ConnectionDirection, ConnectionState, Key, Node, NodeStatus};
 use calls::program::Unanswered;
+use calls::text::{EndingCodes, RecordCodes, Unplaced};
 use std::error::Error;
 use std::fmt;
 
@@ -119,12 +120,63 @@ pub enum Entry {
     SelfEntry,
 }
 
-/// A pending node that was applied, and the node that it replaced.
+/// A pending node of a bucket by itself that was placed, and the node that it replaced.
 #[derive(Clone, Copy, Debug, PartialEq, Eq)]
-#[must_use = "the record is no longer in the queue"]
+#[must_use = "an evicted node is held no more"]
 pub struct AppliedPending {
     pub inserted: Key,
     pub evicted: Option<Node>,
+}
+
+/// What became of a pending node.
+#[derive(Clone, Copy, Debug, PartialEq, Eq)]
+#[must_use = "the record is no longer in the queue"]
+pub struct Record {
+    pub key: Key,
+    pub ending: Ending,
+}
+
+/// How a pending node ended.
+#[derive(Clone, Copy, Debug, PartialEq, Eq)]
+pub enum Ending {
+    /// It is held now, in a free place or in that of the evicted node.
+    Placed { evicted: Option<Node> },
+    /// Dropped: 16 nodes are held, and the one at place 0 is connected.
+    FirstConnected,
+    /// Dropped by the bucket filter.
+    BucketFilter,
+    /// Dropped by the incoming limit.
+    TooManyIncoming,
+    /// Cleared by a direct insert of its key.
+    Inserted,
+    /// Cleared because the node at place 0 was given Connected.
+    FirstConfirmed,
+}
+
+impl From<RecordCodes> for Record {
+    fn from(record: RecordCodes) -> Record {
+        let ending = match record.ending {
+            EndingCodes::Placed(evicted) => Ending::Placed { evicted: evicted.map(Node::from) },
+            EndingCodes::Unplaced(code) => match Unplaced::of_code(code) {
+                Some(Unplaced::FirstConnected) => Ending::FirstConnected,
+                Some(Unplaced::BucketFilter) => Ending::BucketFilter,
+                Some(Unplaced::TooManyIncoming) => Ending::TooManyIncoming,
+                Some(Unplaced::Inserted) => Ending::Inserted,
+                Some(Unplaced::FirstConfirmed) => Ending::FirstConfirmed,
+                None => no_answer(code.into()),
+            },
+        };
+        Record { key: record.key, ending }
+    }
+}
+
+impl From<RecordCodes> for AppliedPending {
+    fn from(record: RecordCodes) -> AppliedPending {
+        match record.ending {
+            EndingCodes::Placed(evicted) => AppliedPending { inserted: record.key, evicted: evicted.map(Node::from) },
+            EndingCodes::Unplaced(code) => no_answer(code.into()),
+        }
+    }
 }
 
 /// From here on codes are refusals.
@@ -232,5 +284,5 @@ fn failure_reason(code: u32) -> FailureReason {
 
 /// The library's contracts rule such a code out: another library was linked.
 fn no_answer(code: u32) -> ! {
-    panic!("the linked library returned {code:#x}, which is no answer of this call")
+    panic!("the linked library gave {code:#x}, which is no answer of this call")
 }

@@ -36,7 +36,7 @@ impl KBucket {
         lent::b_insert(&mut self.bytes, &key, value.into(), state as u8, direction as u8, now, answer)
     }
 
-    /// Applies the pending node if its deadline has come.
+    /// Applies the pending node if its deadline has come; `None` also where it was dropped.
     pub fn apply_pending(&mut self, now: u64) -> Result<Option<AppliedPending>, Refusal> {
         Ok(lent::b_apply_pending(&mut self.bytes, now, &mut [0; ANSWER_BYTES])?.map(AppliedPending::from))
     }

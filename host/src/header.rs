@@ -1,11 +1,13 @@
 //! Tests that this package agrees with include/kbuckets.h: the functions, the sizes, the codes, the version.
 
-use crate::answers::{self, BucketInsertResult, Entry, FailureReason, InsertResult, Refusal, UpdateResult};
+use crate::answers::{
+    self, BucketInsertResult, Ending, Entry, FailureReason, InsertResult, Record, Refusal, UpdateResult,
+};
 use crate::lent;
-use crate::node::{ConnectionDirection, ConnectionState, NOT_GIVEN, NodeStatus};
+use crate::node::{ConnectionDirection, ConnectionState, NOT_GIVEN, Node, NodeStatus, Value};
 use crate::version::{VERSION, Version};
 use calls::layout;
-use calls::text::Slot;
+use calls::text::{EndingCodes, RecordCodes, Slot};
 use std::collections::HashMap;
 
 const HEADER: &str = include_str!("../../include/kbuckets.h");
@@ -221,5 +223,28 @@ fn codes() {
         [("REMOVE_NOT_HELD", false), ("REMOVE_REMOVED", true), ("APPLIED_NONE", false), ("APPLIED_RECORD", true)]
     {
         assert_eq!(answers::yes_or_no(code(name)), answer);
+    }
+    let node = Node {
+        key,
+        value: Value { address: None, slot: 3 },
+        status: NodeStatus { state: ConnectionState::Connected, direction: ConnectionDirection::Incoming },
+    };
+    for (name, ending) in [
+        ("PLACED", Ending::Placed { evicted: None }),
+        ("REPLACED", Ending::Placed { evicted: Some(node) }),
+        ("FIRST_CONNECTED", Ending::FirstConnected),
+        ("BUCKET_FILTER", Ending::BucketFilter),
+        ("TOO_MANY_INCOMING", Ending::TooManyIncoming),
+        ("INSERTED", Ending::Inserted),
+        ("FIRST_CONFIRMED", Ending::FirstConfirmed),
+    ] {
+        let mut record = layout::record_bytes(&RecordCodes { key, ending: EndingCodes::Placed(None) });
+        record[layout::KEY] = code(&format!("ENDING_{name}")) as u8;
+        if ending == (Ending::Placed { evicted: Some(node) }) {
+            record[layout::KEY + 1..][..layout::KEY].copy_from_slice(&node.key);
+            record[layout::KEY + 1 + layout::KEY..][..2].fill(1);
+            record[layout::RECORD - 1] = 3;
+        }
+        assert_eq!(Record::from(layout::record_in(&record)), Record { key, ending }, "{name}");
     }
 }

@@ -8,7 +8,7 @@ use crate::answers::{
 };
 use crate::ffi;
 use calls::layout::{self, KEY, NODE, RECORD, VALUE};
-pub use calls::text::{NodeCodes, RecordCodes, Slot, ValueCodes};
+pub use calls::text::{EndingCodes, NodeCodes, RecordCodes, Slot, Unplaced, ValueCodes};
 
 pub const STORAGE_BYTES: usize = layout::STORAGE;
 pub const BUCKET_BYTES: usize = layout::ALONE;

@@ -46,7 +46,9 @@ mod node;
 mod table;
 mod version;
 
-pub use answers::{AppliedPending, BucketInsertResult, Entry, FailureReason, InsertResult, Refusal, UpdateResult};
+pub use answers::{
+    AppliedPending, BucketInsertResult, Ending, Entry, FailureReason, InsertResult, Record, Refusal, UpdateResult,
+};
 pub use bucket::KBucket;
 pub use explanation::{Explanation, NoExplanation, PeerCall, Reason, Told};
 pub use node::{

@@ -1,8 +1,8 @@
 //! A table that owns its storage.
 
-use crate::answers::{AppliedPending, BucketInsertResult, Entry, InsertResult, Refusal, UpdateResult};
+use crate::answers::{BucketInsertResult, Entry, InsertResult, Record, Refusal, UpdateResult};
 use crate::explanation::{Explanation, PeerCall};
-use crate::lent::{self, ANSWER_BYTES, EXPLANATION_BYTES, MAX_COUNT, PredicateCodes, RecordCodes, STORAGE_BYTES};
+use crate::lent::{self, ANSWER_BYTES, EXPLANATION_BYTES, MAX_COUNT, PredicateCodes, STORAGE_BYTES};
 use crate::node::{
     ClosestValue, ConnectionDirection, ConnectionState, Key, NOT_GIVEN, Node, NodeStatus, PredicateValue, Slot, Value,
 };
@@ -182,9 +182,9 @@ impl KBucketsTable {
         }))
     }
 
-    /// Takes the oldest record of a pending node that was applied.
-    pub fn take_applied_pending(&mut self) -> Result<Option<AppliedPending>, Refusal> {
-        Ok(lent::take_applied_pending(&mut self.storage, &mut [0; ANSWER_BYTES])?.map(AppliedPending::from))
+    /// Takes the oldest record of what became of a pending node.
+    pub fn take_applied_pending(&mut self) -> Result<Option<Record>, Refusal> {
+        Ok(lent::take_applied_pending(&mut self.storage, &mut [0; ANSWER_BYTES])?.map(Record::from))
     }
 
     /// What a call would answer now, and why; refused as the call would be. The table stays as it is.
@@ -250,12 +250,6 @@ impl From<Predicate> for PredicateCodes {
             Predicate::InNet(net) => PredicateCodes { predicate: 2, net, slot: 0 },
             Predicate::Slot(slot) => PredicateCodes { predicate: 3, net: [0; 3], slot },
         }
-    }
-}
-
-impl From<RecordCodes> for AppliedPending {
-    fn from(record: RecordCodes) -> AppliedPending {
-        AppliedPending { inserted: record.inserted, evicted: record.evicted.map(Node::from) }
     }
 }
 

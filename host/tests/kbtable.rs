@@ -1,4 +1,7 @@
-//! The tool answers the twelve positions and the questions of document 01, explains calls, refuses bad lines, and explains itself.
+//! The tool answers the twelve positions and the questions of document 01, explains calls, ends pendings, refuses bad lines, and explains
+//! itself.
+
+use calls::layout;
 
 #[path = "../../compare/tests/programs/mod.rs"]
 mod programs;
@@ -26,6 +29,24 @@ fn explanations() {
     programs::answers_as_written(KBTABLE, "explain.txt");
 }
 
+/// Each ending of a pending.
+#[test]
+fn endings() {
+    programs::answers_as_written(KBTABLE, "endings.txt");
+}
+
+/// A record whose ending is none of the six is shown by its number, and the table is refused.
+#[test]
+fn a_malformed_ending() {
+    let kind = layout::bucket_at(0) - layout::RECORDS * layout::RECORD + layout::KEY;
+    let lines = format!(
+        "raw_record :1 -\nraw_byte {kind} 7\ndump\ntake_applied_pending\nraw_byte {kind} 6\ntake_applied_pending\n"
+    );
+    let dump = |ending| format!("dump local={:0>64} timeout=0 max=0 tf=0 bf=0 queue=[{:0>64}!{ending}]", 0, 1);
+    let taken = format!("Some({:0>64}!cleared_confirmed)", 1);
+    assert_eq!(answers(&[], &lines).lines().collect::<Vec<_>>(), ["Raw", "Raw", &dump(7), "Refused 2", "Raw", &taken]);
+}
+
 /// Each outcome of each call and of each explanation, by the fewest lines that reach it, as the Rust answers them.
 #[test]
 fn outcomes() {
@@ -33,8 +54,10 @@ fn outcomes() {
 }
 
 #[test]
-fn example() {
-    programs::answers_as_written(KBTABLE, "../../host/examples/slash24.calls");
+fn examples() {
+    for file in ["slash24", "pending"] {
+        programs::answers_as_written(KBTABLE, &format!("../../host/examples/{file}.calls"));
+    }
 }
 
 #[test]

@@ -1,10 +1,11 @@
 //! The wrapper: owned tables and buckets, and the calls on lent bytes.
 
-use kbuckets::lent::{self, PredicateCodes, ValueCodes};
+use calls::layout::{self, TableBytes};
+use kbuckets::lent::{self, PredicateCodes, RecordCodes, Unplaced, ValueCodes};
 use kbuckets::{
-    AppliedPending, BucketInsertResult, ClosestValue, ConnectionDirection, ConnectionState, Entry, Explanation,
+    AppliedPending, BucketInsertResult, ClosestValue, ConnectionDirection, ConnectionState, Ending, Entry, Explanation,
     FailureReason, InsertResult, KBucket, KBucketsTable, Node, NodeStatus, PeerCall, Predicate, PredicateValue, Reason,
-    Refusal, Settings, Slot, Told, UpdateResult, Value,
+    Record, Refusal, Settings, Slot, Told, UpdateResult, Value,
 };
 
 fn key(first: u8, last: u8) -> [u8; 32] {
@@ -45,13 +46,100 @@ fn pending() -> Result<(), Refusal> {
     assert_eq!(table.take_applied_pending()?, None);
     assert_eq!(table.entry(&waiting, 150)?, Entry::Present(DISCONNECTED));
     let evicted = Some(node(key(128, 0), value(0), DISCONNECTED));
-    assert_eq!(table.take_applied_pending()?, Some(AppliedPending { inserted: waiting, evicted }));
+    assert_eq!(table.take_applied_pending()?, Some(Record { key: waiting, ending: Ending::Placed { evicted } }));
     assert_eq!(table.take_applied_pending()?, None);
     assert_eq!(table.present_update(&waiting, ConnectionState::Connected, None)?, UpdateResult::UpdatedAndPromoted);
     assert_eq!(table.entry(&key(128, 0), 150)?, Entry::Absent);
     assert_eq!(table.entry(&[0; 32], 150)?, Entry::SelfEntry);
     assert!(table.remove(&waiting, 150)?);
     assert!(!table.remove(&waiting, 150)?);
+    Ok(())
+}
+
+/// A full bucket whose node at place 0, key 0, is disconnected, and key 16, which waits for it until 50.
+fn waiting() -> Result<KBucketsTable, Refusal> {
+    let settings = Settings { pending_timeout: 50, max_incoming: 1, bucket_filter: true, table_filter: false };
+    let mut table = KBucketsTable::new([0; 32], settings)?;
+    for i in 0..16 {
+        let status = if i == 0 { DISCONNECTED } else { CONNECTED };
+        let none = Value { address: None, slot: i.into() };
+        assert_eq!(table.insert_or_update(&key(128, i), none, status, 0)?, InsertResult::Inserted);
+    }
+    let result = table.insert_or_update(&key(128, 16), value(16), CONNECTED, 0)?;
+    assert_eq!(result, InsertResult::Pending { disconnected: key(128, 0) });
+    Ok(table)
+}
+
+/// Each way in which a pending node ends leaves its record, and no other.
+#[test]
+fn endings() -> Result<(), Refusal> {
+    let incoming = Some(ConnectionDirection::Incoming);
+    let ended = |mut table: KBucketsTable, ending: Ending| {
+        assert_eq!(table.take_applied_pending()?, Some(Record { key: key(128, 16), ending }));
+        assert_eq!(table.take_applied_pending()?, None);
+        Ok::<(), Refusal>(())
+    };
+
+    let mut table = waiting()?;
+    assert_eq!(table.entry(&key(128, 16), 50)?, Entry::Present(CONNECTED));
+    let evicted = Some(node(key(128, 0), Value { address: None, slot: 0 }, DISCONNECTED));
+    ended(table, Ending::Placed { evicted })?;
+
+    let mut table = waiting()?;
+    assert!(table.remove(&key(128, 1), 49)?);
+    assert_eq!(table.iter(4096, 50)?.len(), 16);
+    ended(table, Ending::Placed { evicted: None })?;
+
+    let mut table = waiting()?;
+    assert!(table.remove(&key(128, 0), 49)?);
+    assert_eq!(table.insert_or_update(&key(128, 17), value(17), CONNECTED, 49)?, InsertResult::Inserted);
+    assert_eq!(table.entry(&key(128, 16), 50)?, Entry::Absent);
+    ended(table, Ending::FirstConnected)?;
+
+    let mut table = waiting()?;
+    for i in [1, 2] {
+        assert_eq!(table.update_node(&key(128, i), value(i), None, 49)?, UpdateResult::Updated);
+    }
+    assert!(!table.remove(&key(128, 16), 50)?);
+    ended(table, Ending::BucketFilter)?;
+
+    let mut table = waiting()?;
+    let status = NodeStatus { direction: ConnectionDirection::Incoming, ..CONNECTED };
+    assert_eq!(table.pending_update(&key(128, 16), status)?, UpdateResult::UpdatedPending);
+    let result = table.present_update(&key(128, 1), ConnectionState::Connected, incoming)?;
+    assert_eq!(result, UpdateResult::Updated);
+    assert_eq!(table.nodes_by_distances(&[256, 256], 1, 50)?.len(), 1);
+    ended(table, Ending::TooManyIncoming)?;
+
+    let mut table = waiting()?;
+    assert!(table.remove(&key(128, 1), 49)?);
+    assert_eq!(table.insert_or_update(&key(128, 16), value(16), CONNECTED, 49)?, InsertResult::Inserted);
+    ended(table, Ending::Inserted)?;
+
+    let mut table = waiting()?;
+    let result = table.present_update(&key(128, 0), ConnectionState::Connected, None)?;
+    assert_eq!(result, UpdateResult::UpdatedAndPromoted);
+    ended(table, Ending::FirstConfirmed)
+}
+
+/// A full queue refuses every call that would end a pending, also one that applies none.
+#[test]
+fn full_queue() -> Result<(), Refusal> {
+    let mut bytes = TableBytes(waiting()?.storage().to_vec());
+    for i in 0..layout::RECORDS {
+        let record = RecordCodes { key: key(0, i as u8), ending: Unplaced::Inserted.into() };
+        bytes.push_record(&record).unwrap();
+    }
+    let mut table = KBucketsTable::from_storage(bytes.0);
+    let (first, before) = (key(128, 0), table.clone());
+    assert_eq!(table.present_update(&first, ConnectionState::Connected, None), Err(Refusal::Queue));
+    let call = PeerCall::PresentUpdate { key: first, state: ConnectionState::Connected, direction: None };
+    assert_eq!(table.explain(&call), Err(Refusal::Queue));
+    assert_eq!(table.entry(&first, 50), Err(Refusal::Queue));
+    assert!(table == before);
+    assert_eq!(table.take_applied_pending()?, Some(Record { key: key(0, 0), ending: Ending::Inserted }));
+    let result = table.present_update(&first, ConnectionState::Connected, None)?;
+    assert_eq!(result, UpdateResult::UpdatedAndPromoted);
     Ok(())
 }
 

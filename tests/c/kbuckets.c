@@ -23,8 +23,8 @@ ASSERT_SIZE(KBUCKETS_SLOT_BYTES, sizeof(kbuckets_slot));
 ASSERT_SIZE(KBUCKETS_RECORDS_OFFSET, 48);
 
 /* A host may test the header's version while it compiles. */
-#if KBUCKETS_VERSION < 0x000300 || KBUCKETS_VERSION >= 0x010000
-#error "this program is written for versions from 0.3.0 to below 1.0.0"
+#if KBUCKETS_VERSION < 0x000400 || KBUCKETS_VERSION >= 0x010000
+#error "this program is written for versions from 0.4.0 to below 1.0.0"
 #endif
 
 static unsigned checks, failures;
@@ -287,6 +287,90 @@ static void buckets(void) {
     CHECK(kbuckets_b_insert(bucket, sizeof bucket, of(3), 32, 1, 10, 1, 2, 4, 2, 0, 0, 0, answer, ANSWER), 0);
 }
 
+/* A full bucket with one node disconnected, 256, and 300, which waits for its place until 60100. One incoming, the bucket filter on. */
+static void waiting(void) {
+    uint8_t zero[KBUCKETS_KEY_BYTES] = {0};
+    CHECK(kbuckets_new(table, sizeof table, zero, sizeof zero, TIMEOUT, 1, KBUCKETS_FILTER_OFF, KBUCKETS_FILTER_ON), 0);
+    for (unsigned i = 0; i < 16; i++) CHECK(put(256 + i, i > 0, 0, 100), KBUCKETS_INSERT_INSERTED);
+    CHECK(
+        kbuckets_absent_insert(table, sizeof table, of(300), 32, 1, 10, 0, 0, 9, 7, 1, 0, 100, answer, sizeof answer),
+        KBUCKETS_BUCKET_INSERT_PENDING);
+}
+
+/* The oldest record is that of 300 with this ending, and no other is there. */
+static void ended(int line, uint8_t ending) {
+    memset(answer, UNTOUCHED, sizeof answer);
+    check(line, kbuckets_take_applied_pending(table, sizeof table, answer, sizeof answer), KBUCKETS_APPLIED_RECORD);
+    check(line, last(answer), 300);
+    check(line, answer[KBUCKETS_KEY_BYTES], ending);
+    if (ending == KBUCKETS_ENDING_REPLACED)
+        check(line, last(answer + KBUCKETS_KEY_BYTES + 1), 256);
+    else
+        for (size_t i = KBUCKETS_KEY_BYTES + 1; i < KBUCKETS_RECORD_BYTES; i++) check(line, answer[i], 0);
+    check(line, answer[KBUCKETS_RECORD_BYTES], UNTOUCHED);
+    check(line, kbuckets_take_applied_pending(table, sizeof table, answer, sizeof answer), KBUCKETS_APPLIED_NONE);
+}
+
+#define ENDED(ending) ended(__LINE__, KBUCKETS_ENDING_##ending)
+
+/* Each ending of a pending, the queue full of them, and an ending that is none. */
+static void endings(void) {
+    waiting();
+    CHECK(kbuckets_entry(table, sizeof table, of(300), 32, 60100), KBUCKETS_ENTRY_PRESENT + 2);
+    ENDED(REPLACED);
+    waiting();
+    CHECK(kbuckets_remove(table, sizeof table, of(257), 32, 60099), KBUCKETS_REMOVE_REMOVED);
+    CHECK(kbuckets_entry(table, sizeof table, of(300), 32, 60100), KBUCKETS_ENTRY_PRESENT + 2);
+    ENDED(PLACED);
+    waiting();
+    CHECK(kbuckets_remove(table, sizeof table, of(256), 32, 60099), KBUCKETS_REMOVE_REMOVED);
+    CHECK(put(301, 1, 0, 60099), KBUCKETS_INSERT_INSERTED);
+    CHECK(kbuckets_entry(table, sizeof table, of(300), 32, 60100), KBUCKETS_ENTRY_ABSENT);
+    ENDED(FIRST_CONNECTED);
+    waiting();
+    CHECK(kbuckets_update_node(table, sizeof table, of(257), 32, 1, 10, 0, 0, 1, 1, KBUCKETS_NOT_GIVEN, 100), KBUCKETS_UPDATE_UPDATED);
+    CHECK(kbuckets_update_node(table, sizeof table, of(258), 32, 1, 10, 0, 0, 2, 2, KBUCKETS_NOT_GIVEN, 100), KBUCKETS_UPDATE_UPDATED);
+    CHECK(kbuckets_iter(table, sizeof table, 1, 60100, output, sizeof output), 1);
+    ENDED(BUCKET_FILTER);
+    waiting();
+    CHECK(kbuckets_pending_update(table, sizeof table, of(300), 32, 1, 1), KBUCKETS_UPDATE_UPDATED_PENDING);
+    CHECK(kbuckets_present_update(table, sizeof table, of(257), 32, 1, 1), KBUCKETS_UPDATE_UPDATED);
+    CHECK(kbuckets_remove(table, sizeof table, of(300), 32, 60100), KBUCKETS_REMOVE_NOT_HELD);
+    ENDED(TOO_MANY_INCOMING);
+    waiting();
+    CHECK(kbuckets_remove(table, sizeof table, of(257), 32, 60099), KBUCKETS_REMOVE_REMOVED);
+    CHECK(put(300, 1, 0, 60099), KBUCKETS_INSERT_INSERTED);
+    ENDED(INSERTED);
+    waiting();
+    CHECK(kbuckets_present_update(table, sizeof table, of(256), 32, 1, KBUCKETS_NOT_GIVEN), KBUCKETS_UPDATE_UPDATED_AND_PROMOTED);
+    ENDED(FIRST_CONFIRMED);
+    waiting();
+    CHECK(kbuckets_present_update(table, sizeof table, of(257), 32, 1, 1), KBUCKETS_UPDATE_UPDATED);
+    CHECK(kbuckets_update_node_status(table, sizeof table, of(256), 32, 1, 1, 100), KBUCKETS_FAILED_TOO_MANY_INCOMING);
+    ENDED(FIRST_CONFIRMED);
+
+    waiting();
+    for (unsigned i = 0; i < KBUCKETS_MAX_RECORDS; i++) {
+        CHECK(kbuckets_present_update(table, sizeof table, of(256), 32, 1, KBUCKETS_NOT_GIVEN), KBUCKETS_UPDATE_UPDATED_AND_PROMOTED);
+        CHECK(kbuckets_present_update(table, sizeof table, of(256), 32, 0, KBUCKETS_NOT_GIVEN), KBUCKETS_UPDATE_UPDATED);
+        CHECK(put(300, 1, 0, 100), KBUCKETS_INSERT_PENDING);
+    }
+    memcpy(before, table, sizeof table);
+    CHECK(kbuckets_present_update(table, sizeof table, of(256), 32, 1, KBUCKETS_NOT_GIVEN), KBUCKETS_REFUSED_QUEUE);
+    CHECK(
+        kbuckets_explain_present_update(table, sizeof table, of(256), 32, 1, KBUCKETS_NOT_GIVEN, output, KBUCKETS_EXPLANATION_BYTES),
+        KBUCKETS_REFUSED_QUEUE);
+    CHECK(kbuckets_entry(table, sizeof table, of(300), 32, 60100), KBUCKETS_REFUSED_QUEUE);
+    CHECK(memcmp(before, table, sizeof table), 0);
+    CHECK(kbuckets_take_applied_pending(table, sizeof table, answer, sizeof answer), KBUCKETS_APPLIED_RECORD);
+    uint8_t *ending = table + KBUCKETS_HEADER_BYTES - 2 * KBUCKETS_RECORD_BYTES + KBUCKETS_KEY_BYTES; /* of the youngest record */
+    CHECK(*ending, KBUCKETS_ENDING_FIRST_CONFIRMED);
+    *ending = KBUCKETS_ENDING_FIRST_CONFIRMED + 1;
+    CHECK(kbuckets_present_update(table, sizeof table, of(256), 32, 1, KBUCKETS_NOT_GIVEN), KBUCKETS_REFUSED_FORM);
+    *ending = KBUCKETS_ENDING_FIRST_CONNECTED;
+    CHECK(kbuckets_present_update(table, sizeof table, of(256), 32, 1, KBUCKETS_NOT_GIVEN), KBUCKETS_UPDATE_UPDATED_AND_PROMOTED);
+}
+
 /* An explanation of this length stands at the front of the output, and no other byte of output or table has changed. A # in the line
  * is a key of three hexadecimal digits. */
 static void says(int line, uint32_t length, const char *expected) {
@@ -383,6 +467,7 @@ int main(void) {
     slots();
     padding();
     buckets();
+    endings();
     explanations();
     printf("kbuckets.c: %u of %u checks passed\n", checks - failures, checks);
     return failures != 0;

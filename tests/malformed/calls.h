@@ -33,6 +33,9 @@ enum {
     FLAG_AT = VALUE_AT,
     OCTETS_AT = FLAG_AT + 1,
     SLOT_AT = OCTETS_AT + 4,
+    /* in a record */
+    ENDING_AT = KEY,
+    EVICTED_AT = ENDING_AT + 1,
     /* in a bucket */
     FIRST_AT = 1,
     NODES_AT = 2,
@@ -62,7 +65,7 @@ enum {
     X(insert_or_update, Q(1) | Q(2) | Q(3) | Q(4) | Q(5) | Q(6) | Q(8), 0, INSERTS)                                                        \
     X(remove, Q(1) | Q(2) | Q(3) | Q(5) | Q(8), 0, 3)                                                                                      \
     X(entry, Q(1) | Q(2) | Q(3) | Q(5) | Q(8), 0, ENTRIES)                                                                                 \
-    X(present_update, Q(1) | Q(2) | Q(3) | Q(4) | Q(7), 0, PRESENT_UPDATES)                                                                \
+    X(present_update, Q(1) | Q(2) | Q(3) | Q(4) | Q(7) | Q(8), 0, PRESENT_UPDATES)                                                         \
     X(pending_update, Q(1) | Q(2) | Q(3) | Q(4) | Q(7), 0, 1 << 3)                                                                         \
     X(absent_insert, Q(1) | Q(2) | Q(3) | Q(4) | Q(5) | Q(6) | Q(7), 0, ABSENT_INSERTS)                                                    \
     X(iter, Q(1) | Q(2) | Q(5) | Q(6) | Q(8), KBUCKETS_ITER_ENTRY_BYTES, 0)                                                                \

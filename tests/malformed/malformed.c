@@ -249,10 +249,10 @@ static void make_table(uint8_t *s, unsigned style)
     s[BUCKET_FILTER_AT] = chance(50);
     s[COUNT_AT] = (uint8_t)(style % 3 == 0 ? 0 : style % 3 == 1 ? below(65) : 64 - below(3));
     for (unsigned i = 0; i < s[COUNT_AT]; i++) {
-        uint8_t *record = s + RECORDS_AT + i * RECORD, *evicted = record + KEY + 1;
+        uint8_t *record = s + RECORDS_AT + i * RECORD, *evicted = record + EVICTED_AT;
         noise(record, KEY);
-        record[KEY] = chance(60);
-        if (record[KEY]) {
+        record[ENDING_AT] = (uint8_t)(chance(50) ? KBUCKETS_ENDING_REPLACED : below(KBUCKETS_ENDING_FIRST_CONFIRMED + 1));
+        if (record[ENDING_AT] == KBUCKETS_ENDING_REPLACED) {
             noise(evicted, KEY);
             evicted[STATE_AT] = chance(50);
             evicted[DIRECTION_AT] = chance(50);
@@ -408,6 +408,20 @@ static void choose(struct args *a, const uint8_t *b, const uint8_t *local, int i
     }
 }
 
+/* Turns a call to bucket b's pending before its time: its key is inserted, or the node at place 0 given CONNECTED. */
+static void aim_at_pending(struct args *a, const uint8_t *b)
+{
+    bool inserts = a->call == C_insert_or_update && chance(50);
+    if (b[PENDING_AT] != 1 || a->key_len != KEY)
+        return;
+    if (!inserts && a->call != C_update_node_status && a->call != C_present_update && a->call != C_update_node && a->call != C_insert_or_update)
+        return;
+    memcpy(a->key, b + (inserts ? PENDING_NODE_AT : NODES_AT), KEY);
+    a->now = 0;
+    if (!inserts)
+        a->state = KBUCKETS_CONNECTED;
+}
+
 /* --- one call, held to what was foreseen --- */
 
 enum { NUM_OUTCOMES = 64 };
@@ -416,6 +430,7 @@ static struct {
     unsigned long total;
 } outcomes[NUM_CALLS];
 static unsigned long faults[2][NUM_FAULTS], changed_formed, wrong_lengths;
+static unsigned long endings[KBUCKETS_ENDING_FIRST_CONFIRMED + 1];
 
 static struct outlook outlook;
 static struct args args, probing;
@@ -520,6 +535,12 @@ static void check_table(const struct args *a, const uint8_t *before, uint32_t co
     if (after[COUNT_AT] != before[COUNT_AT] + outlook.records ||
         memcmp(after + RECORDS_AT, before + RECORDS_AT, before[COUNT_AT] * RECORD) != 0)
         violation("%u records, %u foreseen, or old ones changed", after[COUNT_AT], before[COUNT_AT] + outlook.records);
+    for (unsigned k = 0; k < outlook.records; k++) {
+        const uint8_t *record = after + RECORDS_AT + (before[COUNT_AT] + k) * RECORD;
+        if (memcmp(record, added[k], RECORD) != 0)
+            violation("record %u of those added has ending %u, %u foreseen, or another key or node", k, record[ENDING_AT], added[k][ENDING_AT]);
+        endings[record[ENDING_AT]]++;
+    }
     if (is_listing(a->call)) {
         if (code != outlook.found)
             violation("%u entries found, %zu foreseen", code, outlook.found);
@@ -556,7 +577,8 @@ static void check_alone(const struct args *a, const uint8_t *before, uint32_t co
     }
     if (memcmp(after + STORED, before + STORED, ALONE - STORED) != 0)
         violation("the settings changed");
-    if (a->call == C_b_apply_pending && code != yields(before, before[ALONE_MAX_AT], before[ALONE_FILTER_AT], a->now))
+    bool placed = is_due(before, a->now) && is_placed(due_ending(before, before[ALONE_MAX_AT], before[ALONE_FILTER_AT]));
+    if (a->call == C_b_apply_pending && code != placed)
         violation("answers %u for a pending that does otherwise", code);
     if (a->call == C_b_remove && place(after, a->key) >= 0)
         violation("the key is still held");
@@ -663,6 +685,11 @@ static uint8_t bad_code(uint8_t old)
     static const uint8_t values[] = {0, 1, 2, 3, 255};
     return chance(40) ? !old : chance(70) ? values[below(5)] : (uint8_t)draw();
 }
+static uint8_t bad_ending(void)
+{
+    static const uint8_t values[] = {0, 1, 2, 6, 7, 8, 255};
+    return chance(80) ? values[below(7)] : (uint8_t)draw();
+}
 static uint8_t bad_count(uint8_t old)
 {
     static const uint8_t values[] = {0, 1, 15, 16, 17, 63, 64, 65, 255};
@@ -748,11 +775,11 @@ static void change_table(uint8_t *s, int index)
     case 2: change(s, COUNT_AT, bad_count(s[COUNT_AT])); break;
     case 3:
         if (records)
-            change(s, record + KEY, bad_code(s[record + KEY]));
+            change(s, record + ENDING_AT, bad_ending());
         break;
     case 4:
         if (records)
-            change_node(s, record + KEY + 1);
+            change_node(s, record + EVICTED_AT);
         break;
     case 5:
         if (records < RECORDS)
@@ -846,6 +873,8 @@ static void table_round(long at)
     args.storage = stands;
     args.storage_len = STORAGE;
     choose(&args, bucket_of(base, index), base, index, number(base + TIMEOUT_AT), at >= 0 || (num_changes == 0 && chance(60)));
+    if (chance(40))
+        aim_at_pending(&args, bucket_of(base, index));
     if (at < 0 && chance(3))
         wrong_size(r, placing, STORAGE);
     bool accepted = held_to(r, stands, STORAGE, base);
@@ -1029,7 +1058,12 @@ static int report(bool tables_here, bool alones_here)
         }
         putchar('\n');
     }
-    printf("changed and still well-formed: %lu; of another length: %lu\n", changed_formed, wrong_lengths);
+    printf("pendings that ended, by ending:");
+    for (int k = 0; k <= KBUCKETS_ENDING_FIRST_CONFIRMED; k++) {
+        printf(" %d:%lu", k, endings[k]);
+        missing += tables_here && !endings[k];
+    }
+    printf("\nchanged and still well-formed: %lu; of another length: %lu\n", changed_formed, wrong_lengths);
     for (int c = 0, first = 1; c < NUM_CALLS; c++)
         if (!here[c]) {
             printf("%s%s", first ? "not in the library: " : ", ", calls[c].name);

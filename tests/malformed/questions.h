@@ -15,7 +15,7 @@
     X(BUCKET_FILTER, "bucket filter neither 0 nor 1")                                                                                      \
     X(PADDING, "padding that is not zero")                                                                                                 \
     X(MANY_RECORDS, "more than 64 records")                                                                                                \
-    X(RECORD_FLAG, "record: evicted flag neither 0 nor 1")                                                                                 \
+    X(RECORD_ENDING, "record: ending above 6")                                                                                             \
     X(RECORD_STATE, "record: state neither 0 nor 1")                                                                                       \
     X(RECORD_DIRECTION, "record: direction neither 0 nor 1")                                                                               \
     X(RECORD_ADDRESS, "record: address flag neither 0 nor 1")                                                                              \
@@ -165,10 +165,10 @@ static enum fault bucket_fault(const uint8_t *b, const uint8_t *local, int index
 
 static enum fault record_fault(const uint8_t *record)
 {
-    const uint8_t *evicted = record + KEY + 1;
-    if (record[KEY] > 1)
-        return F_RECORD_FLAG;
-    if (record[KEY] == 0)
+    const uint8_t *evicted = record + EVICTED_AT;
+    if (record[ENDING_AT] > KBUCKETS_ENDING_FIRST_CONFIRMED)
+        return F_RECORD_ENDING;
+    if (record[ENDING_AT] != KBUCKETS_ENDING_REPLACED)
         return zero(evicted, NODE) ? FORMED : F_RECORD_NODE;
     int code = node_codes(evicted);
     return code ? (enum fault)(F_RECORD_STATE + code - 1) : FORMED;
@@ -210,6 +210,16 @@ static enum fault alone_fault(const uint8_t *b)
 
 /* --- what a call will do, as far as it is checked here --- */
 
+/* The bytes of a call's value. */
+static void value_of(const struct args *a, uint8_t *value)
+{
+    value[0] = a->flag;
+    memcpy(value + OCTETS_AT - VALUE_AT, a->octet, 4);
+    kbuckets_slot slot = a->slot;
+    for (int i = KBUCKETS_SLOT_BYTES; i--; slot = (kbuckets_slot)(slot >> 8))
+        value[SLOT_AT - VALUE_AT + i] = (uint8_t)slot;
+}
+
 /* The place of a key in a well-formed bucket, -1 where it is not held. */
 static int place(const uint8_t *b, const uint8_t *key)
 {
@@ -220,35 +230,44 @@ static int place(const uint8_t *b, const uint8_t *key)
 }
 static bool is_pending(const uint8_t *b, const uint8_t *key) { return b[PENDING_AT] && same(b + PENDING_NODE_AT, key); }
 
-/* ip_filter over the held values, limit 2. */
-static bool bucket_filter_fails(const uint8_t *b, const uint8_t *node)
+/* The held values of a bucket that ip_filter counts: of the value's /24 and unequal to it. Those of `but`, which may be null, are not seen. */
+static unsigned counted(const uint8_t *b, const uint8_t *value, const uint8_t *but)
 {
     unsigned near = 0;
-    if (!node[FLAG_AT])
-        return false;
-    for (int i = 0; i < b[0]; i++) {
-        const uint8_t *other = b + NODES_AT + i * NODE;
-        near += other[FLAG_AT] && memcmp(other + OCTETS_AT, node + OCTETS_AT, 3) == 0 &&
-                memcmp(other + VALUE_AT, node + VALUE_AT, KBUCKETS_VALUE_BYTES) != 0;
+    enum { FLAG = FLAG_AT - VALUE_AT, OCTETS = OCTETS_AT - VALUE_AT };
+    for (int i = 0; i < b[0] && value[FLAG]; i++) {
+        const uint8_t *key = b + NODES_AT + i * NODE, *other = key + VALUE_AT;
+        near += other[FLAG] && memcmp(other + OCTETS, value + OCTETS, 3) == 0 && memcmp(other, value, KBUCKETS_VALUE_BYTES) != 0 &&
+                !(but && same(key, but));
     }
-    return near >= 2;
+    return near;
 }
+static bool bucket_filter_fails(const uint8_t *b, const uint8_t *value, const uint8_t *but) { return counted(b, value, but) >= 2; }
 
-/* Whether a due pending is applied with a record, and not dropped. */
-static bool yields(const uint8_t *b, unsigned max_incoming, bool filter, uint64_t now)
+/* A connected incoming node, and max_incoming such nodes held. */
+static bool too_many_incoming(const uint8_t *b, unsigned max_incoming, uint8_t state, uint8_t direction)
 {
-    const uint8_t *pending = b + PENDING_NODE_AT;
     unsigned incoming = 0;
-    if (!b[PENDING_AT] || number(b + DEADLINE_AT) > now)
-        return false;
     for (int i = 0; i < b[0]; i++)
         incoming += b[NODES_AT + i * NODE + STATE_AT] && b[NODES_AT + i * NODE + DIRECTION_AT];
-    if (b[0] == PLACES && b[FIRST_AT] == 0)
-        return false;
-    if (filter && bucket_filter_fails(b, pending))
-        return false;
-    return !(pending[STATE_AT] && pending[DIRECTION_AT] && incoming >= max_incoming);
+    return state && direction && incoming >= max_incoming;
 }
+
+static bool is_due(const uint8_t *b, uint64_t now) { return b[PENDING_AT] && number(b + DEADLINE_AT) <= now; }
+
+/* What becomes of a due pending: dropped on the first ground that holds, or placed. */
+static uint8_t due_ending(const uint8_t *b, unsigned max_incoming, bool filter)
+{
+    const uint8_t *pending = b + PENDING_NODE_AT;
+    if (b[0] == PLACES && b[FIRST_AT] == 0)
+        return KBUCKETS_ENDING_FIRST_CONNECTED;
+    if (filter && bucket_filter_fails(b, pending + VALUE_AT, NULL))
+        return KBUCKETS_ENDING_BUCKET_FILTER;
+    if (too_many_incoming(b, max_incoming, pending[STATE_AT], pending[DIRECTION_AT]))
+        return KBUCKETS_ENDING_TOO_MANY_INCOMING;
+    return b[0] == PLACES ? KBUCKETS_ENDING_REPLACED : KBUCKETS_ENDING_PLACED;
+}
+static bool is_placed(uint8_t ending) { return ending <= KBUCKETS_ENDING_REPLACED; }
 
 struct outlook {
     unsigned refusal; /* 0: accepted */
@@ -260,10 +279,63 @@ struct outlook {
     int visits; /* of a listing, in order, as far as it reads nodes */
 };
 
-static const uint8_t *bucket_of(const uint8_t *s, int i) { return s + HEADER + i * STORED; }
-static bool table_yields(const uint8_t *s, int i, uint64_t now)
+/* The records that a call adds, in order. */
+static uint8_t added[BUCKETS][RECORD];
+
+/* The record of bucket b's pending, and of the node at place 0 where that is evicted. */
+static void add_record(struct outlook *o, const uint8_t *b, uint8_t ending)
 {
-    return yields(bucket_of(s, i), s[MAX_INCOMING_AT], s[BUCKET_FILTER_AT], now);
+    uint8_t *record = added[o->records++];
+    memset(record, 0, RECORD);
+    memcpy(record, b + PENDING_NODE_AT, KEY);
+    record[ENDING_AT] = ending;
+    if (ending == KBUCKETS_ENDING_REPLACED)
+        memcpy(record + EVICTED_AT, b + NODES_AT, NODE);
+}
+
+static const uint8_t *bucket_of(const uint8_t *s, int i) { return s + HEADER + i * STORED; }
+static uint8_t ending_at(const uint8_t *s, int i) { return due_ending(bucket_of(s, i), s[MAX_INCOMING_AT], s[BUCKET_FILTER_AT]); }
+
+/* Whether the table filter fails for a call on this key: ten of the other held values. It is skipped where the key has an equal value. */
+static bool table_filter_fails(const uint8_t *s, const uint8_t *key, const uint8_t *value, const uint8_t *own)
+{
+    unsigned near = 0;
+    if (!s[TABLE_FILTER_AT] || (own && memcmp(own + VALUE_AT, value, KBUCKETS_VALUE_BYTES) == 0))
+        return false;
+    for (int i = 0; i < BUCKETS; i++)
+        near += counted(bucket_of(s, i), value, key);
+    return near >= 10;
+}
+
+/* The ending that the call's own step gives the pending of its bucket, which is not due, or not applied by it; -1 where it gives none. */
+static int step_ending(const uint8_t *s, const uint8_t *b, const struct args *a)
+{
+    int at = place(b, a->key);
+    const uint8_t *own = at < 0 ? NULL : b + NODES_AT + at * NODE;
+    bool confirms = at == 0 && a->state == KBUCKETS_CONNECTED;
+    uint8_t value[KBUCKETS_VALUE_BYTES];
+    if (!b[PENDING_AT])
+        return -1;
+    switch (a->call) {
+    case C_update_node_status:
+    case C_present_update: return confirms ? KBUCKETS_ENDING_FIRST_CONFIRMED : -1;
+    case C_update_node:
+    case C_insert_or_update: break;
+    default: return -1;
+    }
+    value_of(a, value);
+    if (table_filter_fails(s, a->key, value, own))
+        return -1;
+    if (own) {
+        /* the value of update_node comes before its status; that of insert_or_update behind it */
+        bool fails = a->call == C_update_node && memcmp(own + VALUE_AT, value, sizeof value) != 0 && s[BUCKET_FILTER_AT] &&
+                     bucket_filter_fails(b, value, a->key);
+        return confirms && !fails ? KBUCKETS_ENDING_FIRST_CONFIRMED : -1;
+    }
+    bool inserted = a->call == C_insert_or_update && is_pending(b, a->key) && b[0] < PLACES &&
+                    !(s[BUCKET_FILTER_AT] && bucket_filter_fails(b, value, NULL)) &&
+                    !too_many_incoming(b, s[MAX_INCOMING_AT], a->state, a->direction);
+    return inserted ? KBUCKETS_ENDING_INSERTED : -1;
 }
 
 /* One visit of iter and of the closest calls; false once n are found. */
@@ -272,11 +344,12 @@ static bool visit(struct outlook *o, const uint8_t *s, int i, const struct args 
     if (o->found >= a->n)
         return false;
     const uint8_t *b = bucket_of(s, i);
-    bool record = table_yields(s, i, a->now);
-    o->records += record && !o->touched[i];
+    bool due = is_due(b, a->now);
+    if (due && !o->touched[i])
+        add_record(o, b, ending_at(s, i));
     o->touched[i] = true;
     o->visit[o->visits++] = i;
-    o->found += b[0] + (record && b[0] < PLACES);
+    o->found += b[0] + (due && ending_at(s, i) == KBUCKETS_ENDING_PLACED);
     return true;
 }
 
@@ -286,8 +359,8 @@ static void foresee_listing(struct outlook *o, const uint8_t *s, const struct ar
         for (int i = 0; i < BUCKETS && visit(o, s, i, a); i++)
             ;
     } else if (a->call == C_nodes_by_distances) {
-        size_t counted = 0, most = a->n ? a->n : 1;
-        bool record[BUCKETS] = {false};
+        size_t held = 0, most = a->n ? a->n : 1;
+        bool more[BUCKETS] = {false};
         for (size_t k = 0; k < a->distances_len; k++) {
             uint64_t d = a->distances[k];
             if (d < 1 || d > BUCKETS)
@@ -295,11 +368,14 @@ static void foresee_listing(struct outlook *o, const uint8_t *s, const struct ar
             int i = (int)d - 1;
             bool first = !o->touched[i];
             o->touched[i] = true;
-            if (first && table_yields(s, i, a->now)) {
-                record[i] = true;
-                o->records++;
-                counted += bucket_of(s, i)[0] + (bucket_of(s, i)[0] < PLACES);
-                if (counted >= a->n)
+            if (!first || !is_due(bucket_of(s, i), a->now))
+                continue;
+            uint8_t ending = ending_at(s, i);
+            add_record(o, bucket_of(s, i), ending);
+            more[i] = ending == KBUCKETS_ENDING_PLACED;
+            if (is_placed(ending)) { /* a drop neither counts nor stops the pass */
+                held += (size_t)bucket_of(s, i)[0] + more[i];
+                if (held >= a->n)
                     break;
             }
         }
@@ -309,7 +385,7 @@ static void foresee_listing(struct outlook *o, const uint8_t *s, const struct ar
                 continue;
             int count = bucket_of(s, (int)d - 1)[0];
             o->visit[o->visits++] = (int)d - 1;
-            o->found += count + (record[d - 1] && count < PLACES);
+            o->found += count + more[d - 1];
         }
         if (o->found > most)
             o->found = most;
@@ -414,8 +490,11 @@ static void foresee(struct outlook *o, const struct args *a)
             }
         }
         if (i >= 0) {
+            const uint8_t *b = bucket_of(s, i);
+            int ending = q & Q(5) && !(q & Q(7)) && is_due(b, a->now) ? ending_at(s, i) : step_ending(s, b, a);
             o->touched[i] = true;
-            o->records = q & Q(8) && table_yields(s, i, a->now);
+            if (ending >= 0)
+                add_record(o, b, (uint8_t)ending);
         }
     }
     if (q & Q(8) && s[COUNT_AT] + o->records > RECORDS)

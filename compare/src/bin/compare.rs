@@ -2,7 +2,7 @@
 
 use compare::explained::asked;
 use compare::generate::Generator;
-use compare::outcome::{Counts, outcome};
+use compare::outcome::{Counts, Endings, outcome};
 use compare::run::{self, Answered, Disagreement, Program};
 use compare::shrink::shrink;
 use std::process::ExitCode;
@@ -15,8 +15,9 @@ Feeds seeded random lists of calls to two commands, each started with --dump, an
 line by line. Most of the calls that can be explained stand behind their explanation, and must answer as it says. FIRST is the `reference` beside this program where it is not given. A command may have arguments, parted by spaces.
 Exits with 0 where they agree on all calls, with 2 where it cannot run, and with 1 otherwise: after a disagreement, which is shrunk to its
 fewest lines, and a command that ends before its answers are through is one, whatever the other does; where fewer calls or explanations
-ran than were asked for; and, from 200,000 calls on, where an outcome of a call or an explanation, or two slots that differ in some one byte
-alone, are not reached (from 2,000,000 on also what listings and explanations are to be asked for).
+ran than were asked for; and, from 200,000 calls on, where an outcome of a call or an explanation, two slots that differ in some one byte
+alone, or an ending of a pending by a call that can end it so, are not reached, or an ending occurs less than once in 1,000 calls (from
+2,000,000 on also where listings and explanations are not asked for all that they are to be).
 
   --calls N          calls to compare (100,000) or to write (3,000); explanations are not counted
   --explanations N   explanations to compare, each with its call, at least (0)
@@ -102,6 +103,9 @@ const BATCH: usize = 3000;
 const ALL_OUTCOMES: u64 = 200_000;
 const ALL_ASKED: u64 = 2_000_000;
 
+/// From as many calls as [`ALL_OUTCOMES`] says on, each ending of a pending occurs at least once in so many.
+const CALLS_PER_ENDING: u64 = 1000;
+
 /// Whether the programs agree, on as many calls as were asked for, and on every outcome where there are enough of them.
 fn compare(options: &Options, programs: &[Program; 2]) -> Result<bool, String> {
     let start = Instant::now();
@@ -113,6 +117,7 @@ fn compare(options: &Options, programs: &[Program; 2]) -> Result<bool, String> {
     let mut generator = Generator::explaining(options.seed);
     let (mut counts, mut explained, mut asked) = (Counts::outcomes(), Counts::explained(), Counts::asked());
     let mut slots = Counts::slots();
+    let mut endings = Endings::new();
     let (mut calls, mut explanations) = (0, 0);
     let mut shown = start;
     while (calls < wanted || explanations < options.explanations) && start.elapsed() < limit {
@@ -128,6 +133,7 @@ fn compare(options: &Options, programs: &[Program; 2]) -> Result<bool, String> {
             explained.add_outcome(call, answer);
             asked.add_asked(call, answer);
             slots.add_slots(call, answer, answered.before);
+            endings.add(call, answer, answered.after);
         })?;
         if let Some(disagreement) = disagreement {
             println!("seed {}: disagreement after {calls} calls", options.seed);
@@ -148,12 +154,19 @@ fn compare(options: &Options, programs: &[Program; 2]) -> Result<bool, String> {
     print_counts(&asked);
     println!("Slots at equal addresses, by how they differ (byte 0 is the last):");
     print_counts(&slots);
+    println!("Pendings ended, by call:");
+    print_counts(&endings.by_call);
+    let totals = endings.totals();
+    let ended: Vec<String> = totals.iter().map(|(ending, count)| format!("{ending} {count}")).collect();
+    println!("Pendings ended, in all: {}", ended.join(", "));
     let (seed, seconds) = (options.seed, start.elapsed().as_secs_f64());
     let missing = |counts: &Counts, from| if wanted < from { 0 } else { counts.rare(1).len() };
     let missing = missing(&counts, ALL_OUTCOMES)
         + missing(&explained, ALL_OUTCOMES)
         + missing(&slots, ALL_OUTCOMES)
+        + missing(&endings.by_call, ALL_OUTCOMES)
         + missing(&asked, ALL_ASKED);
+    let rare = totals.values().filter(|count| wanted >= ALL_OUTCOMES && **count < calls / CALLS_PER_ENDING).count();
     let agree = format!("{calls} calls agree, {explanations} of them as explained before, in {seconds:.1} s");
     if calls < wanted {
         println!("seed {seed}: FAILED: only {calls} of {wanted} calls ran, in {seconds:.1} s; they agree");
@@ -161,10 +174,12 @@ fn compare(options: &Options, programs: &[Program; 2]) -> Result<bool, String> {
         println!("seed {seed}: FAILED: {agree}, and {} were to be explained", options.explanations);
     } else if missing > 0 {
         println!("seed {seed}: FAILED: {agree}, and {missing} outcomes that must be reached are not");
+    } else if rare > 0 {
+        println!("seed {seed}: FAILED: {agree}, and {rare} endings occur less than once in {CALLS_PER_ENDING} calls");
     } else {
         println!("seed {seed}: {agree}");
     }
-    Ok(calls >= wanted && explanations >= options.explanations && missing == 0)
+    Ok(calls >= wanted && explanations >= options.explanations && missing + rare == 0)
 }
 
 /// Shrinks a disagreement to one of its kind, and prints it.

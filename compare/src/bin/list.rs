@@ -179,8 +179,15 @@ missing.
         .to_vec()
     }
 
+    /// The calls of tests/endings.txt: each ending of a pending.
+    fn endings() -> impl Iterator<Item = String> {
+        const OTHER: [&str; 4] = ["#", "dump", "bdump", "explain "];
+        let lines = include_str!("../../tests/endings.txt").lines();
+        lines.filter(|line| !line.is_empty() && !OTHER.iter().any(|other| line.starts_with(other))).map(str::to_string)
+    }
+
     /// Question 1 of each call; short answers; a queue filled by calls alone and question 8 of each call; question 2 of each call, and of the
-    /// padding; a pending of each status before it is due, and when it is; slots that differ in one byte alone.
+    /// padding; a pending of each status before it is due, and when it is; slots that differ in one byte alone; each ending of a pending.
     fn fixed() -> Vec<String> {
         let mut lines = vec!["new :0 0 16 0 0".to_string()];
         lines.extend(every().iter().map(|line| format!("! {line}")));
@@ -221,6 +228,7 @@ missing.
                 lines.extend(twins(slot, slot ^ 0x80 << (8 * byte)));
             }
         }
+        lines.extend(endings());
         lines
     }
 

@@ -143,7 +143,3 @@ fn counted<'a>(value: &Value, nodes: impl Iterator<Item = &'a Held>, limit: usiz
     assert!(keys.len() == limit, "the filter counts only {}", keys.len());
     keys
 }
-
-fn raw_key(node: &Held) -> [u8; 32] {
-    node.key.preimage().raw()
-}

@@ -38,7 +38,7 @@ pub fn answers_as_written(program: &str, file: &str) {
 }
 
 /// Lines that are no call, and raw lines that do not fit.
-const BAD_LINES: [&str; 42] = [
+const BAD_LINES: [&str; 48] = [
     "no_such_call",
     "entry 0",
     "entry 0 :1 2",
@@ -79,6 +79,12 @@ const BAD_LINES: [&str; 42] = [
     "raw_node 256 :1 0:0.0.0.0:0 0 0",
     "raw_node 0 01 0:0.0.0.0:0 0 0",
     "raw_fcp 0 256",
+    "raw_record :1",
+    "raw_record 01 cleared_inserted",
+    "raw_record :1 dropped",
+    "raw_record :1 2",
+    "raw_record :1 cleared_inserted -",
+    "raw_record :1 - cleared_inserted",
     "raw_node 0 :1 1:1.2.3.4:18446744073709551616 0 0",
     "raw_byte 0 256",
 ];

@@ -2,7 +2,7 @@
 use Prim.Native.Nat.{ℕ, _≤_}
 use mathlib.Core.Path.{_≡_, refl, sym, ap, _∙_, subst}
 use mathlib.Core.Bool.{Bool, true, false, cond, not, _&&_, _||_, Bool·beq}
-use mathlib.Core.List.{map}
+use mathlib.Core.List.{[], map}
 use mathlib.Core.Option.{Option, none, some}
 use lib.ListN.{length, take, drop, length-map}
 use lib.Dec.{eqb, leb, ltb}
@@ -16,6 +16,7 @@ use Rattle.model.specs.Bucket.{Bucket, maxNodesPerBucket, nodes, holds, incomin
 use Rattle.model.specs.Fits.{Opt}
 use Rattle.laws.proofs.Tests.{split}
 use Rattle.laws.proofs.KeepLists.{get-nodes}
+use Rattle.key.specs.declared.Key.{Key}
 use Rattle.key.specs.Key.{num}
 use Rattle.node.specs.declared.Node.{Node}
 use Rattle.node.specs.Node.{nodeOf, nodeCodes, isZero, storedNode}
@@ -25,9 +26,25 @@ use Rattle.places.proofs.Model.{held-is}
 use Rattle.bucket.specs.declared.Pending.{Pending}
 use Rattle.bucket.specs.declared.Pending.the-variants.{Nothing, Waiting}
 use Rattle.bucket.specs.declared.KBucket.{KBucket}
+use Rattle.bucket.specs.declared.Ending.{Ending}
+use Rattle.bucket.specs.declared.Ending.the-variants as ending
+use Rattle.bucket.specs.declared.EndedPending.{EndedPending}
+use Rattle.bucket.specs.declared.EndedPending.the-variants.{Dropped}
+use Rattle.bucket.specs.Calls.{recordsOf}
 use Rattle.bucket.specs.Bucket.{pendingOf, heldOf, bucketOf, settingsOf, storedPending, pendingFits, pendingSound, sound, Sound, Becomes, repending}
 use Rattle.bucket.proofs.Sound.{nodes-of, pending-of, formed-of}
 use Rattle.bucket.proofs.Steps.{pending-becomes, place-of}
+
+-- a pending that was not placed gives a bucket by itself no record
+pub not-placed : (x : EndedPending) (k : Key) (e : Ending) → x ≡ Dropped k e → [] ≡ model.placedOf (recordsOf x)
+not-placed x k e p = go e ∙ ap (λ (y : EndedPending). model.placedOf (recordsOf y)) (sym p)
+  where
+    go : (e : Ending) → [] ≡ model.placedOf (recordsOf (Dropped k e))
+    go ending.FirstConnected = refl
+    go ending.BucketFilter = refl
+    go ending.TooManyIncoming = refl
+    go ending.Inserted = refl
+    go ending.FirstConfirmed = refl
 
 -- The status step's answer.
 

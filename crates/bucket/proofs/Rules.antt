@@ -2,7 +2,7 @@
 use Prim.Native.Nat.{ℕ, _+_, _≤_, _<_}
 use native.Mathlib.Omega.{arith}
 use mathlib.Core.Path.{_≡_, refl, sym, ap, _∙_, subst}
-use mathlib.Core.Bool.{Bool, true, false, cond, _&&_, _||_}
+use mathlib.Core.Bool.{Bool, true, false, cond, _&&_}
 use mathlib.Core.List.{List, [], _∷_, _++_}
 use mathlib.Core.Option.{Option, none, some}
 use lib.ListN.{length}
@@ -10,9 +10,9 @@ use lib.Dec.{leb}
 use borrow.Author.Tests.{le-leb, lt-leb, leb-false}
 use Rattle.model.specs.Base.{same, isSome}
 use Rattle.model.specs.Value.{Value, sameValue}
-use Rattle.model.specs.Node.{Node, PendingNode, AppliedPending, connectedIncoming, withStatus}
+use Rattle.model.specs.Node.{Node, PendingNode, Ending, EndedPending, ended, connectedIncoming, withStatus}
 use Rattle.model.specs.Result.{FailureReason, BucketInsertResult, UpdateResult, isInserted}
-use Rattle.model.specs.Bucket.{Bucket, BucketSettings, maxNodesPerBucket, nodes, numEntries, isFull, get, holds, failsBucketFilter, incomingNodes, isMaxIncoming, withPending, put, placed, omit, takeOut, insertFull, insert, applyFull, applyDue, applyIfDue, applyPending, reinsert, statusResult, takenOut, updateStatusOf, updateStatus, revalue, updateValueOf, updateValue, remove}
+use Rattle.model.specs.Bucket.{Bucket, BucketSettings, maxNodesPerBucket, nodes, numEntries, isFull, get, holds, failsBucketFilter, incomingNodes, isMaxIncoming, withPending, put, placed, omit, takeOut, insertFull, insert, insertEnding, applyFull, applyDue, applyIfDue, applyPending, reinsert, statusResult, takenOut, updateStatusOf, updateStatus, revalue, updateValueOf, updateValue, remove}
 use Rattle.model.specs.Fits.{Different}
 use Rattle.laws.proofs.Tests.{clash, split, same-self}
 use Rattle.laws.proofs.KeepLists.{incoming-omit}
@@ -114,55 +114,52 @@ takeOut-low s n k b e =
 
 -- Apply pending. b is the bucket with the pending taken out.
 
-free-drops : (x : BucketInsertResult × Bucket) (k : ℕ) (b : Bucket) (r : BucketInsertResult) (m : Bucket) → x ≡ (r, m) → isInserted r ≡ false
-    → _≡_ {A = Bucket × List AppliedPending} (cond (isInserted (x .0)) (x .1, record { inserted = k; evicted = none } ∷ []) (b, [])) (b, [])
-free-drops x k b r m e f = rw (e, f)
+abbrev free : Node → Bucket → BucketInsertResult × Bucket → Bucket × List EndedPending
+free n b x = (cond (isInserted (x .0)) (x .1) b, ended n (insertEnding (x .0)))
 
-free-places : (x : BucketInsertResult × Bucket) (k : ℕ) (b m : Bucket) → x ≡ (BucketInsertResult.Inserted, m)
-    → _≡_ {A = Bucket × List AppliedPending} (cond (isInserted (x .0)) (x .1, record { inserted = k; evicted = none } ∷ []) (b, []))
-    (m, record { inserted = k; evicted = none } ∷ [])
-free-places x k b m e = rw e
+free-drops : (x : BucketInsertResult × Bucket) (n : Node) (b : Bucket) (r : BucketInsertResult) (m : Bucket) → x ≡ (r, m) → isInserted r ≡ false
+    → free n b x ≡ (b, ended n (insertEnding r))
+free-drops x n b r m e f = rw (e, f)
 
-full-drops : (s : BucketSettings) (n : Node) (b : Bucket) (ds : List Node) → (failsBucketFilter s (n .value) b || isMaxIncoming s n b) ≡ true
-    → applyFull s n b ds ≡ (b, [])
-full-drops s n b [] e = refl
-full-drops s n b (d ∷ ds) e = rw e
+free-places : (x : BucketInsertResult × Bucket) (n : Node) (b m : Bucket) → x ≡ (BucketInsertResult.Inserted, m) → free n b x ≡ (m, ended n (Ending.Placed none))
+free-places x n b m e = rw e
 
-beside : {m m' : Bucket} {r : List AppliedPending} → m ≡ m' → _≡_ {A = Bucket × List AppliedPending} (m, r) (m', r)
+beside : {m m' : Bucket} {r : List EndedPending} → m ≡ m' → _≡_ {A = Bucket × List EndedPending} (m, r) (m', r)
 beside e = rw e
 
-module _ (s : BucketSettings) (now : ℕ) (n : Node) (b : Bucket) (new : holds (n .key) b ≡ false) where
-  due-drops : (r : BucketInsertResult) → insert s now n b ≡ (r, b) → isInserted r ≡ false → (failsBucketFilter s (n .value) b || isMaxIncoming s n b) ≡ true
-      → applyDue s now n b ≡ (b, [])
-  unfolding applyDue
-  due-drops r e f g =
-      split (isFull b) (λ t. rw t (full-drops s n b (b .disconnected) g)) (λ t. rw t (free-drops (insert s now n b) (n .key) b r b e f))
+-- a place is free, or place 0 is disconnected
+abbrev pub Open : Bucket → Type 0
+Open b = isFull b ≡ true → (d : Node) × (ds : List Node) × (b .disconnected ≡ d ∷ ds)
 
-  pub due-filter : failsBucketFilter s (n .value) b ≡ true → applyDue s now n b ≡ (b, [])
-  due-filter e = due-drops BucketInsertResult.FailedFilter (insert-filter s now n b new e) refl (rw e)
+module _ (s : BucketSettings) (now : ℕ) (n : Node) (b : Bucket) (new : holds (n .key) b ≡ false) where
+  pub due-connected : maxNodesPerBucket ≤ numEntries b → b .disconnected ≡ [] → applyDue s now n b ≡ (b, ended n Ending.FirstConnected)
+  unfolding applyDue
+  due-connected h e = rw (full b h) (ap (applyFull s n b) e)
+
+  due-drops : Open b → (r : BucketInsertResult) → insert s now n b ≡ (r, b) → isInserted r ≡ false
+      → ((d : Node) (ds : List Node) → applyFull s n b (d ∷ ds) ≡ (b, ended n (insertEnding r))) → applyDue s now n b ≡ (b, ended n (insertEnding r))
+  unfolding applyDue
+  due-drops o r e f g =
+      split (isFull b) (λ t. let x = o t in rw t (ap (applyFull s n b) (x .2) ∙ g (x .0) (x .1))) (λ t. rw t (free-drops (insert s now n b) n b r b e f))
+
+  pub due-filter : Open b → failsBucketFilter s (n .value) b ≡ true → applyDue s now n b ≡ (b, ended n Ending.BucketFilter)
+  due-filter o e = due-drops o BucketInsertResult.FailedFilter (insert-filter s now n b new e) refl (λ d ds. rw e)
 
   module _ (fine : failsBucketFilter s (n .value) b ≡ false) where
-    pub due-many : isMaxIncoming s n b ≡ true → applyDue s now n b ≡ (b, [])
-    due-many e = due-drops BucketInsertResult.TooManyIncoming (insert-many s now n b new fine e) refl (rw (fine, e))
+    pub due-many : Open b → isMaxIncoming s n b ≡ true → applyDue s now n b ≡ (b, ended n Ending.TooManyIncoming)
+    due-many o e = due-drops o BucketInsertResult.TooManyIncoming (insert-many s now n b new fine e) refl (λ d ds. rw (fine, e))
 
     module _ (low : isMaxIncoming s n b ≡ false) where
-      pub due-placed : numEntries b < maxNodesPerBucket → applyDue s now n b ≡ (placed n b, record { inserted = n .key; evicted = none } ∷ [])
+      pub due-placed : numEntries b < maxNodesPerBucket → applyDue s now n b ≡ (placed n b, ended n (Ending.Placed none))
       unfolding applyDue
-      due-placed h = rw (free-isFull b h) (free-places (insert s now n b) (n .key) b (placed n b) (insert-placed s now n b new fine low h))
-
-      pub due-connected : maxNodesPerBucket ≤ numEntries b → b .disconnected ≡ [] → applyDue s now n b ≡ (b, [])
-      unfolding applyDue
-      due-connected h e = rw (full b h) (ap (applyFull s n b) e)
-
-      neither : (failsBucketFilter s (n .value) b || isMaxIncoming s n b) ≡ false
-      neither = rw (fine, low)
+      due-placed h = rw (free-isFull b h) (free-places (insert s now n b) n b (placed n b) (insert-placed s now n b new fine low h))
 
       evicts : (d : Node) (ds : List Node) → applyFull s n b (d ∷ ds)
-          ≡ (put n (record { disconnected = ds; connected = b .connected; pending = none }), record { inserted = n .key; evicted = some d } ∷ [])
-      evicts d ds = rw neither
+          ≡ (put n (record { disconnected = ds; connected = b .connected; pending = none }), ended n (Ending.Placed (some d)))
+      evicts d ds = rw (fine, low)
 
       pub due-evicts : maxNodesPerBucket ≤ numEntries b → (d : Node) (ds : List Node) → b .disconnected ≡ d ∷ ds → b .pending ≡ none → Different (nodes b)
-          → applyDue s now n b ≡ (placed n (takeOut (d .key) b), record { inserted = n .key; evicted = some d } ∷ [])
+          → applyDue s now n b ≡ (placed n (takeOut (d .key) b), ended n (Ending.Placed (some d)))
       unfolding applyDue
       due-evicts h d ds e p w =
           let out : takeOut (d .key) b ≡ record { disconnected = ds; connected = b .connected; pending = none } =

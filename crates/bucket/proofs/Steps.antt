@@ -11,12 +11,12 @@ use lib.ListN.{length, take, getD, length-map, length-append, set, length-set, r
 use lib.Seq.{getD-take, set-append-left}
 use lib.Dec.{eqb, leb, ltb}
 use mir.Val.{boolByte}
-use borrow.Author.Tests.{ltb-true}
+use borrow.Author.Tests.{eqb-false, le-leb, leb-true, ltb-true}
 use Rattle.model.specs.Base.{same, isSome}
 use Rattle.model.specs.Value as value
 use Rattle.model.specs.Node as model
 use Rattle.model.specs.Filter.{ipFilterFails, maxNodesPerSubnetBucket}
-use Rattle.model.specs.Bucket.{Bucket, BucketSettings, maxNodesPerBucket, nodes, numEntries, get, holds, failsBucketFilter, incomingNodes, isMaxIncoming, withPending, cleared, only, placed, takeOut, omit, isFirst, revalue}
+use Rattle.model.specs.Bucket.{Bucket, BucketSettings, maxNodesPerBucket, nodes, numEntries, isFull, get, holds, failsBucketFilter, incomingNodes, isMaxIncoming, withPending, cleared, only, placed, takeOut, omit, isFirst, revalue}
 use Rattle.model.specs.Fits.{Opt, Formed}
 use Rattle.laws.proofs.KeepLists.{get-nodes, length-revalue}
 use Rattle.laws.proofs.Lists.{getD-any}
@@ -34,6 +34,7 @@ use Rattle.bucket.specs.declared.Pending.{Pending}
 use Rattle.bucket.specs.declared.Pending.the-variants.{Nothing, Waiting}
 use Rattle.bucket.specs.declared.KBucket.{KBucket}
 use Rattle.bucket.specs.Bucket.{pendingOf, heldOf, keyAt, bucketOf, settingsOf, storedPending, stored, Sound, Becomes, clearedPending, repending}
+use Rattle.bucket.proofs.Rules.{Open}
 use Rattle.bucket.proofs.Stored.{same-parts}
 use Rattle.bucket.proofs.Sound.{nodes-of, count-of, first-of, places-of, pending-of, filter-of, held-count, first≤count, maximum-of, formed-of, becomes}
 
@@ -46,13 +47,13 @@ pub by-rule : {A : Type 0} (s : BucketSettings) (x y : A × Bucket) (a : A) (r :
 by-rule s x y a r e h = subst (λ z. (a ≡ z .0) × Becomes s (z .1) r) (sym e) h
 
 -- the same of applying a pending, with the codes of its record
-pub done-apply : {C : Type 0} (s : BucketSettings) (x : Bucket × List model.AppliedPending) (m : Bucket) (rs : List model.AppliedPending) (r : KBucket) → x ≡ (m, rs) → Becomes s m r
+pub done-apply : {C : Type 0} (s : BucketSettings) (x : Bucket × List model.EndedPending) (m : Bucket) (rs : List model.EndedPending) (r : KBucket) → x ≡ (m, rs) → Becomes s m r
     → C → (rs ≡ x .1) × (Becomes s (x .0) r × C)
 done-apply s x m rs r e b codes = (ap (λ y. y .1) (sym e), (subst (λ (y : Bucket). Becomes s y r) (ap (λ y. y .0) (sym e)) b, codes))
 
-pub by-apply : {C : Type 0} (s : BucketSettings) (x : Bucket × List model.AppliedPending) (m : Bucket) (rs rs' : List model.AppliedPending) (r : KBucket) → x ≡ (m, rs)
+pub by-apply : {C : Type 0} (s : BucketSettings) (x : Bucket × List model.EndedPending) (m : Bucket) (rs rs' : List model.EndedPending) (r : KBucket) → x ≡ (m, rs)
     → (rs' ≡ rs) × (Becomes s m r × C) → (rs' ≡ x .1) × (Becomes s (x .0) r × C)
-by-apply {C} s x m rs rs' r e h = subst (λ (z : Bucket × List model.AppliedPending). (rs' ≡ z .1) × (Becomes s (z .0) r × C)) (sym e) h
+by-apply {C} s x m rs rs' r e h = subst (λ (z : Bucket × List model.EndedPending). (rs' ≡ z .1) × (Becomes s (z .0) r × C)) (sym e) h
 
 -- The place of a key.
 
@@ -293,6 +294,22 @@ some-disconnected b s h =
       x .1 ∙ ap (λ (n : model.Node). n ∷ x .0)
           (List·getD-map nodeOf (heldOf b) 0 zeroNode ∙ ap nodeOf (getD-take (b .count) (b .nodes) 0 zeroNode (omega arith))),
     )
+
+-- with 16 held and place 0 not connected, the first of them
+pub first-of-full : (b : KBucket) → Sound b → (leb maxNodesPerBucket (b .count) && eqb (b .«first_connected_pos») 0) ≡ false → maxNodesPerBucket ≤ b .count
+    → (rest : List model.Node) × (bucketOf b .disconnected ≡ nodeOf (getD (b .nodes) 0 zeroNode) ∷ rest)
+first-of-full b s e h =
+    let z : eqb (b .«first_connected_pos») 0 ≡ false = rw (le-leb maxNodesPerBucket (b .count) h) at e in
+    some-disconnected b s (positive (b .«first_connected_pos») (eqb-false (b .«first_connected_pos») 0 z))
+  where
+    positive : (x : ℕ) → (x ≡ 0 → ⊥) → 0 < x
+    positive x n = omega arith
+
+pub open-of : (b : KBucket) → Sound b → (leb maxNodesPerBucket (b .count) && eqb (b .«first_connected_pos») 0) ≡ false → Open (bucketOf b)
+unfolding isFull
+open-of b s e t =
+    let x = first-of-full b s e (leb-true maxNodesPerBucket (b .count) (ap (leb maxNodesPerBucket) (count-of b s) ∙ t)) in
+    (nodeOf (getD (b .nodes) 0 zeroNode), x .0, x .1)
 
 -- The tests and the placing of a node n that stands for n', in a bucket that stands for m.
 module _ {s : BucketSettings} {m : Bucket} {b : KBucket} (x : Becomes s m b) (n : Node) (n' : model.Node) (e : nodeOf n ≡ n') where

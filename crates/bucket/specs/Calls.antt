@@ -20,7 +20,8 @@ use Rattle.bucket.specs.declared.KBucket.{KBucket}
 use Rattle.bucket.specs.declared.InsertResult.{InsertResult}
 use Rattle.bucket.specs.declared.FailureReason.{FailureReason}
 use Rattle.bucket.specs.declared.UpdateResult.{UpdateResult}
-use Rattle.bucket.specs.declared.AppliedPending.{AppliedPending}
+use Rattle.bucket.specs.declared.Ending.{Ending}
+use Rattle.bucket.specs.declared.EndedPending.{EndedPending}
 use Rattle.bucket.specs.declared.InsertAnswer.{InsertAnswer}
 use Rattle.bucket.specs.declared.ApplyAnswer.{ApplyAnswer}
 use Rattle.bucket.specs.declared.UpdateAnswer.{UpdateAnswer}
@@ -30,7 +31,8 @@ use Rattle.bucket.specs.declared.NewAnswer.{NewAnswer}
 use Rattle.bucket.specs.declared.InsertResult.the-variants as insert-result
 use Rattle.bucket.specs.declared.FailureReason.the-variants as reason
 use Rattle.bucket.specs.declared.UpdateResult.the-variants as update-result
-use Rattle.bucket.specs.declared.AppliedPending.the-variants as applied
+use Rattle.bucket.specs.declared.Ending.the-variants as ending
+use Rattle.bucket.specs.declared.EndedPending.the-variants as applied
 use Rattle.bucket.specs.declared.InsertAnswer.the-variants as insert-answer
 use Rattle.bucket.specs.declared.ApplyAnswer.the-variants as apply-answer
 use Rattle.bucket.specs.declared.UpdateAnswer.the-variants as update-answer
@@ -64,23 +66,32 @@ updateResultOf update-result.UpdatedPending = result.UpdateResult.UpdatedPending
 updateResultOf (update-result.Failed r) = result.UpdateResult.Failed (failureReasonOf r)
 updateResultOf update-result.NotModified = result.UpdateResult.NotModified
 
--- the records of applied pendings: one, or none
-abbrev pub recordsOf : AppliedPending → List model.AppliedPending
+abbrev pub endingOf : Ending → model.Ending
+endingOf ending.FirstConnected = model.Ending.FirstConnected
+endingOf ending.BucketFilter = model.Ending.BucketFilter
+endingOf ending.TooManyIncoming = model.Ending.TooManyIncoming
+endingOf ending.Inserted = model.Ending.Inserted
+endingOf ending.FirstConfirmed = model.Ending.FirstConfirmed
+
+-- the records of ended pendings: one, or none
+abbrev pub recordsOf : EndedPending → List model.EndedPending
 recordsOf applied.Nothing = []
-recordsOf (applied.Inserted k) = record { inserted = num k; evicted = none } ∷ []
-recordsOf (applied.Replaced k n) = record { inserted = num k; evicted = some (nodeOf n) } ∷ []
+recordsOf (applied.Placed k) = record { key = num k; ending = model.Ending.Placed none } ∷ []
+recordsOf (applied.Replaced k n) = record { key = num k; ending = model.Ending.Placed (some (nodeOf n)) } ∷ []
+recordsOf (applied.Dropped k e) = record { key = num k; ending = endingOf e } ∷ []
 
 -- 01, question 4: the codes of the node that was evicted, if one was
-abbrev pub appliedCodes : AppliedPending → Bool
+abbrev pub appliedCodes : EndedPending → Bool
 appliedCodes applied.Nothing = true
-appliedCodes (applied.Inserted k) = true
+appliedCodes (applied.Placed k) = true
 appliedCodes (applied.Replaced k n) = nodeCodes n
+appliedCodes (applied.Dropped k e) = true
 
 abbrev pub insertAnswerOf : InsertAnswer → Reply result.BucketInsertResult
 insertAnswerOf (insert-answer.Refused q) = Reply.Refused q
 insertAnswerOf (insert-answer.Answered r) = Reply.Answered (insertResultOf r)
 
-abbrev pub applyAnswerOf : ApplyAnswer → Reply (List model.AppliedPending)
+abbrev pub applyAnswerOf : ApplyAnswer → Reply (List model.EndedPending)
 applyAnswerOf (apply-answer.Refused q) = Reply.Refused q
 applyAnswerOf (apply-answer.Answered r) = Reply.Answered (recordsOf r)
 
@@ -128,10 +139,11 @@ unfoldable pub insertCall : KBucket → Node → ℕ → Reply result.BucketInse
 insertCall b n now =
     answered b (firstFailed (questions b (nodeCodes n) (timely b now))) (bucket.insert (settingsOf b) now (nodeOf n) (bucketOf b))
 
-unfoldable pub applyPendingCall : KBucket → ℕ → Reply (List model.AppliedPending) × KBucket
+-- 01, Apply pending: a drop leaves no record. 02, slip 4, gives one to table calls only.
+unfoldable pub applyPendingCall : KBucket → ℕ → Reply (List model.EndedPending) × KBucket
 applyPendingCall b now =
     let r = bucket.applyPending (settingsOf b) now (bucketOf b) in
-    answered b (firstFailed (questions b true (timely b now))) (r .1, r .0)
+    answered b (firstFailed (questions b true (timely b now))) (model.placedOf (r .1), r .0)
 
 unfoldable pub updateStatusCall : KBucket → Key → ℕ → ℕ → Reply result.UpdateResult × KBucket
 updateStatusCall b k state direction =

@@ -9,15 +9,17 @@ ghost use lib.ListN.{length, take, getD};
 ghost use mathlib.Core.List.{[], _∷_};
 ghost use Rattle.model.specs.Base.{isSome};
 ghost use Rattle.model.specs.Value.{Value};
-ghost use Rattle.model.specs.Node.{withStatus, withValue, sameStatus};
+ghost use Rattle.model.specs.Node as ends;
+ghost use Rattle.model.specs.Node.{placedOf, withStatus, withValue, sameStatus};
 ghost use Rattle.model.specs.Bucket.{BucketSettings, maxNodesPerBucket, emptyBucket, holds, failsBucketFilter, isMaxIncoming, placed, takeOut, insertFull, insert, applyPending, applyDue, updateStatus, updateStatusOf, updateIfPending, updateValue, updateValueOf, updatePending, remove, statusResult, get};
 ghost use Rattle.model.specs.Call.{isOne, optional};
 ghost use Rattle.model.specs.Question.{firstFailed};
+ghost use Rattle.model.specs.Layout.{endingKind};
 ghost use Rattle.key.specs.Key.{num, Words};
 ghost use Rattle.node.specs.Node.{valueOf, nodeOf, valueCodes, nodeCodes, zeroNode};
 ghost use Rattle.bucket.specs.declared.Pending.the-variants.{Nothing, Waiting};
 ghost use Rattle.bucket.specs.Bucket.{pendingOf, keyAt, bucketOf, settingsOf, stored, sound, Sound, Becomes, repending, clearedPending, pendingFits, PendingWords};
-ghost use Rattle.bucket.specs.Calls.{refusalNumber, questions, timely, insertResultOf, updateResultOf, recordsOf, appliedCodes, insertAnswerOf, applyAnswerOf, applyCodes, updateAnswerOf, pendingAnswerOf, removeAnswerOf, newAnswerOf, insertCall, applyPendingCall, updateStatusCall, updateValueCall, updatePendingCall, removeCall, newCall};
+ghost use Rattle.bucket.specs.Calls.{refusalNumber, questions, timely, insertResultOf, updateResultOf, endingOf, recordsOf, appliedCodes, insertAnswerOf, applyAnswerOf, applyCodes, updateAnswerOf, pendingAnswerOf, removeAnswerOf, newAnswerOf, insertCall, applyPendingCall, updateStatusCall, updateValueCall, updatePendingCall, removeCall, newCall};
 use key::Key;
 use node::Node;
 use node::NodeStatus;
@@ -74,11 +76,22 @@ pub enum UpdateResult {
     NotModified,
 }
 
-// The record of an applied pending: none, its key, or its key and the node that it evicted.
-pub enum AppliedPending {
+// How a pending ended that was not placed: dropped because 16 are held and place 0 is connected, by the bucket filter, by the incoming
+// limit; cleared by a direct insert of its key, or because place 0 was confirmed.
+pub enum Ending {
+    FirstConnected,
+    BucketFilter,
+    TooManyIncoming,
+    Inserted,
+    FirstConfirmed,
+}
+
+// The record of an ended pending: none; placed, its key; placed, its key and the node that it evicted; not placed, its key and ending.
+pub enum EndedPending {
     Nothing,
-    Inserted(Key),
+    Placed(Key),
     Replaced(Key, Node),
+    Dropped(Key, Ending),
 }
 
 pub struct Inserted {
@@ -88,7 +101,7 @@ pub struct Inserted {
 
 pub struct Applied {
     pub bucket: KBucket,
-    pub applied: AppliedPending,
+    pub applied: EndedPending,
 }
 
 pub struct Updated {
@@ -109,7 +122,7 @@ pub enum InsertAnswer {
 
 pub enum ApplyAnswer {
     Refused(u8),
-    Answered(AppliedPending),
+    Answered(EndedPending),
 }
 
 pub enum UpdateAnswer {
@@ -425,32 +438,33 @@ impl KBucket {
         ensures { λ r. ⌜ appliedCodes (r .applied) ≡ true ⌝ }
     {
         let key = node.key;
+        let full = KBucket::MAX_NODES_PER_BUCKET <= self.count;
+        if full & (self.first_connected_pos == 0) {
+            return Applied {
+                bucket: self,
+                applied: EndedPending::Dropped(key, Ending::FirstConnected),
+            };
+        }
         if self.fails_filter(node.value) {
             return Applied {
                 bucket: self,
-                applied: AppliedPending::Nothing,
+                applied: EndedPending::Dropped(key, Ending::BucketFilter),
             };
         }
         if self.is_max_incoming(node) {
             return Applied {
                 bucket: self,
-                applied: AppliedPending::Nothing,
+                applied: EndedPending::Dropped(key, Ending::TooManyIncoming),
             };
         }
-        if self.count < KBucket::MAX_NODES_PER_BUCKET {
-            self = self.placed(node);
-            return Applied {
-                bucket: self,
-                applied: AppliedPending::Inserted(key),
-            };
+        if full {
+            return self.evict(node);
         }
-        if self.first_connected_pos == 0 {
-            return Applied {
-                bucket: self,
-                applied: AppliedPending::Nothing,
-            };
+        self = self.placed(node);
+        Applied {
+            bucket: self,
+            applied: EndedPending::Placed(key),
         }
-        self.evict(node)
     }
 
     // Internal: a node that is not held in place of the node at place 0, which is disconnected.
@@ -460,7 +474,7 @@ impl KBucket {
         requires { ⌜ maxNodesPerBucket ≤ self .count ⌝ }
         requires { ⌜ holds (num (node .key)) (bucketOf self) ≡ false ⌝ }
         requires { ⌜ isMaxIncoming (settingsOf self) (nodeOf node) (bucketOf self) ≡ false ⌝ }
-        ensures { λ r. ⌜ recordsOf (r .applied) ≡ record { inserted = num (node .key); evicted = some (nodeOf (getD (self .nodes) 0 zeroNode)) } ∷ [] ⌝ }
+        ensures { λ r. ⌜ recordsOf (r .applied) ≡ ends.ended (nodeOf node) (ends.Ending.Placed (some (nodeOf (getD (self .nodes) 0 zeroNode)))) ⌝ }
         ensures { λ r. ⌜ Becomes (settingsOf self) (placed (nodeOf node) (takeOut (keyAt self 0) (bucketOf self))) (r .bucket) ⌝ }
         ensures { λ r. ⌜ appliedCodes (r .applied) ≡ true ⌝ }
     {
@@ -470,7 +484,7 @@ impl KBucket {
         self = self.placed(node);
         Applied {
             bucket: self,
-            applied: AppliedPending::Replaced(key, evicted),
+            applied: EndedPending::Replaced(key, evicted),
         }
     }
 
@@ -486,13 +500,13 @@ impl KBucket {
         match p {
             Pending::Nothing => Applied {
                 bucket: self,
-                applied: AppliedPending::Nothing,
+                applied: EndedPending::Nothing,
             },
             Pending::Waiting(node, deadline) => {
                 if now < deadline {
                     return Applied {
                         bucket: self,
-                        applied: AppliedPending::Nothing,
+                        applied: EndedPending::Nothing,
                     };
                 }
                 self = self.with_pending(Pending::Nothing);
@@ -819,7 +833,8 @@ impl KBucket {
         }
         let r = self.apply_pending_sound(now);
         let b = r.bucket;
-        let o = r.applied;
+        let a = r.applied;
+        let o = only_placed(a);
         ApplyReply {
             bucket: b,
             answer: ApplyAnswer::Answered(o),
@@ -913,6 +928,45 @@ pub fn waits(p: Pending) -> bool
     match p {
         Pending::Nothing => false,
         Pending::Waiting(_, _) => true,
+    }
+}
+
+// Internal: the record of a pending that was placed; none of one that was not.
+pub fn only_placed(ended: EndedPending) -> EndedPending
+    requires { ⌜ appliedCodes ended ≡ true ⌝ }
+    ensures { λ r. ⌜ recordsOf r ≡ placedOf (recordsOf ended) ⌝ }
+    ensures { λ r. ⌜ appliedCodes r ≡ true ⌝ }
+{
+    match ended {
+        EndedPending::Nothing => EndedPending::Nothing,
+        EndedPending::Placed(key) => EndedPending::Placed(key),
+        EndedPending::Replaced(key, node) => EndedPending::Replaced(key, node),
+        EndedPending::Dropped(_, _) => EndedPending::Nothing,
+    }
+}
+
+// Internal: how many records there are of it.
+pub fn count_of(ended: EndedPending) -> usize
+    ensures { λ r. ⌜ (r ≡ length (recordsOf ended)) × (r ≤ 1) ⌝ }
+{
+    match ended {
+        EndedPending::Nothing => 0,
+        EndedPending::Placed(_) => 1,
+        EndedPending::Replaced(_, _) => 1,
+        EndedPending::Dropped(_, _) => 1,
+    }
+}
+
+// Internal: the kind that stands for the ending in a record.
+pub fn ending_code(ending: Ending) -> u8
+    ensures { λ r. ⌜ r ≡ endingKind (endingOf ending) ⌝ }
+{
+    match ending {
+        Ending::FirstConnected => 2,
+        Ending::BucketFilter => 3,
+        Ending::TooManyIncoming => 4,
+        Ending::Inserted => 5,
+        Ending::FirstConfirmed => 6,
     }
 }
 

@@ -10,6 +10,7 @@ use lib.ListN.{length, length-append, length-replicate}
 use borrow.Author.Tests.{le-leb, lt-leb}
 use Rattle.model.specs.Bytes.{number, bytes, splice, zeros}
 use Rattle.model.specs.Bucket as bucket
+use Rattle.model.specs.Node.{placedOf}
 use Rattle.model.specs.Bucket.{Bucket, maxNodesPerBucket}
 use Rattle.model.specs.Sizes.{timeSize, bucketSize}
 use Rattle.model.specs.Call.{ValueArgument, isOne, optional, valueOf}
@@ -95,7 +96,7 @@ module _ (bs : List ℕ) where
   insert-is k v st dr now = refl
 
   pub apply-is : (now : ℕ) → let x = bucket.applyPending (lentSettings bs) now (lentBucket bs) in
-      bucketAct (BucketCall.applyPending now) (lentSettings bs) (lentBucket bs) ≡ record { code = appliedCode (first (x .1)); carried = appliedBytes (first (x .1)); bucket = x .0 }
+      bucketAct (BucketCall.applyPending now) (lentSettings bs) (lentBucket bs) ≡ record { code = appliedCode (first (placedOf (x .1))); carried = appliedBytes (first (placedOf (x .1))); bucket = x .0 }
   unfolding bucketAct
   apply-is now = refl
 

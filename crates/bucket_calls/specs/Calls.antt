@@ -5,6 +5,7 @@ use mathlib.Core.List.{List, [], _∷_, _++_}
 use mathlib.Core.Option.{Option, none, some}
 use lib.ListN.{length}
 use lib.Dec.{eqb, leb}
+use Rattle.model.specs.Node.{placedOf}
 use Rattle.model.specs.Base.{first}
 use Rattle.model.specs.Bytes.{number, splice}
 use Rattle.model.specs.Bucket as bucket
@@ -53,7 +54,8 @@ unfoldable pub bucketAct : BucketCall → bucket.BucketSettings → bucket.Bucke
 bucketAct (BucketCall.insert k v st dr now) s b =
     let r = bucket.insert s now (nodeOf k v st dr) b in record { code = bucketInsertCode (r .0); carried = bucketInsertBytes (r .0); bucket = r .1 }
 bucketAct (BucketCall.applyPending now) s b =
-    let r = bucket.applyPending s now b in record { code = appliedCode (first (r .1)); carried = appliedBytes (first (r .1)); bucket = r .0 }
+    let r = bucket.applyPending s now b in
+    record { code = appliedCode (first (placedOf (r .1))); carried = appliedBytes (first (placedOf (r .1))); bucket = r .0 }
 bucketAct (BucketCall.updateStatus k st dr) s b =
     let r = bucket.updateStatus s (number k) (isOne st) (optional dr) b in record { code = updateCode (r .0); carried = []; bucket = r .1 }
 bucketAct (BucketCall.updateValue k v) s b =

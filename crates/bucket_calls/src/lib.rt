@@ -81,8 +81,9 @@ pub fn apply_pending(s: &mut [u8], time: u64, answer: &mut [u8]) -> u32
     let r = b.apply_pending_sound(time);
     let left = r.bucket;
     let applied = r.applied;
+    let placed = bucket::only_placed(applied);
     buckets::store_at(s, 0, left);
-    codes::put_applied(answer, applied)
+    codes::put_applied(answer, placed)
 }
 
 // Sets the status of the key's node or pending; direction 2 is none given.

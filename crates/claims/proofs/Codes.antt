@@ -4,7 +4,7 @@ use native.Mathlib.Omega.{arith}
 use mathlib.Core.Path.{_≡_, refl}
 use mathlib.Core.Bool.{Bool, true, false}
 use mathlib.Core.Option.{Option, none, some}
-use Rattle.model.specs.Node.{AppliedPending}
+use Rattle.model.specs.Node.{EndedPending}
 use Rattle.model.specs.Result.{FailureReason, BucketInsertResult, UpdateResult, InsertResult}
 use Rattle.model.specs.Table.{EntryKind, Answer}
 use Rattle.model.specs.Question.{maxCount}
@@ -59,7 +59,7 @@ entry-below EntryKind.SelfEntry = omega arith
 entry-below (EntryKind.Present u d) = omega (arith, flag-below u, flag-below d)
 entry-below (EntryKind.Pending u d) = omega (arith, flag-below u, flag-below d)
 
-applied-below : (o : Option AppliedPending) → Below (appliedCode o)
+applied-below : (o : Option EndedPending) → Below (appliedCode o)
 applied-below none = omega arith
 applied-below (some r) = omega arith
 

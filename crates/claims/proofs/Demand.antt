@@ -5,7 +5,7 @@
 use Prim.Native.Nat.{ℕ}
 use mathlib.Core.Path.{_≡_, refl, sym, ap, ap₂, _∙_, subst, subst⁻¹}
 use mathlib.Core.List.{List, _∷_, reverse}
-use Rattle.model.specs.Node.{AppliedPending}
+use Rattle.model.specs.Node.{EndedPending}
 use Rattle.model.specs.Table.{Table, Answer}
 use Rattle.model.specs.Call.{Call}
 use Rattle.model.specs.Step.{step}
@@ -34,7 +34,7 @@ pub record Followed (cs : List Call) (t : Table) (es : List Entry) (s′ : List 
 pub fed-step : (c : Call) (s : List ℕ) (t : Table) (a : Answer) (r : List ℕ) → tableOf s ≡ t → tableOf r ≡ step c t .table → a ≡ step c t .answer
     → fed c s a r ≡ record { call = c; answer = step c t .answer; records = step c t .records }
 fed-step c s t a r e f g =
-    ap₂ (λ (x : Answer) (rs : List AppliedPending). record { call = c; answer = x; records = rs }) g
+    ap₂ (λ (x : Answer) (rs : List EndedPending). record { call = c; answer = x; records = rs }) g
     (ap₂ (λ (x y : Table). behind (x .queue) (y .queue)) e f ∙ records-behind c t)
 
 pub followed : (cs : List Call) (t : Table) (s : List ℕ) (es : List Entry) (s′ : List ℕ) → All FitsCall cs → Fits t → s ≡ bytesOf t → Runs cs s es s′
@@ -55,24 +55,40 @@ followed _ t s _ s′ h f e (Runs.next {c} {cs} {a = a} {r} {out′} {es} run ru
     }
 
 -- The code's `new` answered New on whatever bytes s, then the calls cs followed.
-pub demand-3 : (k : List ℕ) (timeout m tf bf : ℕ) (cs : List Call) (s r out′ : List ℕ) (es : List Entry) (s′ : List ℕ)
+pub made : (k : List ℕ) (timeout m tf bf : ℕ) (cs : List Call) (s r out′ : List ℕ) (es : List Entry) (s′ : List ℕ)
     → All FitsCall (Call.new k timeout m tf bf ∷ cs)
     → Ran (Call.new k timeout m tf bf) s Answer.New r out′ → Runs cs r es s′
-    → StorageClaim (reverse (fed (Call.new k timeout m tf bf) s Answer.New r ∷ es)) s′
-demand-3 k timeout m tf bf cs s r out′ es s′ h run runs =
+    → Followed (Call.new k timeout m tf bf ∷ cs) (tableOf s) (fed (Call.new k timeout m tf bf) s Answer.New r ∷ es) s′
+    × (step (Call.new k timeout m tf bf) (tableOf s) .answer ≡ Answer.New)
+made k timeout m tf bf cs s r out′ es s′ h run runs =
     let c : Call = Call.new k timeout m tf bf in
     let q = equation run in
     let t : Table = tableOf s in
     let o = new-bytes k timeout m tf bf s (h .0) (sym (q .answer)) in
     let g = new-fits k timeout m tf bf t (h .0) (o .1) in
     let left : r ≡ bytesOf (step c t .table) = q .storage ∙ o .0 .storage in
-    let f = followed cs (step c t .table) r es s′ (h .1) g left runs in
-    let log : fed c s Answer.New r ∷ es ≡ entries (c ∷ cs) t =
-    ap₂ (λ (x : Entry) (xs : List Entry). x ∷ xs)
-    (fed-step c s t Answer.New r refl (ap tableOf left ∙ table-there (step c t .table) g) (q .answer ∙ o .0 .answer)) (f .log)
-    in
-    let claim : Claim (reverse (entries (c ∷ cs) t)) (tableAfter (c ∷ cs) t) = theorem k timeout m tf bf cs t (sym (q .answer ∙ o .0 .answer)) in
-    subst⁻¹ (λ (x : List Entry). StorageClaim (reverse x) s′) log
+    let f = followed cs (step c t .table) r es s′ (h .1) g left runs in (
+      record {
+        log =
+            ap₂ (λ (x : Entry) (xs : List Entry). x ∷ xs)
+            (fed-step c s t Answer.New r refl (ap tableOf left ∙ table-there (step c t .table) g) (q .answer ∙ o .0 .answer)) (f .log);
+        storage = f .storage;
+        fits = f .fits;
+      },
+      sym (q .answer ∙ o .0 .answer),
+    )
+
+pub demand-3 : (k : List ℕ) (timeout m tf bf : ℕ) (cs : List Call) (s r out′ : List ℕ) (es : List Entry) (s′ : List ℕ)
+    → All FitsCall (Call.new k timeout m tf bf ∷ cs)
+    → Ran (Call.new k timeout m tf bf) s Answer.New r out′ → Runs cs r es s′
+    → StorageClaim (reverse (fed (Call.new k timeout m tf bf) s Answer.New r ∷ es)) s′
+demand-3 k timeout m tf bf cs s r out′ es s′ h run runs =
+    let c : Call = Call.new k timeout m tf bf in
+    let t : Table = tableOf s in
+    let z = made k timeout m tf bf cs s r out′ es s′ h run runs in
+    let f = z .0 in
+    let claim : Claim (reverse (entries (c ∷ cs) t)) (tableAfter (c ∷ cs) t) = theorem k timeout m tf bf cs t (z .1) in
+    subst⁻¹ (λ (x : List Entry). StorageClaim (reverse x) s′) (f .log)
     (subst⁻¹ (λ (x : List ℕ). StorageClaim (reverse (entries (c ∷ cs) t)) x) (f .storage)
     (record {
       table = subst⁻¹ (λ (x : Table). Claim (reverse (entries (c ∷ cs) t)) x) (table-there (tableAfter (c ∷ cs) t) (f .fits)) claim;

@@ -30,7 +30,8 @@ use Rattle.codes.proofs.Thin.{few}
 use Rattle.claims.specs.Listed.{canAnswer}
 use Rattle.claims.specs.Runs.{ClosestList}
 use Rattle.claims.specs.Exports.{Called, carries, seen, hostQuestions, HostRefusal, acceptedAnswerOf, answerOf}
-use Rattle.claims.proofs.Ran.{lists, no-output}
+use Rattle.log.specs.Pending.{lists}
+use Rattle.claims.proofs.Ran.{no-output}
 use Rattle.claims.proofs.Listed.{step-listed}
 use Rattle.claims.proofs.Refusals.{accepted-answer}
 use Rattle.claims.proofs.Codes.{Below, answer-below}

@@ -3,7 +3,7 @@
 -- The log is fed what the host sees: the calls, their answers as it reads codes and bytes, and the records behind those that were there.
 use Prim.Native.Nat.{ℕ, _≤_, _<_}
 use native.Mathlib.Omega.{arith}
-use mathlib.Core.Path.{_≡_, refl, sym, ap, _∙_, subst, subst⁻¹}
+use mathlib.Core.Path.{_≡_, refl, sym, ap, ap₂, _∙_, subst, subst⁻¹}
 use mathlib.Core.Bool.{Bool, true, false, cond}
 use mathlib.Core.List.{List, [], _∷_, reverse}
 use mathlib.Core.Logic.{_⊎_, inl, inr}
@@ -28,7 +28,8 @@ use Rattle.laws.proofs.TableBytes.{table-there, formed-there}
 use Rattle.laws.proofs.TableStep.{step-bytes, new-bytes}
 use Rattle.log.specs.Log.{Entry, Log, logOf, logBucket, noSettings}
 use Rattle.log.specs.Claim.{Claim, StorageClaim, tableAfter, entries}
-use Rattle.theorem.proofs.Fold.{enter, fresh, readFrom}
+use Rattle.log.specs.Pending.{lists}
+use Rattle.theorem.proofs.Fold.{fresh}
 use Rattle.theorem.proofs.Literal.{fold-literal}
 use Rattle.theorem.proofs.Theorem.{theorem}
 use Rattle.codes.specs.Codes.{refusedCode, answerCode, answerBytes, answerSize}
@@ -36,10 +37,10 @@ use Rattle.codes.specs.Exported.{Writes, exported, exportedWith}
 use Rattle.laws.proofs.Questions.{upToFive}
 use Rattle.codes.proofs.Thin
 use Rattle.codes.proofs.Thin.{too-short}
-use Rattle.claims.specs.Runs.{behind, fed}
+use Rattle.claims.specs.Runs.{fed}
 use Rattle.claims.specs.Exports.{Called, carries, answerOf, HostRuns}
-use Rattle.claims.proofs.Ran.{lists}
 use Rattle.claims.proofs.Demand.{fed-step}
+use Rattle.claims.proofs.Heard.{heard-on, heard, log-heard}
 use Rattle.claims.proofs.Exports.{sees, refusal-read, list-read}
 use Rattle.claims.proofs.Reading.{Front, key-call-read, take-read, answer-short}
 
@@ -115,10 +116,10 @@ host-reads c t {out′ = out′} h f x =
     ap (λ (n : ℕ). answerOf c n out′) (x .code-is ∙ ap answerCode (o .answer))
     ∙ read-step c t out′ h f (λ w. subst (λ (y : Answer). Front out′ (answerBytes y)) (o .answer) (x .front w))
 
--- the calls that were not refused for want of room come to the model's steps, and the log is as if it was fed those alone
+-- the calls that were not refused for want of room come to the model's steps, and what is heard is as if the log was fed those alone
 pub record HostFollowed (t : Table) (es : List Entry) (s′ : List ℕ) : Type 0 where
   pub calls : List Call
-  pub log : (l : Log) → readFrom l es ≡ readFrom l (entries calls t)
+  pub log : heard es ≡ heard (entries calls t)
   pub storage : s′ ≡ bytesOf (tableAfter calls t)
   pub fits : Fits (tableAfter calls t)
 
@@ -126,7 +127,6 @@ pub record HostFollowed (t : Table) (es : List Entry) (s′ : List ℕ) : Type 0
 one-followed : (c : Call) (t : Table) (s : List ℕ) (code : ℕ) (r out′ : List ℕ) (es : List Entry) (s′ : List ℕ) → FitsCall c → Fits t → s ≡ bytesOf t
     → ((u : Table) → Fits u → r ≡ bytesOf u → HostFollowed u es s′) → Answered c (bytesOf t) code r out′ ⊎ Short (bytesOf t) code r
     → HostFollowed t (fed c s (answerOf c code out′) r ∷ es) s′
-unfolding enter
 one-followed c t s code r out′ es s′ h f e rest (inl x) =
     let a : Answer = answerOf c code out′ in
     let o = step-bytes c t h f in
@@ -136,10 +136,9 @@ one-followed c t s code r out′ es s′ h f e rest (inl x) =
     let k = rest (step c t .table) g left in
     record {
       calls = c ∷ k .calls;
-      log = λ l.
-          ap (λ (y : Entry). readFrom l (y ∷ es))
-          (fed-step c s t a r (ap tableOf e ∙ table-there t f) (ap tableOf left ∙ table-there (step c t .table) g) read)
-          ∙ k .log (enter c (step c t .answer) (step c t .records) l);
+      log =
+          ap₂ (λ (y : Entry) (ys : List Entry). heard-on y ys)
+          (fed-step c s t a r (ap tableOf e ∙ table-there t f) (ap tableOf left ∙ table-there (step c t .table) g) read) (k .log);
       storage = k .storage;
       fits = k .fits;
     }
@@ -148,14 +147,14 @@ one-followed c t s code r out′ es s′ h f e rest (inr x) =
     let read : answerOf c code out′ ≡ Answer.Refused (x .question) = ap (λ (n : ℕ). answerOf c n out′) (x .code-is) ∙ refusal-read c (x .question) out′ in
     record {
       calls = k .calls;
-      log = λ l. ap (λ (y : Answer). readFrom (enter c y (behind (tableOf s .queue) (tableOf r .queue)) l) es) read ∙ k .log l;
+      log = ap (λ (y : Answer). heard-on (fed c s y r) (heard es)) read ∙ k .log;
       storage = k .storage;
       fits = k .fits;
     }
 
 pub host-followed : (cs : List Call) (t : Table) (s : List ℕ) (es : List Entry) (s′ : List ℕ) → All FitsCall cs → Fits t → s ≡ bytesOf t → HostRuns cs s es s′
     → HostFollowed t es s′
-host-followed _ t s _ _ h f e HostRuns.start = record { calls = []; log = λ l. refl; storage = e; fits = f }
+host-followed _ t s _ _ h f e HostRuns.start = record { calls = []; log = refl; storage = e; fits = f }
 host-followed _ t s _ s′ h f e (HostRuns.next {c} {cs} {code = code} {r} {out′} {es} run runs) =
     one-followed c t s code r out′ es s′ (h .0) f e (λ u g left. host-followed cs u r es s′ (h .1) g left runs)
     (subst (λ (x : List ℕ). Answered c x code r out′ ⊎ Short x code r) e (told run))
@@ -183,13 +182,20 @@ new-accepted k timeout m tf bf s = go (firstFailed (allQuestions (Call.new k tim
     go (some q) e = absurd (omega (arith, e))
     go none e = refl
 
--- `kbuckets_new` returned 0 on whatever bytes s, then the calls cs followed.
-pub export-demand-3 : (k : List ℕ) (timeout m tf bf : ℕ) (cs : List Call) (answer s r out′ : List ℕ) (es : List Entry) (s′ : List ℕ)
+-- `kbuckets_new` returned 0 on whatever bytes s, and with the calls that followed the log is fed es.
+pub record HostMade (c : Call) (s : List ℕ) (es : List Entry) (s′ : List ℕ) : Type 0 where
+  pub calls : List Call
+  pub accepted : step c (tableOf s) .answer ≡ Answer.New
+  pub log : heard es ≡ heard (entries (c ∷ calls) (tableOf s))
+  pub storage : s′ ≡ bytesOf (tableAfter (c ∷ calls) (tableOf s))
+  pub fits : Fits (tableAfter (c ∷ calls) (tableOf s))
+
+pub host-made : (k : List ℕ) (timeout m tf bf : ℕ) (cs : List Call) (answer s r out′ : List ℕ) (es : List Entry) (s′ : List ℕ)
     → All FitsCall (Call.new k timeout m tf bf ∷ cs)
     → Called (Call.new k timeout m tf bf) answer s 0 r out′ → HostRuns cs r es s′
-    → StorageClaim (reverse (fed (Call.new k timeout m tf bf) s Answer.New r ∷ es)) s′
+    → HostMade (Call.new k timeout m tf bf) s (fed (Call.new k timeout m tf bf) s Answer.New r ∷ es) s′
 unfolding exported
-export-demand-3 k timeout m tf bf cs answer s r out′ es s′ h run runs =
+host-made k timeout m tf bf cs answer s r out′ es s′ h run runs =
     let c : Call = Call.new k timeout m tf bf in
     let w = sees run in
     let n : stepBytes c s .answer ≡ Answer.New = new-accepted k timeout m tf bf s (w .code) in
@@ -199,16 +205,32 @@ export-demand-3 k timeout m tf bf cs answer s r out′ es s′ h run runs =
     let left : r ≡ bytesOf (step c t .table) = w .storage ∙ o .0 .storage in
     let f = host-followed cs (step c t .table) r es s′ (h .1) g left runs in
     let a : Answer.New ≡ step c t .answer = sym n ∙ o .0 .answer in
-    let log : readFrom (fresh noSettings) (fed c s Answer.New r ∷ es) ≡ readFrom (fresh noSettings) (entries (c ∷ f .calls) t) =
-    ap (λ (y : Entry). readFrom (fresh noSettings) (y ∷ es))
-    (fed-step c s t Answer.New r refl (ap tableOf left ∙ table-there (step c t .table) g) a)
-    ∙ f .log (enter c (step c t .answer) (step c t .records) (fresh noSettings)) in
-    let claim : Claim (reverse (fed c s Answer.New r ∷ es)) (tableAfter (c ∷ f .calls) t) =
-    claim-by (reverse (entries (c ∷ f .calls) t)) (reverse (fed c s Answer.New r ∷ es)) (tableAfter (c ∷ f .calls) t)
-    (sym (fold-literal (entries (c ∷ f .calls) t)) ∙ sym log ∙ fold-literal (fed c s Answer.New r ∷ es))
-    (theorem k timeout m tf bf (f .calls) t (sym a)) in
-    subst⁻¹ (λ (x : List ℕ). StorageClaim (reverse (fed c s Answer.New r ∷ es)) x) (f .storage)
+    record {
+      calls = f .calls;
+      accepted = sym a;
+      log =
+          ap₂ (λ (y : Entry) (ys : List Entry). heard-on y ys)
+          (fed-step c s t Answer.New r refl (ap tableOf left ∙ table-there (step c t .table) g) a) (f .log);
+      storage = f .storage;
+      fits = f .fits;
+    }
+
+-- `kbuckets_new` returned 0 on whatever bytes s, then the calls cs followed.
+pub export-demand-3 : (k : List ℕ) (timeout m tf bf : ℕ) (cs : List Call) (answer s r out′ : List ℕ) (es : List Entry) (s′ : List ℕ)
+    → All FitsCall (Call.new k timeout m tf bf ∷ cs)
+    → Called (Call.new k timeout m tf bf) answer s 0 r out′ → HostRuns cs r es s′
+    → StorageClaim (reverse (fed (Call.new k timeout m tf bf) s Answer.New r ∷ es)) s′
+export-demand-3 k timeout m tf bf cs answer s r out′ es s′ h run runs =
+    let c : Call = Call.new k timeout m tf bf in
+    let t : Table = tableOf s in
+    let fs : List Entry = fed c s Answer.New r ∷ es in
+    let f : HostMade c s fs s′ = host-made k timeout m tf bf cs answer s r out′ es s′ h run runs in
+    let log : logOf (reverse (entries (c ∷ f .calls) t)) ≡ logOf (reverse fs) =
+    sym (fold-literal (entries (c ∷ f .calls) t)) ∙ log-heard (entries (c ∷ f .calls) t) fs (fresh noSettings) (sym (f .log)) ∙ fold-literal fs in
+    let claim : Claim (reverse fs) (tableAfter (c ∷ f .calls) t) =
+    claim-by (reverse (entries (c ∷ f .calls) t)) (reverse fs) (tableAfter (c ∷ f .calls) t) log (theorem k timeout m tf bf (f .calls) t (f .accepted)) in
+    subst⁻¹ (λ (x : List ℕ). StorageClaim (reverse fs) x) (f .storage)
     (record {
-      table = subst⁻¹ (λ (x : Table). Claim (reverse (fed c s Answer.New r ∷ es)) x) (table-there (tableAfter (c ∷ f .calls) t) (f .fits)) claim;
+      table = subst⁻¹ (λ (x : Table). Claim (reverse fs) x) (table-there (tableAfter (c ∷ f .calls) t) (f .fits)) claim;
       well-formed = formed-there (tableAfter (c ∷ f .calls) t) (f .fits);
     })

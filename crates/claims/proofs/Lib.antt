@@ -1,5 +1,5 @@
--- Demands 1 and 3 for the code, and the answers that each call can give; the same for a host, on codes and bytes. Every call of the code is
--- such a run: EntryPoints, HostFunctions. The promise of a member's own old record, for both.
+-- Demands 1 and 3 for the code, the answers that each call can give, and what became of pendings; the same for a host, on codes and bytes.
+-- Every call of the code is such a run: EntryPoints, HostFunctions. The promise of a member's own old record, for both.
 pub mod Returns
 pub mod EntryPoints
 pub mod HostFunctions
@@ -8,9 +8,12 @@ pub mod Records
 pub mod Listed
 pub mod Refusals
 pub mod Demand
+pub mod Pending
 pub mod Listings
 pub mod Codes
 pub mod Exports
 pub mod Reading
+pub mod Heard
 pub mod HostDemand
 pub mod OwnRecord
+pub mod HostPending

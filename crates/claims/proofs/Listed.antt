@@ -6,7 +6,7 @@ use mathlib.Core.List.{List, [], _∷_}
 use mathlib.Core.Option.{Option, none, some}
 use Rattle.model.specs.Base.{same, isSome}
 use Rattle.model.specs.Bytes.{number}
-use Rattle.model.specs.Node.{Node, PendingNode, AppliedPending, withStatus, withValue, sameStatus, promotes}
+use Rattle.model.specs.Node.{Node, PendingNode, EndedPending, withStatus, withValue, sameStatus, promotes}
 use Rattle.model.specs.Value.{Value, sameValue}
 use Rattle.model.specs.Result.{FailureReason, BucketInsertResult, UpdateResult, InsertResult, isFailed}
 use Rattle.model.specs.Bucket.{Bucket, BucketSettings, holds, get, failsBucketFilter, isMaxIncoming, takeOut, insert, reinsert, takenOut, statusResult, updateIfPending, updateStatusOf, updateStatus, updateValueOf, updateValue}
@@ -270,7 +270,7 @@ on-key : (c : KeyCall) (k : List ℕ) (t : Table) (o : Option ℕ) → keyArgume
 on-key c k t none h = own-listed c h
 on-key c k t (some i) h = effect-listed c k t i (t .buckets i) h
 
-taken : (t : Table) (q : List AppliedPending) → among (kindsOf Call.takeAppliedPending) (takeOldest t q .answer) ≡ true
+taken : (t : Table) (q : List EndedPending) → among (kindsOf Call.takeAppliedPending) (takeOldest t q .answer) ≡ true
 taken t [] = refl
 taken t (a ∷ q) = refl
 

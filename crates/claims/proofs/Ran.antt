@@ -1,12 +1,12 @@
 -- Each contract is the equation with `stepBytes`: what a call of the code answers and leaves is what the model says.
 use Prim.Native.Nat.{ℕ}
 use mathlib.Core.Path.{_≡_, refl, sym, ap₂}
-use mathlib.Core.Bool.{Bool, true, false}
+use mathlib.Core.Bool.{false}
 use mathlib.Core.List.{List, [], _∷_}
 use mathlib.Core.Option.{Option, none, some}
 use Rattle.model.specs.Base.{joined}
 use Rattle.model.specs.Bytes.{number, splice}
-use Rattle.model.specs.Node.{AppliedPending}
+use Rattle.model.specs.Node.{EndedPending}
 use Rattle.model.specs.Bucket.{Bucket}
 use Rattle.model.specs.Table.{Table, Answer, Effect, indexIn}
 use Rattle.model.specs.Call.{Call}
@@ -16,17 +16,12 @@ use Rattle.model.specs.Step.{onKey, takeOldest, act}
 use Rattle.model.specs.Layout.{tableOf}
 use Rattle.model.specs.StepBytes.{allQuestions, outputOf, written, unlessRefusedBytes, stepBytes}
 use Rattle.laws.proofs.Tests.{clash}
+use Rattle.log.specs.Pending.{lists}
 use Rattle.on_key.specs.Answers.{Answers}
 use Rattle.items.specs.Lists.{Lists}
 use Rattle.claims.specs.Ran.{Ran}
 
 -- a call that is no listing has no output
-
-abbrev pub lists : Call → Bool
-lists (Call.new k timeout m tf bf) = false
-lists (Call.onKey k c) = false
-lists (Call.list l n now out) = true
-lists Call.takeAppliedPending = false
 
 no-items : (c : Call) (t : Table) → lists c ≡ false → (act c t .items ≡ []) × (outputOf c ≡ [])
 unfolding act
@@ -39,7 +34,7 @@ no-items (Call.onKey k c) t h = (on-key _ _ (indexIn t (number k)), refl)
 no-items (Call.list l n now out) t h = clash refl h
 no-items Call.takeAppliedPending t h = (taken (t .queue), refl)
   where
-    taken : (q : List AppliedPending) → takeOldest t q .items ≡ []
+    taken : (q : List EndedPending) → takeOldest t q .items ≡ []
     taken [] = refl
     taken (a ∷ q) = refl
 

@@ -9,7 +9,7 @@ use mathlib.Core.Option.{Option, none, some}
 use lib.ListN.{length}
 use lib.Dec.{leb}
 use Rattle.model.specs.Bytes.{number, bytes, part}
-use Rattle.model.specs.Node.{Node, PendingNode, AppliedPending}
+use Rattle.model.specs.Node.{Node, PendingNode, EndedPending}
 use Rattle.model.specs.Result.{FailureReason, BucketInsertResult, UpdateResult, InsertResult, isFailed}
 use Rattle.model.specs.Bucket.{Bucket, BucketSettings, holds, failsBucketFilter, isMaxIncoming, isFull, insertFull, insert, updateStatus, updateValue}
 use Rattle.model.specs.Table.{Table, EntryKind, Answer, failsTableFilter, insertUpdates, inserts, insertOrUpdateIn, kindOf}
@@ -23,7 +23,7 @@ use Rattle.laws.proofs.All.{all-left}
 use Rattle.laws.proofs.Bytes.{length-bytes, number-there}
 use Rattle.laws.proofs.NodeBytes.{length-record, record-there}
 use Rattle.laws.proofs.KeepEach.{applyPending-each}
-use Rattle.theorem.proofs.Call.{updateNode-answers}
+use Rattle.theorem.proofs.Call.{updateNode-answers, insertUpdates-answers}
 use Rattle.codes.specs.Codes.{refusedCode, updateCode, insertCode, bucketInsertCode, entryCode, answerCode, insertBytes, bucketInsertBytes, appliedBytes, answerBytes, answerSize}
 use Rattle.claims.specs.Exports
 use Rattle.claims.specs.Exports.{updateOf, insertOf, bucketInsertOf, keyAt, keyCarries, answerOf}
@@ -140,19 +140,7 @@ inserts-fit BucketInsertResult.Full h = tt
 inserts-fit BucketInsertResult.NodeExists h = tt
 
 updates-fit : (v r : UpdateResult) → FitsInsert (insertUpdates v r)
-updates-fit UpdateResult.Updated UpdateResult.Updated = tt
-updates-fit UpdateResult.Updated UpdateResult.UpdatedAndPromoted = tt
-updates-fit UpdateResult.Updated UpdateResult.UpdatedPending = tt
-updates-fit UpdateResult.Updated UpdateResult.NotModified = tt
-updates-fit UpdateResult.Updated (UpdateResult.Failed x) = tt
-updates-fit UpdateResult.NotModified UpdateResult.Updated = tt
-updates-fit UpdateResult.NotModified UpdateResult.UpdatedAndPromoted = tt
-updates-fit UpdateResult.NotModified UpdateResult.UpdatedPending = tt
-updates-fit UpdateResult.NotModified UpdateResult.NotModified = tt
-updates-fit UpdateResult.NotModified (UpdateResult.Failed x) = tt
-updates-fit UpdateResult.UpdatedPending r = tt
-updates-fit UpdateResult.UpdatedAndPromoted r = tt
-updates-fit (UpdateResult.Failed x) r = tt
+updates-fit v r = insertUpdates-answers FitsInsert (λ _. tt) tt (λ _. tt) tt (λ _. tt) v r
 
 -- what a host reads of an answer a, where the lent bytes begin with those that it carries
 abbrev Reads : List ℕ → KeyCall → List ℕ → Answer → Type 0
@@ -203,11 +191,11 @@ pub key-call-read : (c : KeyCall) (k : List ℕ) (t : Table) (bs : List ℕ) →
 key-call-read c k t bs h none f = own-read c k bs
 key-call-read c k t bs h (some i) f = effect-read c k t i (t .buckets i) bs (h i) f
 
-pub take-read : (t : Table) (bs : List ℕ) (q : List AppliedPending) → All FitsRecord q → Front bs (answerBytes (takeOldest t q .answer))
+pub take-read : (t : Table) (bs : List ℕ) (q : List EndedPending) → All FitsRecord q → Front bs (answerBytes (takeOldest t q .answer))
     → answerOf Call.takeAppliedPending (answerCode (takeOldest t q .answer)) bs ≡ takeOldest t q .answer
 take-read t bs [] h f = refl
 take-read t bs (a ∷ q) h f =
-    ap (λ (x : AppliedPending). Answer.TakeAppliedPending (some x))
+    ap (λ (x : EndedPending). Answer.TakeAppliedPending (some x))
     (ap recordIn (front-at bs (recordBytes a) recordSize (length-record a) f) ∙ record-there a (h .0))
 
 -- the bytes that an answer carries have room in `answerSize`
@@ -228,7 +216,7 @@ bucket-insert-short BucketInsertResult.TooManyIncoming = omega arith
 bucket-insert-short BucketInsertResult.Full = omega arith
 bucket-insert-short BucketInsertResult.NodeExists = omega arith
 
-applied-short : (o : Option AppliedPending) → length (appliedBytes o) ≤ answerSize
+applied-short : (o : Option EndedPending) → length (appliedBytes o) ≤ answerSize
 applied-short none = omega arith
 applied-short (some r) = let e = length-record r in omega arith
 

@@ -5,7 +5,7 @@ use mathlib.Core.List.{List, [], _∷_}
 use mathlib.Core.Option.{Option, none, some}
 use lib.Seq.{drop-length, drop-append-seam}
 use Rattle.model.specs.Bytes.{number}
-use Rattle.model.specs.Node.{AppliedPending}
+use Rattle.model.specs.Node.{EndedPending}
 use Rattle.model.specs.Bucket.{Bucket}
 use Rattle.model.specs.Table.{Table, Answer, Effect, indexIn}
 use Rattle.model.specs.Call.{Call}
@@ -19,15 +19,15 @@ on-key : (t : Table) (self : Answer) (f : ℕ → Bucket → Effect) (o : Option
 on-key t self f none = drop-length (t .queue)
 on-key t self f (some i) = drop-append-seam (t .queue) (f i (t .buckets i) .records)
 
-nothing-behind : (q : List AppliedPending) → behind q [] ≡ []
+nothing-behind : (q : List EndedPending) → behind q [] ≡ []
 nothing-behind [] = refl
 nothing-behind (a ∷ q) = refl
 
-one-less : (a : AppliedPending) (q : List AppliedPending) → behind (a ∷ q) q ≡ []
+one-less : (a : EndedPending) (q : List EndedPending) → behind (a ∷ q) q ≡ []
 one-less a [] = refl
 one-less a (b ∷ q) = one-less b q
 
-taken : (t : Table) (q : List AppliedPending) → t .queue ≡ q → behind q (takeOldest t q .table .queue) ≡ takeOldest t q .records
+taken : (t : Table) (q : List EndedPending) → t .queue ≡ q → behind q (takeOldest t q .table .queue) ≡ takeOldest t q .records
 taken t [] e = ap (behind []) e
 taken t (a ∷ q) e = one-less a q
 

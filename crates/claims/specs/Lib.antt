@@ -1,5 +1,5 @@
--- The answers that each call can give; what demands 1 and 3 are stated with, for the code and for a host; that every call returns; the promise
--- of a member's own old record.
+-- The answers that each call can give; what demands 1 and 3, and what became of pendings, are stated with, for the code and for a host; that
+-- every call returns; the promise of a member's own old record.
 pub mod Listed
 pub mod Ran
 pub mod Runs

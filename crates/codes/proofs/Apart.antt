@@ -8,7 +8,7 @@ use mathlib.Core.List.{List, [], _∷_, map}
 use mathlib.Core.Option.{none, some}
 use lib.Dec.{eqb, ltb}
 use Rattle.model.specs.Base.{every}
-use Rattle.model.specs.Node.{AppliedPending}
+use Rattle.model.specs.Node.{EndedPending}
 use Rattle.model.specs.Result.{FailureReason, BucketInsertResult, UpdateResult, InsertResult}
 use Rattle.model.specs.Table.{EntryKind}
 use Rattle.model.specs.Question.{maxCount}
@@ -43,7 +43,7 @@ kinds =
     ∷ EntryKind.Present true true ∷ EntryKind.Pending false false ∷ EntryKind.Pending false true ∷ EntryKind.Pending true false
     ∷ EntryKind.Pending true true ∷ []
 
-pub results-apart : (k : ℕ) (r : AppliedPending)
+pub results-apart : (k : ℕ) (r : EndedPending)
     → (apart (map updateCode updates) ≡ true) × (apart (map insertCode (inserts k)) ≡ true) × (apart (map bucketInsertCode (bucketInserts k)) ≡ true)
     × (apart (map entryCode kinds) ≡ true) × (apart (map appliedCode (none ∷ some r ∷ [])) ≡ true)
 results-apart k r = (refl, refl, refl, refl, refl)

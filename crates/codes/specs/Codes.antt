@@ -4,7 +4,7 @@ use mathlib.Core.Bool.{Bool}
 use mathlib.Core.List.{List, []}
 use mathlib.Core.Option.{Option, none, some}
 use Rattle.model.specs.Bytes.{bytes}
-use Rattle.model.specs.Node.{AppliedPending}
+use Rattle.model.specs.Node.{EndedPending}
 use Rattle.model.specs.Result.{FailureReason, BucketInsertResult, UpdateResult, InsertResult}
 use Rattle.model.specs.Table.{EntryKind, Answer}
 use Rattle.model.specs.Sizes.{keySize, recordSize}
@@ -57,7 +57,7 @@ entryCode (EntryKind.Present u d) = 16 + statusCode u d
 entryCode (EntryKind.Pending u d) = 32 + statusCode u d
 
 -- none, or a record
-abbrev pub appliedCode : Option AppliedPending → ℕ
+abbrev pub appliedCode : Option EndedPending → ℕ
 appliedCode none = 0
 appliedCode (some r) = 1
 
@@ -91,7 +91,7 @@ bucketInsertBytes BucketInsertResult.TooManyIncoming = []
 bucketInsertBytes BucketInsertResult.Full = []
 bucketInsertBytes BucketInsertResult.NodeExists = []
 
-abbrev pub appliedBytes : Option AppliedPending → List ℕ
+abbrev pub appliedBytes : Option EndedPending → List ℕ
 appliedBytes none = []
 appliedBytes (some r) = recordBytes r
 

@@ -1,19 +1,18 @@
 // Internal: the numbers that the exports return, and the bytes that an answer carries, put at the front of a lent answer.
 ghost use mathlib.Core.Path.{_≡_};
 ghost use mathlib.Core.Bool.{true};
-ghost use mathlib.Core.Option.{none};
 ghost use Prim.Native.Nat.{_≤_};
 ghost use lib.ListN.{length};
 ghost use Rattle.model.specs.Base.{first};
 ghost use Rattle.model.specs.Bytes.{splice};
-ghost use Rattle.model.specs.Layout.{flagByte, recordBytes};
+ghost use Rattle.model.specs.Layout.{flagByte};
 ghost use Rattle.key.specs.Key.{num};
 ghost use Rattle.bucket.specs.Calls.{insertResultOf, failureReasonOf, updateResultOf, recordsOf, appliedCodes};
 ghost use Rattle.codes.specs.Codes.{refusedCode, failedCode, updateCode, bucketInsertCode, bucketInsertBytes, appliedCode, appliedBytes, answerSize};
 
 pub mod answers;
 
-use bucket::AppliedPending;
+use bucket::EndedPending;
 use bucket::FailureReason;
 use bucket::InsertResult;
 use bucket::UpdateResult;
@@ -87,31 +86,13 @@ pub fn put_bucket_insert(answer: &mut [u8], result: InsertResult) -> u32
     }
 }
 
-// A record without an evicted node.
-fn put_inserted(answer: &mut [u8], key: Key)
-    requires { ⌜ answerSize ≤ length (now answer) ⌝ }
-    ensures { λ _. ⌜ now (answer .exit) ≡ splice (now (answer .entry)) 0 (recordBytes (record { inserted = num key; evicted = none })) ⌝ }
-{
-    key.store(answer, 0);
-    words::put_zeros(answer, Layout::KEY, 1 + Layout::NODE);
-}
-
 // Internal: 1 for a record, which is put in the answer, 0 for none.
-pub fn put_applied(answer: &mut [u8], applied: AppliedPending) -> u32
+pub fn put_applied(answer: &mut [u8], applied: EndedPending) -> u32
     requires { ⌜ answerSize ≤ length (now answer) ⌝ }
     requires { ⌜ appliedCodes applied ≡ true ⌝ }
     ensures { λ r. ⌜ r ≡ appliedCode (first (recordsOf applied)) ⌝ }
     ensures { λ _. ⌜ now (answer .exit) ≡ splice (now (answer .entry)) 0 (appliedBytes (first (recordsOf applied))) ⌝ }
 {
-    match applied {
-        AppliedPending::Nothing => 0,
-        AppliedPending::Inserted(key) => {
-            put_inserted(answer, key);
-            1
-        }
-        AppliedPending::Replaced(key, node) => {
-            header::store_replaced(answer, 0, key, node);
-            1
-        }
-    }
+    header::store_record(answer, 0, applied);
+    bucket::count_of(applied) as u32
 }

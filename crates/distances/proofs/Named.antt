@@ -1,5 +1,5 @@
 -- The buckets that the distances name, and what a bucket gives that was named before.
-use mathlib.Core.Path.{_≡_, refl, sym, ap, _∙_}
+use mathlib.Core.Path.{_≡_, refl, sym, ap, _∙_, subst}
 use mathlib.Core.Bool.{Bool, true, false, cond, not, Bool·not-not}
 use mathlib.Core.List.{List, [], _∷_, _++_}
 use mathlib.Core.Option.{Option, none, some}
@@ -13,7 +13,7 @@ use borrow.Author.Tests.{eq-eqb, ne-eqb, eqb-true, eqb-false, le-leb, lt-leb}
 use Rattle.model.specs.Base.{same, every, joined, allBelow}
 use Rattle.model.specs.Bytes.{Bytes}
 use Rattle.model.specs.Layout.{tableOf}
-use Rattle.model.specs.Node.{AppliedPending}
+use Rattle.model.specs.Node.{EndedPending, placedOf}
 use Rattle.model.specs.Bucket.{Bucket, numEntries, applyPending}
 use Rattle.model.specs.Table.{Table}
 use Rattle.model.specs.Listing.{applyAll, applied, indexAt, indices, bucketsAt}
@@ -66,23 +66,31 @@ module _ (ds : List ℕ) (p d j : ℕ) where
 
 -- what a bucket gives
 
-pub held-none : (now : ℕ) (t : Table) (o : Option ℕ) → length (recordsAt now t o) ≡ 0 → heldAt now t o ≡ 0
+none-placed : (rs : List EndedPending) → length rs ≡ 0 → length (placedOf rs) ≡ 0
+none-placed [] e = refl
+none-placed (r ∷ rs) e = absurd (never e)
+  where
+    never : length (r ∷ rs) ≡ 0 → ⊥
+    never z = omega arith
+
+pub held-none : (now : ℕ) (t : Table) (o : Option ℕ) → length (placedOf (recordsAt now t o)) ≡ 0 → heldAt now t o ≡ 0
 held-none now t none e = refl
 held-none now t (some i) e = rw e
 
 module _ (s : List ℕ) (now i : ℕ) (h : Bytes s) (r : Ready s i) {g : Given} (y : GivenAt now (tableOf s) i g) where
-  pub gives-nothing : g .records ≡ 0 → {z : Given} → z .records ≡ 0 → z .count ≡ 0 → Yields now (tableOf s) (some i) z
-  gives-nothing e {z} a b =
-      let n : length (recordsAt now (tableOf s) (some i)) ≡ 0 = sym (y .records) ∙ e in
-      record { records = a ∙ sym n; held = b ∙ sym (held-none now (tableOf s) (some i) n); one = omega arith; few = omega arith }
+  pub gives-nothing : g .placed ≡ 0 → {z : Given} → z .records ≡ g .records → z .placed ≡ 0 → z .count ≡ 0 → Yields now (tableOf s) (some i) z
+  gives-nothing e {z} a b c =
+      let n : length (placedOf (recordsAt now (tableOf s) (some i))) ≡ 0 = sym (y .placed) ∙ e in
+      record { records = a ∙ y .records; placed = b ∙ sym n; held = c ∙ sym (held-none now (tableOf s) (some i) n); one = omega (arith, y .one); few = omega arith }
 
-  pub gives-record : (g .records ≡ 0 → ⊥) → Yields now (tableOf s) (some i) g
+  pub gives-record : (g .placed ≡ 0 → ⊥) → Yields now (tableOf s) (some i) g
   gives-record n =
       let t : Table = tableOf s in
       let w = applyPending-well-formed (t .settings) i now (t .buckets i) (well-formed-at s h (r .size) i (r .below) (r .bucket)) .formed in
       record {
         records = y .records;
-        held = y .count ∙ ap (λ (b : Bool). cond (not b) (numEntries (applied now t i)) 0) (sym (ne-eqb (length (recordsAt now t (some i))) 0 (λ e. n (y .records ∙ e))));
+        placed = y .placed;
+        held = y .count ∙ ap (λ (b : Bool). cond (not b) (numEntries (applied now t i)) 0) (sym (ne-eqb (length (placedOf (recordsAt now t (some i)))) 0 (λ e. n (y .placed ∙ e))));
         one = y .one;
         few = omega (arith, y .count, w .at-most);
       }
@@ -90,8 +98,8 @@ module _ (s : List ℕ) (now i : ℕ) (h : Bytes s) (r : Ready s i) {g : Given} 
 pub yields-by : {now : ℕ} {t : Table} {o o′ : Option ℕ} {g : Given} → o ≡ o′ → Yields now t o′ g → Yields now t o g
 yields-by e y = rw e y
 
-pub yields-none : (now : ℕ) (t : Table) (d : ℕ) (g : Given) → g .records ≡ 0 → g .count ≡ 0 → indexAt d ≡ none → Yields now t (indexAt d) g
-yields-none now t d g a b e = yields-by e (record { records = a; held = b; one = omega arith; few = omega arith })
+pub yields-none : (now : ℕ) (t : Table) (d : ℕ) (g : Given) → g .records ≡ 0 → g .placed ≡ 0 → g .count ≡ 0 → indexAt d ≡ none → Yields now t (indexAt d) g
+yields-none now t d g a p b e = yields-by e (record { records = a; placed = p; held = b; one = omega arith; few = omega arith })
 
 -- a bucket is named before where its distance stands before
 
@@ -147,7 +155,7 @@ module _ (now : ℕ) (ds : List ℕ) (t : Table) where
     abbrev u : Table
     u = tableAt now ds p t
 
-    abbrev given : Table → Bucket × List AppliedPending
+    abbrev given : Table → Bucket × List EndedPending
     given x = applyPending (x .settings .bucket) now (x .buckets i)
 
     bucket-is : u .buckets i ≡ cond (not (standsBefore ds p d)) (t .buckets i) (applied now t i)
@@ -166,23 +174,24 @@ module _ (now : ℕ) (ds : List ℕ) (t : Table) where
     given-again : standsBefore ds p d ≡ true → given u ≡ (applied now t i, [])
     given-again f = rw (settings-is, bucket-is, f) (apply-again (t .settings .bucket) now (t .buckets i))
 
-    moved : {a b : Bucket × List AppliedPending} {g : Given} → a ≡ b → g .records ≡ length (a .1) → g .count ≡ cond (not (eqb (length (a .1)) 0)) (numEntries (a .0)) 0
-        → (g .records ≡ length (b .1)) × (g .count ≡ cond (not (eqb (length (b .1)) 0)) (numEntries (b .0)) 0)
-    moved q x y =
-        (x ∙ ap (λ (r : Bucket × List AppliedPending). length (r .1)) q, y ∙ ap (λ (r : Bucket × List AppliedPending). cond (not (eqb (length (r .1)) 0)) (numEntries (r .0)) 0) q)
+    -- what the bucket gives, where applying gives a
+    abbrev Gives : Given → Bucket × List EndedPending → Type 0
+    Gives g a = (g .records ≡ length (a .1)) × ((g .placed ≡ length (placedOf (a .1))) × (g .count ≡ cond (not (eqb (length (placedOf (a .1))) 0)) (numEntries (a .0)) 0))
 
     pub yields-first : {g : Given} → Yields now t (some i) g → standsBefore ds p d ≡ false → Yields now u (some i) g
     yields-first {g} y f =
-        let m = moved {g = g} (sym (given-first f)) (y .records) (y .held) in
-        record { records = m .0; held = m .1; one = y .one; few = y .few }
+        let m : Gives g (given u) = subst (Gives g) (sym (given-first f)) (y .records, (y .placed, y .held)) in
+        record { records = m .0; placed = m .1 .0; held = m .1 .1; one = y .one; few = y .few }
 
-    pub yields-again : (g : Given) → g .records ≡ 0 → g .count ≡ 0 → standsBefore ds p d ≡ true → Yields now u (some i) g
-    yields-again g r c f =
-        let m = moved {a = (applied now t i, [])} {g = g} (sym (given-again f)) r c in
-        record { records = m .0; held = m .1; one = omega arith; few = omega arith }
+    pub yields-again : (g : Given) → g .records ≡ 0 → g .placed ≡ 0 → g .count ≡ 0 → standsBefore ds p d ≡ true → Yields now u (some i) g
+    yields-again g r q c f =
+        let m : Gives g (given u) = subst (Gives g) (sym (given-again f)) (r, (q, c)) in
+        record { records = m .0; placed = m .1 .0; held = m .1 .1; one = omega arith; few = omega arith }
 
     pub yields-nothing : {g : Given} → Yields now t (some i) g → g .records ≡ 0 → Yields now u (some i) g
     yields-nothing {g} y r =
         split (standsBefore ds p d)
-        (λ f. yields-again g r (y .held ∙ ap (λ (k : ℕ). cond (not (eqb k 0)) (numEntries (applied now t i)) 0) (sym (y .records) ∙ r)) f)
+        (λ f.
+        let z : length (placedOf (recordsAt now t (some i))) ≡ 0 = none-placed (recordsAt now t (some i)) (sym (y .records) ∙ r) in
+        yields-again g r (y .placed ∙ z) (y .held ∙ held-none now t (some i) z) f)
         (λ f. yields-first y f)

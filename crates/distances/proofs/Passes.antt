@@ -13,7 +13,7 @@ use lib.Seq.{drop-cons, drop-length}
 use borrow.Author.Tests.{eqb-true, leb-false}
 use Rattle.model.specs.Base.{joined}
 use Rattle.model.specs.Bytes.{Bytes}
-use Rattle.model.specs.Node.{AppliedPending}
+use Rattle.model.specs.Node.{EndedPending}
 use Rattle.model.specs.Table.{Table, maxRecords}
 use Rattle.model.specs.Sizes.{storageSize}
 use Rattle.model.specs.Listing.{applyAll, appliedPass, indexAt, indices, bucketsAt}
@@ -37,7 +37,7 @@ module _ (now n seen d : ℕ) (ds : List ℕ) (t : Table) where
   abbrev stops : Option ℕ → Bool
   stops o = yields now t o && leb n (seen + heldAt now t o)
 
-  abbrev rest : Option ℕ → Table × List AppliedPending
+  abbrev rest : Option ℕ → Table × List EndedPending
   rest o = distancePass now n (seen + heldAt now t o) ds (nextTable now t o)
 
   pass-next : distancePass now n seen (d ∷ ds) t
@@ -62,16 +62,16 @@ module _ (now n seen d : ℕ) (ds : List ℕ) (t : Table) where
   pass-goes e = pass-next ∙ rw e
 
 -- the code's test is the pass's
-test-is : (now n seen : ℕ) (t : Table) (o : Option ℕ) {g : Given} (b : Bool) → Yields now t o g → (not (eqb (g .records) 0) && leb n (seen + g .count)) ≡ b
+test-is : (now n seen : ℕ) (t : Table) (o : Option ℕ) {g : Given} (b : Bool) → Yields now t o g → (not (eqb (g .placed) 0) && leb n (seen + g .count)) ≡ b
     → (yields now t o && leb n (seen + heldAt now t o)) ≡ b
-test-is now n seen t o b y e = ap (λ (k : ℕ). not (eqb k 0) && leb n (seen + heldAt now t o)) (sym (y .records)) ∙ rw (← y .held) e
+test-is now n seen t o b y e = ap (λ (k : ℕ). not (eqb k 0) && leb n (seen + heldAt now t o)) (sym (y .placed)) ∙ rw (← y .held) e
 
 -- what is counted so far stays low
-low-next : (now n seen : ℕ) (t : Table) (o : Option ℕ) {g : Given} → Yields now t o g → n ≤ 4096 → seen ≤ 4096 → (not (eqb (g .records) 0) && leb n (seen + g .count)) ≡ false
+low-next : (now n seen : ℕ) (t : Table) (o : Option ℕ) {g : Given} → Yields now t o g → n ≤ 4096 → seen ≤ 4096 → (not (eqb (g .placed) 0) && leb n (seen + g .count)) ≡ false
     → seen + g .count ≤ 4096
 low-next now n seen t o {g} y m l e =
-    split (eqb (g .records) 0)
-    (λ f. let z : g .count ≡ 0 = y .held ∙ held-none now t o (sym (y .records) ∙ eqb-true (g .records) 0 f) in omega arith)
+    split (eqb (g .placed) 0)
+    (λ f. let z : g .count ≡ 0 = y .held ∙ held-none now t o (sym (y .placed) ∙ eqb-true (g .placed) 0 f) in omega arith)
     (λ f. let z : seen + g .count < n = leb-false n (seen + g .count) (rw f at e) in omega arith)
 
 -- the dry run
@@ -111,16 +111,16 @@ module _ (now n : ℕ) (ds : List ℕ) (t : Table) where
       there : length (distancePass now n seen (drop p ds) u .1) ≡ length (distancePass now n seen (d ∷ drop (suc p) ds) u .1)
       there = ap (λ (l : List ℕ). length (distancePass now n seen l u .1)) (drop-cons ds p 0 h)
 
-      pub counting-stops : (not (eqb (g .records) 0) && leb n (seen + g .count)) ≡ true → records + g .records ≡ length (distancePass now n 0 ds t .1)
+      pub counting-stops : (not (eqb (g .placed) 0) && leb n (seen + g .count)) ≡ true → records + g .records ≡ length (distancePass now n 0 ds t .1)
       counting-stops e =
-          let q = ap (λ (r : Table × List AppliedPending). length (r .1)) (pass-stops now n seen d (drop (suc p) ds) u (test-is now n seen u (indexAt d) true y e)) in
+          let q = ap (λ (r : Table × List EndedPending). length (r .1)) (pass-stops now n seen d (drop (suc p) ds) u (test-is now n seen u (indexAt d) true y e)) in
           let a = ap length (append-nil (recordsAt now u (indexAt d))) in
           omega (arith, w .total, there, y .records)
 
-      pub counting-goes : n ≤ 4096 → (not (eqb (g .records) 0) && leb n (seen + g .count)) ≡ false → Counting now n ds t (records + g .records) (seen + g .count) (p + 1)
+      pub counting-goes : n ≤ 4096 → (not (eqb (g .placed) 0) && leb n (seen + g .count)) ≡ false → Counting now n ds t (records + g .records) (seen + g .count) (p + 1)
       counting-goes m e =
           let b = test-is now n seen u (indexAt d) false y e in
-          let q = ap (λ (r : Table × List AppliedPending). length (r .1)) (pass-goes now n seen d (drop (suc p) ds) u b) in
+          let q = ap (λ (r : Table × List EndedPending). length (r .1)) (pass-goes now n seen d (drop (suc p) ds) u b) in
           let a = length-append (recordsAt now u (indexAt d)) (distancePass now n (seen + heldAt now u (indexAt d)) (drop (suc p) ds) (nextTable now u (indexAt d)) .1) in
           record {
             within = omega arith;
@@ -186,11 +186,11 @@ module _ (now n : ℕ) (ds : List ℕ) (t : Table) where
       here = ap (λ (l : List ℕ). distancePass now n seen l (tableOf s) .0) (sym (drop-cons ds p 0 h)) ∙ w .leads
 
       stopped : (yields now (tableOf s) o && leb n (seen + heldAt now (tableOf s) o)) ≡ true → left ≡ distancePass now n 0 ds t .0
-      stopped e = ap (λ (r : Table × List AppliedPending). r .0) (sym (pass-stops now n seen (getD ds p 0) (drop (suc p) ds) (tableOf s) e)) ∙ here
+      stopped e = ap (λ (r : Table × List EndedPending). r .0) (sym (pass-stops now n seen (getD ds p 0) (drop (suc p) ds) (tableOf s) e)) ∙ here
 
       gone : (yields now (tableOf s) o && leb n (seen + heldAt now (tableOf s) o)) ≡ false
           → distancePass now n (seen + heldAt now (tableOf s) o) (drop (suc p) ds) left .0 ≡ distancePass now n 0 ds t .0
-      gone e = ap (λ (r : Table × List AppliedPending). r .0) (sym (pass-goes now n seen (getD ds p 0) (drop (suc p) ds) (tableOf s) e)) ∙ here
+      gone e = ap (λ (r : Table × List EndedPending). r .0) (sym (pass-goes now n seen (getD ds p 0) (drop (suc p) ds) (tableOf s) e)) ∙ here
 
       pub passing-room : length (left .queue) ≤ maxRecords
       passing-room =
@@ -202,10 +202,10 @@ module _ (now n : ℕ) (ds : List ℕ) (t : Table) where
           omega arith)
 
       module _ {g : Given} (y : Yields now (tableOf s) o g) (s′ : List ℕ) (e : s′ ≡ bytesOf left) where
-        pub passing-stops : (not (eqb (g .records) 0) && leb n (seen + g .count)) ≡ true → s′ ≡ bytesOf (distancePass now n 0 ds t .0)
+        pub passing-stops : (not (eqb (g .placed) 0) && leb n (seen + g .count)) ≡ true → s′ ≡ bytesOf (distancePass now n 0 ds t .0)
         passing-stops b = e ∙ ap bytesOf (stopped (test-is now n seen (tableOf s) o true y b))
 
-        pub passing-goes : n ≤ 4096 → (not (eqb (g .records) 0) && leb n (seen + g .count)) ≡ false → Passing now n ds t s′ (seen + g .count) (p + 1)
+        pub passing-goes : n ≤ 4096 → (not (eqb (g .placed) 0) && leb n (seen + g .count)) ≡ false → Passing now n ds t s′ (seen + g .count) (p + 1)
         passing-goes m b =
             let f : Fits left = next-fits s now o (w .bytes) (w .size) (w .formed) passing-room in
             let there : tableOf s′ ≡ left = ap tableOf e ∙ table-there left f in
@@ -224,9 +224,9 @@ module _ (now n : ℕ) (ds : List ℕ) (t : Table) where
 pub room-at : (now : ℕ) (t : Table) (d i : ℕ) → indexAt d ≡ some i → length (nextTable now t (indexAt d) .queue) ≤ maxRecords → length (visitOne now i t .queue) ≤ maxRecords
 room-at now t d i e h = rw e at h
 
-pub one-nothing : (s : List ℕ) (now d : ℕ) → Bytes s → Holds s → indexAt d ≡ none → {g : Given} → g .records ≡ 0 → g .count ≡ 0
+pub one-nothing : (s : List ℕ) (now d : ℕ) → Bytes s → Holds s → indexAt d ≡ none → {g : Given} → g .records ≡ 0 → g .placed ≡ 0 → g .count ≡ 0
     → Yields now (tableOf s) (indexAt d) g × (s ≡ bytesOf (nextTable now (tableOf s) (indexAt d)))
-one-nothing s now d h f e {g} a b = rw e (record { records = a; held = b; one = omega arith; few = omega arith }, sym (table-back s h (f .size) (f .formed)))
+one-nothing s now d h f e {g} a p b = rw e (record { records = a; placed = p; held = b; one = omega arith; few = omega arith }, sym (table-back s h (f .size) (f .formed)))
 
 pub one-bucket : (t : Table) (now d i : ℕ) → indexAt d ≡ some i → {g : Given} {u : List ℕ} → Yields now t (some i) g → u ≡ bytesOf (visitOne now i t)
     → Yields now t (indexAt d) g × (u ≡ bytesOf (nextTable now t (indexAt d)))

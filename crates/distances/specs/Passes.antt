@@ -7,7 +7,7 @@ use mathlib.Core.Option.{Option, none, some}
 use lib.ListN.{length, getD, take}
 use lib.Dec.{eqb}
 use Rattle.model.specs.Base.{joined, allBelow}
-use Rattle.model.specs.Node.{Node, AppliedPending}
+use Rattle.model.specs.Node.{Node, EndedPending, placedOf}
 use Rattle.model.specs.Bucket.{maxNodesPerBucket, numEntries, applyPending}
 use Rattle.model.specs.Table.{Table}
 use Rattle.model.specs.Sizes.{storageSize}
@@ -22,13 +22,13 @@ use Rattle.items.specs.Shape.{shownBy}
 unfoldable pub standsBefore : List ℕ → ℕ → ℕ → Bool
 standsBefore ds p d = not (allBelow p (λ j. not (eqb (getD ds j 0) d)))
 
--- the records that the bucket gives, and what it holds if it gives any
-abbrev pub recordsAt : ℕ → Table → Option ℕ → List AppliedPending
+-- the records that the bucket gives, and what it holds if it gives that of a placed pending
+abbrev pub recordsAt : ℕ → Table → Option ℕ → List EndedPending
 recordsAt now t none = []
 recordsAt now t (some i) = applyPending (t .settings .bucket) now (t .buckets i) .1
 
 abbrev pub yields : ℕ → Table → Option ℕ → Bool
-yields now t o = not (eqb (length (recordsAt now t o)) 0)
+yields now t o = not (eqb (length (placedOf (recordsAt now t o))) 0)
 
 abbrev pub heldAt : ℕ → Table → Option ℕ → ℕ
 heldAt now t none = 0
@@ -36,6 +36,7 @@ heldAt now t (some i) = cond (yields now t (some i)) (numEntries (applied now t 
 
 pub record Yields (now : ℕ) (t : Table) (o : Option ℕ) (g : Given) : Type 0 where
   pub records : g .records ≡ length (recordsAt now t o)
+  pub placed : g .placed ≡ length (placedOf (recordsAt now t o))
   pub held : g .count ≡ heldAt now t o
   pub one : g .records ≤ 1
   pub few : g .count ≤ maxNodesPerBucket
@@ -49,8 +50,9 @@ nextTable now t (some i) = visitOne now i t
 unfoldable pub tableAt : ℕ → List ℕ → ℕ → Table → Table
 tableAt now ds p t = applyAll now (bucketsAt (take p ds)) t .0
 
--- the applying pass: the table that it leaves, and its records. seen: what the buckets that yielded a record hold so far.
-unfoldable pub distancePass : ℕ → ℕ → ℕ → List ℕ → Table → Table × List AppliedPending
+-- the applying pass: the table that it leaves, and its records. seen: what the buckets that yielded the record of a placed pending hold so
+-- far.
+unfoldable pub distancePass : ℕ → ℕ → ℕ → List ℕ → Table → Table × List EndedPending
 distancePass now n seen ds t = applyAll now (appliedPass now n seen (bucketsAt ds) t) t
 
 -- storage that holds a table

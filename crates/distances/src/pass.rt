@@ -49,17 +49,18 @@ fn stands_before(distances: &[u64], p: usize, d: u64) -> bool
     false
 }
 
-// What bucket i gives; the nodes that it holds are counted only where it gives a record.
+// What bucket i gives; the nodes that it holds are counted only where it gives the record of a placed pending.
 fn given_in(s: &[u8], i: usize, time: u64) -> Given
     requires { ⌜ Ready (now s) i ⌝ }
     requires { ⌜ Timely (now s) time ⌝ }
     ensures { λ r. ⌜ Yields time (tableOf (now (s .entry))) (some i) r ⌝ }
 {
     let g = visit::given_at(s, i, time);
-    if g.records == 0 {
+    if g.placed == 0 {
         return Given {
             count: 0,
-            records: 0,
+            records: g.records,
+            placed: 0,
         };
     }
     g
@@ -78,6 +79,7 @@ fn given_at(s: &[u8], distances: &[u64], p: usize, time: u64) -> Given
         BucketIndex::Nothing => Given {
             count: 0,
             records: 0,
+            placed: 0,
         },
         BucketIndex::At(i) => {
             let g = given_in(s, i, time);
@@ -88,6 +90,7 @@ fn given_at(s: &[u8], distances: &[u64], p: usize, time: u64) -> Given
                 return Given {
                     count: 0,
                     records: 0,
+                    placed: 0,
                 };
             }
             g
@@ -109,7 +112,7 @@ pub fn count_records(s: &[u8], distances: &[u64], time: u64, n: usize) -> usize
         let g = given_at(s, distances, p, time);
         records += g.records;
         seen += g.count;
-        if (g.records != 0) & (n <= seen) {
+        if (g.placed != 0) & (n <= seen) {
             return records;
         }
         p += 1;
@@ -130,6 +133,7 @@ fn apply_one(s: &mut [u8], d: u64, time: u64) -> Given
         BucketIndex::Nothing => Given {
             count: 0,
             records: 0,
+            placed: 0,
         },
         BucketIndex::At(i) => {
             let g = given_in(s, i, time);
@@ -152,7 +156,7 @@ pub fn apply_pass(s: &mut [u8], distances: &[u64], time: u64, n: usize)
     while p < distances.len() {
         let g = apply_one(s, distances[p], time);
         seen += g.count;
-        if (g.records != 0) & (n <= seen) {
+        if (g.placed != 0) & (n <= seen) {
             return;
         }
         p += 1;

@@ -10,7 +10,7 @@ ghost use Rattle.node.specs.Node.{argumentOf};
 ghost use Rattle.bucket.specs.Bucket.{bucketOf, Sound};
 ghost use Rattle.on_key.specs.Answers.{Answers, updateAnswer};
 ghost use Rattle.entry.specs.Kind as kind;
-use bucket::AppliedPending;
+use bucket::EndedPending;
 use bucket::InsertAnswer;
 use bucket::KBucket;
 use bucket::Pending;
@@ -138,11 +138,14 @@ pub fn present_update(s: &mut [u8], key: &[u8], state: u8, direction: u8) -> Upd
             if !is_present(found) {
                 return UpdateAnswer::Refused(7);
             }
+            let before = b.pending;
             let updated = b.update_status_sound(k, state, direction);
             let left = updated.bucket;
             let result = updated.result;
-            let nothing = AppliedPending::Nothing;
-            if !on_key::finish(s, i, nothing, left) {
+            let after = left.pending;
+            let nothing = EndedPending::Nothing;
+            let record = on_key::record_of(nothing, before, after, k);
+            if !on_key::finish(s, i, record, left) {
                 return UpdateAnswer::Refused(8);
             }
             UpdateAnswer::Answered(result)
@@ -167,7 +170,7 @@ pub fn pending_update(s: &mut [u8], key: &[u8], state: u8, direction: u8) -> Upd
             }
             let changed = b.update_pending_sound(state, direction);
             let result = UpdateResult::UpdatedPending;
-            let nothing = AppliedPending::Nothing;
+            let nothing = EndedPending::Nothing;
             if !on_key::finish(s, i, nothing, changed) {
                 return UpdateAnswer::Refused(8);
             }
@@ -207,7 +210,7 @@ pub fn absent_insert(
             let inserted = b.insert_sound(node, time);
             let filled = inserted.bucket;
             let result = inserted.result;
-            let nothing = AppliedPending::Nothing;
+            let nothing = EndedPending::Nothing;
             if !on_key::finish(s, i, nothing, filled) {
                 return InsertAnswer::Refused(8);
             }

@@ -9,7 +9,7 @@ use lib.ListN.{length, length-append}
 use lib.Dec.{leb}
 use borrow.Author.Tests.{le-leb, lt-leb}
 use Rattle.model.specs.Bytes.{number, splice}
-use Rattle.model.specs.Node.{AppliedPending}
+use Rattle.model.specs.Node.{EndedPending}
 use Rattle.model.specs.Bucket.{Bucket, BucketSettings}
 use Rattle.model.specs.Table.{Table, Effect, maxRecords, indexIn}
 use Rattle.model.specs.Result.{Reply}
@@ -111,14 +111,14 @@ module _ (s key : List ℕ) (c : KeyCall) (out : List ℕ) where
           (p ∙ ap (λ (o : Outcome). told (o .answer)) a) (q ∙ ap (keyReason (bucketReason c key t)) (sym i)) x
 
       -- any other key
-      pub ends-at : {i : ℕ} → indexIn t (number key) ≡ some i → {rs : List AppliedPending} → rs ≡ effect c key t i (t .buckets i) .records
+      pub ends-at : {i : ℕ} → indexIn t (number key) ≡ some i → {rs : List EndedPending} → rs ≡ effect c key t i (t .buckets i) .records
           → d ≡ told (effect c key t i (t .buckets i) .answer) → w ≡ bucketReason c key t i
           → Explains r out′ (lastThree kind (roomFor s rs) (line (record { told = d; reason = w })) out) → Explains r out′ (explainBytes key c out s)
       unfolding queueFits roomFor act reason
       ends-at {i} j {rs} m p q x =
           let a = ap (onKey t (ownAnswer c) (effect c key t)) (sym j) in
           ends
-          (ap (λ (l : List AppliedPending). leb (length (t .queue) + length l) maxRecords) m
+          (ap (λ (l : List EndedPending). leb (length (t .queue) + length l) maxRecords) m
           ∙ ap (λ (n : ℕ). leb n maxRecords) (sym (length-append (t .queue) (effect c key t i (t .buckets i) .records)))
           ∙ ap (λ (o : Outcome). leb (length (o .table .queue)) maxRecords) a)
           (p ∙ ap (λ (o : Outcome). told (o .answer)) a) (q ∙ ap (keyReason (bucketReason c key t)) (sym j)) x

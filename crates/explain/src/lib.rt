@@ -17,7 +17,7 @@ ghost use Rattle.on_key.specs.Answers.{roomFor};
 ghost use Rattle.explanation.specs.Explanation.{toldOf, whyOf};
 ghost use Rattle.reasons.specs.Reasons.{Tells};
 ghost use Rattle.explain.specs.Calls.{callOf, Explains, lastThree};
-use bucket::AppliedPending;
+use bucket::EndedPending;
 use bucket::FailureReason;
 use bucket::KBucket;
 use explanation::Reason;
@@ -53,7 +53,7 @@ fn ended(
     s: &[u8],
     out: &mut [u8],
     kind: bool,
-    applied: AppliedPending,
+    applied: EndedPending,
     told: Told,
     why: Why,
 ) -> ExplainAnswer
@@ -93,7 +93,7 @@ fn ended_local(s: &[u8], out: &mut [u8], kind: bool, told: Told) -> ExplainAnswe
     requires { ⌜ (length (now s) ≡ storageSize) × (formed (now s) ≡ true) ⌝ }
     ensures { λ r. ⌜ Explains r (now (out .exit)) (lastThree kind (roomFor (now (s .entry)) []) (line (record { told = toldOf told; reason = model.Reason.LocalKey })) (now (out .entry))) ⌝ }
 {
-    let nothing = AppliedPending::Nothing;
+    let nothing = EndedPending::Nothing;
     let why = local_why();
     ended(s, out, kind, nothing, told, why)
 }
@@ -144,11 +144,15 @@ pub fn explain_update_node_status(
             let a = on_key::apply_at(s, i, time);
             let applied = a.applied;
             let b = a.bucket;
+            let before = b.pending;
             let r = b.update_status_sound(k, state, direction);
+            let left = r.bucket;
             let result = r.result;
+            let after = left.pending;
+            let record = on_key::record_of(applied, before, after, k);
             let told = explanation::told_update(result);
             let why = reasons::status_reason(b, k, state, direction);
-            ended(s, out, true, applied, told, why)
+            ended(s, out, true, record, told, why)
         }
     }
 }
@@ -177,11 +181,15 @@ pub fn explain_update_node(
             let a = on_key::apply_at(s, i, time);
             let applied = a.applied;
             let b = a.bucket;
+            let before = b.pending;
             let r = bucket_update::update_node_in(b, fails, k, value, state, time);
+            let left = r.bucket;
             let result = r.result;
+            let after = left.pending;
+            let record = on_key::record_of(applied, before, after, k);
             let told = explanation::told_update(result);
             let why = reasons::update_node_why(b, fails, k, value, state);
-            ended(s, out, true, applied, told, why)
+            ended(s, out, true, record, told, why)
         }
     }
 }
@@ -211,6 +219,7 @@ pub fn explain_insert_or_update(
             let a = on_key::apply_at(s, i, time);
             let applied = a.applied;
             let b = a.bucket;
+            let before = b.pending;
             let status = NodeStatus { state, direction };
             let node = Node {
                 key: k,
@@ -218,10 +227,13 @@ pub fn explain_insert_or_update(
                 status,
             };
             let r = bucket_update::insert_or_update_in(b, fails, node, time);
+            let left = r.bucket;
             let result = r.result;
+            let after = left.pending;
+            let record = on_key::record_of(applied, before, after, k);
             let told = explanation::told_insert_or_update(result);
             let why = reasons::insert_or_update_why(b, fails, node);
-            ended(s, out, true, applied, told, why)
+            ended(s, out, true, record, told, why)
         }
     }
 }
@@ -248,12 +260,16 @@ pub fn explain_present_update(
             let stored = buckets::load_bucket(s, i);
             let found = entry::kind_of(stored, k);
             let present = entry::is_present(found);
+            let before = stored.pending;
             let r = stored.update_status_sound(k, state, direction);
+            let left = r.bucket;
             let result = r.result;
+            let after = left.pending;
+            let nothing = EndedPending::Nothing;
+            let record = on_key::record_of(nothing, before, after, k);
             let told = explanation::told_update(result);
             let why = reasons::status_reason(stored, k, state, direction);
-            let nothing = AppliedPending::Nothing;
-            ended(s, out, present, nothing, told, why)
+            ended(s, out, present, record, told, why)
         }
     }
 }
@@ -282,7 +298,7 @@ pub fn explain_pending_update(
             let pending = entry::is_pending(found);
             let told = Told::UpdatedPending;
             let why = reasons::no_reason(stored);
-            let nothing = AppliedPending::Nothing;
+            let nothing = EndedPending::Nothing;
             ended(s, out, pending, nothing, told, why)
         }
     }
@@ -318,12 +334,16 @@ pub fn explain_absent_insert(
                 value,
                 status,
             };
+            let before = stored.pending;
             let r = stored.insert_sound(node, time);
+            let left = r.bucket;
             let result = r.result;
+            let after = left.pending;
+            let nothing = EndedPending::Nothing;
+            let record = on_key::record_of(nothing, before, after, k);
             let told = explanation::told_insert(result);
             let why = reasons::insert_reason(stored, node);
-            let nothing = AppliedPending::Nothing;
-            ended(s, out, absent, nothing, told, why)
+            ended(s, out, absent, record, told, why)
         }
     }
 }

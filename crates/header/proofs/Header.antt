@@ -5,7 +5,7 @@ use Prim.Native.Nat.{ℕ, _*_, _-_}
 use lib.ListN.{length, length-append}
 use Rattle.model.specs.Base.{joined}
 use Rattle.model.specs.Bytes.{bytes}
-use Rattle.model.specs.Node.{AppliedPending}
+use Rattle.model.specs.Node.{EndedPending}
 use Rattle.model.specs.Table.{Settings, Table, maxRecords}
 use Rattle.model.specs.Sizes.{keySize, timeSize, recordSize, recordCountAt, paddingSize}
 use Rattle.model.specs.Layout.{flagByte, recordBytes, headerBytes}
@@ -22,7 +22,7 @@ pub length-front : (s : Settings) → length (frontBytes s) ≡ recordCountAt
 length-front s = simp (length-append, length-bytes)
 
 -- the settings, the number of records, the padding, the records
-abbrev pub partsOf : Settings → List AppliedPending → List ℕ
+abbrev pub partsOf : Settings → List EndedPending → List ℕ
 partsOf s q = frontBytes s ++ ((length q ∷ []) ++ (blank paddingSize ++ (joined recordBytes q ++ blank ((maxRecords - length q) * recordSize))))
 
 pub header-parts : (t : Table) → headerBytes t ≡ partsOf (t .settings) (t .queue)

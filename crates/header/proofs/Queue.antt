@@ -1,30 +1,37 @@
 -- What pushing a record and dropping the oldest do to the header's bytes, and a record as it is read.
 use mathlib.Core.Path.{_≡_, refl, sym, ap, _∙_}
-use mathlib.Core.Bool.{true}
+use mathlib.Core.Bool.{true, _&&_}
 use mathlib.Core.List.{List, [], _∷_, _++_, append-assoc, append-nil}
 use mathlib.Core.Option.{none, some}
 use Prim.Native.Nat.{ℕ, _+_, _*_, _-_, _≤_, _<_}
 use native.Mathlib.Omega.{arith}
-use borrow.Author.Tests.{ne-eqb}
+use lib.Dec.{leb}
+use borrow.Author.Tests.{leb-true, ne-eqb}
 use lib.ListN.{length, take, drop, getD, length-append, length-take, length-drop, take-append-drop}
 use lib.Seq.{take-suc}
 use Rattle.model.specs.Base.{joined, tabulate}
 use Rattle.model.specs.Bytes.{number, bytes, part, splice, zeros, Bytes}
-use Rattle.model.specs.Node.{Node, AppliedPending}
+use Rattle.model.specs.Node.{Ending, EndedPending}
 use Rattle.model.specs.Table.{Settings, withQueue, maxRecords}
 use Rattle.model.specs.Sizes.{keySize, nodeSize, recordSize, recordCountAt, paddingSize, recordsAt, recordAt, headerSize, storageSize}
-use Rattle.model.specs.Layout.{nodeBytes, recordBytes, headerBytes, recordIn, recordPart, tableOf}
-use Rattle.model.specs.Formed.{recordFormed, headerFormed}
+use Rattle.model.specs.Layout.{nodeBytes, evictingKind, endingKind, lastKind, recordBytes, headerBytes, endingOf, recordIn, recordPart, tableOf}
+use Rattle.model.specs.Formed.{areZero, recordFormed, headerFormed}
 use Rattle.laws.proofs.Lists.{joined-snoc, length-tabulate, getD-tabulate}
-use Rattle.laws.proofs.Parts.{length-part, length-splice, splice-part, splice-next, part-part, part-zero, part-between, getD-part}
+use Rattle.laws.proofs.Parts.{length-part, length-splice, splice-part, splice-nil, splice-next, part-part, part-zero, part-between, getD-part}
+use Rattle.laws.proofs.Tests.{and-left}
 use Rattle.laws.proofs.Bytes.{length-bytes}
-use Rattle.laws.proofs.NodeBytes.{length-node, length-record}
+use Rattle.laws.proofs.NodeBytes.{length-record}
 use Rattle.laws.proofs.HeaderBytes.{length-records, length-header}
 use Rattle.laws.proofs.HeaderBack.{checked-header, header-back, queue-fits, length-queue}
 use Rattle.key.specs.declared.Key.{Key}
 use Rattle.key.specs.Key.{num}
 use Rattle.node.specs.declared.Node as stored
 use Rattle.node.specs.Node.{nodeOf, nodeCodes}
+use Rattle.bucket.specs.declared.Ending as code
+use Rattle.bucket.specs.declared.Ending.the-variants as ending
+use Rattle.bucket.specs.declared.EndedPending.the-variants as ended
+use Rattle.bucket.specs.Calls as calls
+use Rattle.bucket.specs.Calls.{recordsOf}
 use Rattle.storage.specs.Read.{readNode}
 use Rattle.storage.proofs.Nodes.{nodeOf-read, codes-read}
 use Rattle.header.specs.Queue.{requeued}
@@ -32,7 +39,7 @@ use Rattle.header.proofs.Runs.{splice-between, splice-front, blank, bla
 use Rattle.header.proofs.Header.{frontBytes, length-front, partsOf, header-parts}
 
 -- a further record: v is what is written of it, the rest of its bytes is zero as it was
-module _ (s : Settings) (q : List AppliedPending) (r : AppliedPending) (v : List ℕ) (rest : ℕ) (e : recordBytes r ≡ v ++ blank rest) (n : ℕ) (m : n ≡ length q) (l : n < maxRecords) where
+module _ (s : Settings) (q : List EndedPending) (r : EndedPending) (v : List ℕ) (rest : ℕ) (e : recordBytes r ≡ v ++ blank rest) (n : ℕ) (m : n ≡ length q) (l : n < maxRecords) where
   parts-pushed : splice (splice (partsOf s q) (recordAt n) v) recordCountAt ((n + 1) ∷ []) ≡ partsOf s (q ++ (r ∷ []))
   parts-pushed =
       let f : List ℕ = frontBytes s in
@@ -51,7 +58,7 @@ module _ (s : Settings) (q : List AppliedPending) (r : AppliedPending) (v : List
       ∙ sym g
 
 -- the queue without its first record: the others stand a record further to the front, and z stands in the place that they leave
-parts-dropped : (s : Settings) (q : List AppliedPending) (n : ℕ) → n + 1 ≡ length q → n < maxRecords → (z : List ℕ) → z ≡ blank recordSize
+parts-dropped : (s : Settings) (q : List EndedPending) (n : ℕ) → n + 1 ≡ length q → n < maxRecords → (z : List ℕ) → z ≡ blank recordSize
     → splice (splice (splice (partsOf s q) recordsAt (part (partsOf s q) (recordsAt + recordSize) (n * recordSize))) (recordAt n) z) recordCountAt (n ∷ [])
     ≡ partsOf s (drop 1 q)
 unfolding joined
@@ -86,32 +93,63 @@ parts-dropped s (r ∷ q) n m l z o =
     rw (o, ← blank-add recordSize ((maxRecords - length (r ∷ q)) * recordSize)) (ap blank (omega arith)) in
     rw (u, first, second, splice-between f k (g ++ (j ++ (z ++ b))) (n ∷ []) recordCountAt (length-front s) refl, last, c)
 
--- the bytes of a record with an evicted node
-pub record-put : (s : List ℕ) (at k : ℕ) (v : Node) → at + recordSize ≤ length s
-    → splice (splice (splice s at (bytes keySize k)) (at + keySize) (1 ∷ [])) (at + (keySize + 1)) (nodeBytes v)
-    ≡ splice s at (recordBytes (record { inserted = k; evicted = some v }))
-unfolding recordBytes
-record-put s at k v l =
+-- the bytes of a record: key, kind x, and what follows
+pub record-put : (s : List ℕ) (at k x : ℕ) (w : List ℕ) → length w ≡ nodeSize → at + recordSize ≤ length s
+    → splice (splice (splice s at (bytes keySize k)) (at + keySize) (x ∷ [])) (at + (keySize + 1)) w ≡ splice s at (bytes keySize k ++ (x ∷ w))
+record-put s at k x w e l =
     let b : List ℕ = bytes keySize k in
     rw (
-      splice-next s at keySize b (1 ∷ []) (length-bytes keySize k) (omega arith),
-      splice-next s at (keySize + 1) (b ++ (1 ∷ [])) (nodeBytes v) (simp (length-append, length-bytes)) (simp length-node (omega arith)),
+      splice-next s at keySize b (x ∷ []) (length-bytes keySize k) (omega arith),
+      splice-next s at (keySize + 1) (b ++ (x ∷ [])) w (simp (length-append, length-bytes)) (omega arith),
     )
     (simp append-assoc)
 
+pub none-put : (s : List ℕ) (at : ℕ) → s ≡ splice s at (joined recordBytes [])
+unfolding joined
+none-put s at = sym (splice-nil s at)
+
+one-joined : (r : EndedPending) → joined recordBytes (r ∷ []) ≡ recordBytes r
+unfolding joined
+one-joined r = append-nil (recordBytes r)
+
+pub placed-bytes : (k : Key) → bytes keySize (num k) ++ (0 ∷ zeros nodeSize) ≡ joined recordBytes (recordsOf (ended.Placed k))
+unfolding recordBytes
+placed-bytes k = sym (one-joined (record { key = num k; ending = Ending.Placed none }))
+
+pub replaced-bytes : (k : Key) (n : stored.Node)
+    → bytes keySize (num k) ++ (evictingKind ∷ nodeBytes (nodeOf n)) ≡ joined recordBytes (recordsOf (ended.Replaced k n))
+unfolding recordBytes
+replaced-bytes k n = sym (one-joined (record { key = num k; ending = Ending.Placed (some (nodeOf n)) }))
+
+pub dropped-bytes : (k : Key) (e : code.Ending) → bytes keySize (num k) ++ (endingKind (calls.endingOf e) ∷ zeros nodeSize) ≡ joined recordBytes (recordsOf (ended.Dropped k e))
+unfolding recordBytes
+dropped-bytes k ending.FirstConnected = sym (one-joined (record { key = num k; ending = Ending.FirstConnected }))
+dropped-bytes k ending.BucketFilter = sym (one-joined (record { key = num k; ending = Ending.BucketFilter }))
+dropped-bytes k ending.TooManyIncoming = sym (one-joined (record { key = num k; ending = Ending.TooManyIncoming }))
+dropped-bytes k ending.Inserted = sym (one-joined (record { key = num k; ending = Ending.Inserted }))
+dropped-bytes k ending.FirstConfirmed = sym (one-joined (record { key = num k; ending = Ending.FirstConfirmed }))
+
 -- a record as it is read
 module _ (s : List ℕ) (at : ℕ) (k : Key) (e : num k ≡ number (part s at keySize)) where
-  pub loaded-inserted : (getD s (at + keySize) 0 ≡ 1 → ⊥)
-      → _≡_ {A = List AppliedPending} (record { inserted = num k; evicted = none } ∷ []) (recordIn (part s at recordSize) ∷ [])
+  pub loaded-plain : (getD s (at + keySize) 0 ≡ evictingKind → ⊥) → (x : Ending) → x ≡ endingOf (getD s (at + keySize) 0)
+      → _≡_ {A = List EndedPending} (record { key = num k; ending = x } ∷ []) (recordIn (part s at recordSize) ∷ [])
   unfolding recordIn
-  loaded-inserted n = rw (part-zero s at recordSize keySize (omega arith), getD-part s at recordSize keySize (omega arith), ne-eqb (getD s (at + keySize) 0) 1 n, e)
+  loaded-plain n x o = rw (part-zero s at recordSize keySize (omega arith), getD-part s at recordSize keySize (omega arith), ne-eqb (getD s (at + keySize) 0) evictingKind n, e, o)
 
-  pub loaded-replaced : (v : stored.Node) → v ≡ readNode (part s (at + (keySize + 1)) nodeSize) → getD s (at + keySize) 0 ≡ 1 → recordFormed (part s at recordSize) ≡ true
-      → (_≡_ {A = List AppliedPending} (record { inserted = num k; evicted = some (nodeOf v) } ∷ []) (recordIn (part s at recordSize) ∷ []))
+  -- a kind of question 2
+  pub kind-within : (getD s (at + keySize) 0 ≡ evictingKind → ⊥) → recordFormed (part s at recordSize) ≡ true → getD s (at + keySize) 0 ≤ lastKind
+  unfolding recordFormed
+  kind-within n h =
+      let g : (leb (getD s (at + keySize) 0) lastKind && areZero (part s at recordSize) (keySize + 1) nodeSize) ≡ true =
+      rw (getD-part s at recordSize keySize (omega arith), ne-eqb (getD s (at + keySize) 0) evictingKind n) at h in
+      leb-true _ _ (and-left (leb (getD s (at + keySize) 0) lastKind) (areZero (part s at recordSize) (keySize + 1) nodeSize) g)
+
+  pub loaded-replaced : (v : stored.Node) → v ≡ readNode (part s (at + (keySize + 1)) nodeSize) → getD s (at + keySize) 0 ≡ evictingKind → recordFormed (part s at recordSize) ≡ true
+      → (_≡_ {A = List EndedPending} (record { key = num k; ending = Ending.Placed (some (nodeOf v)) } ∷ []) (recordIn (part s at recordSize) ∷ []))
       × (nodeCodes v ≡ true)
   unfolding recordIn recordFormed
   loaded-replaced v o n h =
-      let g : getD (part s at recordSize) keySize 0 ≡ 1 = getD-part s at recordSize keySize (omega arith) ∙ n in
+      let g : getD (part s at recordSize) keySize 0 ≡ evictingKind = getD-part s at recordSize keySize (omega arith) ∙ n in
       let p : part (part s at recordSize) (keySize + 1) nodeSize ≡ part s (at + (keySize + 1)) nodeSize = part-part s at recordSize (keySize + 1) nodeSize (omega arith) in
       (rw (part-zero s at recordSize keySize (omega arith), g, p, e, o, nodeOf-read (part s (at + (keySize + 1)) nodeSize)), rw (o, codes-read (part s (at + (keySize + 1)) nodeSize)) (rw (g, p) at h))
 
@@ -132,10 +170,10 @@ module _ (s : List ℕ) (l : length s ≡ storageSize) (h : Bytes s) (f : header
   front-back : splice s 0 header ≡ s
   front-back = rw header-is (splice-part s 0 headerSize (omega arith))
 
-  pub pushed-none : s ≡ requeued (tableOf s .queue ++ []) s
-  pushed-none = sym front-back ∙ ap (λ (q : List AppliedPending). requeued q s) (sym (append-nil (tableOf s .queue)))
+  pushed-none : s ≡ requeued (tableOf s .queue ++ []) s
+  pushed-none = sym front-back ∙ ap (λ (q : List EndedPending). requeued q s) (sym (append-nil (tableOf s .queue)))
 
-  pushed : (r : AppliedPending) (v : List ℕ) (rest : ℕ) → recordBytes r ≡ v ++ blank rest → (n : ℕ) → n ≡ length (tableOf s .queue) → n < maxRecords
+  pushed : (r : EndedPending) (v : List ℕ) (rest : ℕ) → recordBytes r ≡ v ++ blank rest → (n : ℕ) → n ≡ length (tableOf s .queue) → n < maxRecords
       → splice (splice s (recordAt n) v) recordCountAt ((n + 1) ∷ []) ≡ requeued (tableOf s .queue ++ (r ∷ [])) s
   pushed r v rest e n m i =
       let w : length v ≤ recordSize = omega (arith, ap length e, length-append v (blank rest), length-record r) in
@@ -147,16 +185,25 @@ module _ (s : List ℕ) (l : length s ≡ storageSize) (h : Bytes s) (f : header
       (ap (λ (x : List ℕ). splice (splice x (recordAt n) v) recordCountAt ((n + 1) ∷ [])) (header-parts (tableOf s))
       ∙ parts-pushed (tableOf s .settings) (tableOf s .queue) r v rest e n m i ∙ sym (header-parts (withQueue (tableOf s .queue ++ (r ∷ [])) (tableOf s))))
 
-  pub pushed-inserted : (k n : ℕ) → n ≡ length (tableOf s .queue) → n < maxRecords
-      → splice (splice s (recordAt n) (bytes keySize k)) recordCountAt ((n + 1) ∷ [])
-      ≡ requeued (tableOf s .queue ++ (record { inserted = k; evicted = none } ∷ [])) s
-  unfolding recordBytes blank
-  pushed-inserted k n m i = pushed (record { inserted = k; evicted = none }) (bytes keySize k) (1 + nodeSize) refl n m i
-
-  pub pushed-record : (r : AppliedPending) (n : ℕ) → n ≡ length (tableOf s .queue) → n < maxRecords
-      → splice (splice s (recordAt n) (recordBytes r)) recordCountAt ((n + 1) ∷ []) ≡ requeued (tableOf s .queue ++ (r ∷ [])) s
+  -- one record, or none
+  pub pushed-records : (rs : List EndedPending) (n : ℕ) → n ≡ length (tableOf s .queue) → n + length rs ≤ maxRecords → length rs ≤ 1 → (length rs ≡ 0 → ⊥)
+      → splice (splice s (recordAt n) (joined recordBytes rs)) recordCountAt ((n + 1) ∷ []) ≡ requeued (tableOf s .queue ++ rs) s
   unfolding blank
-  pushed-record r n m i = pushed r (recordBytes r) 0 (sym (append-nil (recordBytes r))) n m i
+  pushed-records [] n m i f o = absurd (o refl)
+  pushed-records (r ∷ []) n m i f o =
+      ap (λ (x : List ℕ). splice (splice s (recordAt n) x) recordCountAt ((n + 1) ∷ [])) (one-joined r)
+      ∙ pushed r (recordBytes r) 0 (sym (append-nil (recordBytes r))) n m (omega arith)
+  pushed-records (r ∷ r′ ∷ rs) n m i f o = absurd (never f)
+    where
+      never : length (r ∷ r′ ∷ rs) ≤ 1 → ⊥
+      never z = omega arith
+
+  pub pushed-nothing : (rs : List EndedPending) → length rs ≡ 0 → s ≡ requeued (tableOf s .queue ++ rs) s
+  pushed-nothing [] e = pushed-none
+  pushed-nothing (r ∷ rs) e = absurd (never e)
+    where
+      never : length (r ∷ rs) ≡ 0 → ⊥
+      never z = omega arith
 
   pub dropped : (n : ℕ) → n + 1 ≡ length (tableOf s .queue) → n < maxRecords
       → splice (splice (splice s recordsAt (part s (recordsAt + recordSize) (n * recordSize))) (recordAt n) (zeros recordSize)) recordCountAt (n ∷ [])
@@ -184,9 +231,9 @@ module _ (s : List ℕ) (l : length s ≡ storageSize) (h : Bytes s) (f : header
   unfolding tableOf
   oldest i =
       let k : ℕ = getD s recordCountAt 0 in
-      let d : AppliedPending = recordIn [] in
-      let g : ℕ → AppliedPending = λ j. recordIn (recordPart s j) in
-      take-suc (tabulate k g) 0 d i ∙ ap (λ (x : AppliedPending). x ∷ []) (getD-tabulate k g 0 d (rw length-tabulate at i))
+      let d : EndedPending = recordIn [] in
+      let g : ℕ → EndedPending = λ j. recordIn (recordPart s j) in
+      take-suc (tabulate k g) 0 d i ∙ ap (λ (x : EndedPending). x ∷ []) (getD-tabulate k g 0 d (rw length-tabulate at i))
 
   pub oldest-formed : 0 < length (tableOf s .queue) → recordFormed (part s recordsAt recordSize) ≡ true
   oldest-formed i = checked-header s f .records 0 (rw (length-queue s (omega arith) h f) at i)
@@ -195,9 +242,9 @@ module _ (s : List ℕ) (l : length s ≡ storageSize) (h : Bytes s) (f : header
   pub none-left : length (tableOf s .queue) ≡ 0 → (take 1 (tableOf s .queue) ≡ []) × (s ≡ requeued (drop 1 (tableOf s .queue)) s)
   none-left e =
       let d : tableOf s .queue ≡ [] = no-records (tableOf s .queue) e in
-      (rw d, sym front-back ∙ ap (λ (q : List AppliedPending). requeued q s) (rw d))
+      (rw d, sym front-back ∙ ap (λ (q : List EndedPending). requeued q s) (rw d))
     where
-      no-records : (q : List AppliedPending) → length q ≡ 0 → q ≡ []
+      no-records : (q : List EndedPending) → length q ≡ 0 → q ≡ []
       no-records [] i = refl
       no-records (r ∷ q) i = absurd (never i)
         where

@@ -7,5 +7,5 @@ use Rattle.model.specs.Table.{withQueue}
 use Rattle.model.specs.Layout.{headerBytes, tableOf}
 
 -- the storage with another queue in its header; the settings and the buckets stay
-abbrev pub requeued : List model.AppliedPending → List ℕ → List ℕ
+abbrev pub requeued : List model.EndedPending → List ℕ → List ℕ
 requeued q s = splice s 0 (headerBytes (withQueue q (tableOf s)))

@@ -2,21 +2,23 @@
 ghost use mathlib.Core.Path.{_≡_};
 ghost use mathlib.Core.Bool.{true};
 ghost use mathlib.Core.List.{[], _∷_, _++_};
-ghost use mathlib.Core.Option.{none, some};
 ghost use Prim.Native.Nat.{_+_, _≤_, _<_};
 ghost use lib.Dec.{leb};
 ghost use lib.ListN.{length, take, drop};
-ghost use Rattle.model.specs.Bytes.{part, splice};
+ghost use Rattle.model.specs.Base.{joined};
+ghost use Rattle.model.specs.Bytes.{bytes, part, splice, zeros};
 ghost use Rattle.model.specs.Table.{emptyTable, maxRecords};
-ghost use Rattle.model.specs.Sizes.{recordSize, storageSize};
-ghost use Rattle.model.specs.Layout.{recordBytes, bytesOf, recordIn, tableOf};
+ghost use Rattle.model.specs.Sizes.{keySize, nodeSize, recordSize, storageSize};
+ghost use Rattle.model.specs.Layout.{nodeBytes, evictingKind, lastKind, recordBytes, bytesOf, endingOf, recordIn, tableOf};
 ghost use Rattle.model.specs.Formed.{recordFormed, headerFormed};
 ghost use Rattle.key.specs.Key.{num};
 ghost use Rattle.model.specs.Step.{settingsOf};
 ghost use Rattle.node.specs.Node.{nodeOf, nodeCodes};
+ghost use Rattle.bucket.specs.Calls as code;
 ghost use Rattle.bucket.specs.Calls.{recordsOf, appliedCodes};
 ghost use Rattle.header.specs.Queue.{requeued};
-use bucket::AppliedPending;
+use bucket::EndedPending;
+use bucket::Ending;
 use key::Key;
 use node::Node;
 use storage::Layout;
@@ -45,70 +47,98 @@ pub fn record_count(s: &[u8]) -> usize
     s[Layout::RECORD_COUNT_AT] as usize
 }
 
-// A record without an evicted node, behind the others.
-fn push_inserted(s: &mut [u8], key: Key)
-    requires { ⌜ length (now s) ≡ storageSize ⌝ }
-    requires { ⌜ headerFormed (now s) ≡ true ⌝ }
-    requires { ⌜ length (tableOf (now s) .queue) < maxRecords ⌝ }
-    ensures { λ _. ⌜ now (s .exit) ≡ requeued (tableOf (now (s .entry)) .queue ++ (record { inserted = num key; evicted = none } ∷ [])) (now (s .entry)) ⌝ }
-{
-    let n = record_count(s);
-    key.store(s, Layout::RECORDS_AT + n * Layout::RECORD);
-    words::put_byte(s, Layout::RECORD_COUNT_AT, (n + 1) as u8);
-}
-
-// Internal: the bytes of a record with an evicted node, put at `at`.
-pub fn store_replaced(s: &mut [u8], at: usize, key: Key, node: Node)
+// The bytes of a record of this kind without an evicted node, put at `at`.
+fn store_plain(s: &mut [u8], at: usize, key: Key, kind: u8)
     requires { ⌜ at + recordSize ≤ length (now s) ⌝ }
-    requires { ⌜ nodeCodes node ≡ true ⌝ }
-    ensures { λ _. ⌜ now (s .exit) ≡ splice (now (s .entry)) at (recordBytes (record { inserted = num key; evicted = some (nodeOf node) })) ⌝ }
+    ensures { λ _. ⌜ now (s .exit) ≡ splice (now (s .entry)) at (bytes keySize (num key) ++ (kind ∷ zeros nodeSize)) ⌝ }
 {
     key.store(s, at);
-    words::put_byte(s, at + Layout::KEY, 1);
+    words::put_byte(s, at + Layout::KEY, kind);
+    words::put_zeros(s, at + (Layout::KEY + 1), Layout::NODE);
+}
+
+// The bytes of a record with an evicted node, put at `at`.
+fn store_replaced(s: &mut [u8], at: usize, key: Key, node: Node)
+    requires { ⌜ at + recordSize ≤ length (now s) ⌝ }
+    requires { ⌜ nodeCodes node ≡ true ⌝ }
+    ensures { λ _. ⌜ now (s .exit) ≡ splice (now (s .entry)) at (bytes keySize (num key) ++ (evictingKind ∷ nodeBytes (nodeOf node))) ⌝ }
+{
+    key.store(s, at);
+    words::put_byte(s, at + Layout::KEY, Layout::EVICTING_KIND);
     storage::store_node(s, at + (Layout::KEY + 1), node);
 }
 
-// A record with an evicted node, behind the others.
-fn push_replaced(s: &mut [u8], key: Key, node: Node)
-    requires { ⌜ length (now s) ≡ storageSize ⌝ }
-    requires { ⌜ headerFormed (now s) ≡ true ⌝ }
-    requires { ⌜ length (tableOf (now s) .queue) < maxRecords ⌝ }
-    requires { ⌜ nodeCodes node ≡ true ⌝ }
-    ensures { λ _. ⌜ now (s .exit) ≡ requeued (tableOf (now (s .entry)) .queue ++ (record { inserted = num key; evicted = some (nodeOf node) } ∷ [])) (now (s .entry)) ⌝ }
+// Internal: the bytes of the record of an ended pending, if there is one, put at `at`.
+pub fn store_record(s: &mut [u8], at: usize, ended: EndedPending)
+    requires { ⌜ at + recordSize ≤ length (now s) ⌝ }
+    requires { ⌜ appliedCodes ended ≡ true ⌝ }
+    ensures { λ _. ⌜ now (s .exit) ≡ splice (now (s .entry)) at (joined recordBytes (recordsOf ended)) ⌝ }
 {
-    let count = record_count(s);
-    store_replaced(s, Layout::RECORDS_AT + count * Layout::RECORD, key, node);
-    words::put_byte(s, Layout::RECORD_COUNT_AT, (count + 1) as u8);
-}
-
-// Internal: the record of an applied pending, if it is one, behind the others.
-pub fn push_record(s: &mut [u8], applied: AppliedPending)
-    requires { ⌜ length (now s) ≡ storageSize ⌝ }
-    requires { ⌜ headerFormed (now s) ≡ true ⌝ }
-    requires { ⌜ length (tableOf (now s) .queue) + length (recordsOf applied) ≤ maxRecords ⌝ }
-    requires { ⌜ appliedCodes applied ≡ true ⌝ }
-    ensures { λ _. ⌜ now (s .exit) ≡ requeued (tableOf (now (s .entry)) .queue ++ recordsOf applied) (now (s .entry)) ⌝ }
-{
-    match applied {
-        AppliedPending::Nothing => {}
-        AppliedPending::Inserted(key) => push_inserted(s, key),
-        AppliedPending::Replaced(key, node) => push_replaced(s, key, node),
+    match ended {
+        EndedPending::Nothing => {}
+        EndedPending::Placed(key) => store_plain(s, at, key, 0),
+        EndedPending::Replaced(key, node) => store_replaced(s, at, key, node),
+        EndedPending::Dropped(key, ending) => {
+            let kind = bucket::ending_code(ending);
+            store_plain(s, at, key, kind);
+        }
     }
 }
 
+// Internal: the record of an ended pending, if there is one, behind the others.
+pub fn push_record(s: &mut [u8], ended: EndedPending)
+    requires { ⌜ length (now s) ≡ storageSize ⌝ }
+    requires { ⌜ headerFormed (now s) ≡ true ⌝ }
+    requires { ⌜ length (tableOf (now s) .queue) + length (recordsOf ended) ≤ maxRecords ⌝ }
+    requires { ⌜ appliedCodes ended ≡ true ⌝ }
+    ensures { λ _. ⌜ now (s .exit) ≡ requeued (tableOf (now (s .entry)) .queue ++ recordsOf ended) (now (s .entry)) ⌝ }
+{
+    if bucket::count_of(ended) == 0 {
+        return;
+    }
+    let count = record_count(s);
+    store_record(s, Layout::RECORDS_AT + count * Layout::RECORD, ended);
+    words::put_byte(s, Layout::RECORD_COUNT_AT, (count + 1) as u8);
+}
+
+// The ending of a kind that is none of a placed pending.
+fn ending_of(kind: u8) -> Ending
+    requires { ⌜ (2 ≤ kind) × (kind ≤ lastKind) ⌝ }
+    ensures { λ r. ⌜ code.endingOf r ≡ endingOf kind ⌝ }
+{
+    if kind == 2 {
+        return Ending::FirstConnected;
+    }
+    if kind == 3 {
+        return Ending::BucketFilter;
+    }
+    if kind == 4 {
+        return Ending::TooManyIncoming;
+    }
+    if kind == 5 {
+        return Ending::Inserted;
+    }
+    Ending::FirstConfirmed
+}
+
 // The record whose bytes stand at `at`.
-fn load_record(s: &[u8], at: usize) -> AppliedPending
+fn load_record(s: &[u8], at: usize) -> EndedPending
     requires { ⌜ at + recordSize ≤ length (now s) ⌝ }
     requires { ⌜ recordFormed (part (now s) at recordSize) ≡ true ⌝ }
     ensures { λ r. ⌜ recordsOf r ≡ recordIn (part (now (s .entry)) at recordSize) ∷ [] ⌝ }
     ensures { λ r. ⌜ appliedCodes r ≡ true ⌝ }
 {
     let key = Key::load(s, at);
-    if s[at + Layout::KEY] == 1 {
+    let kind = s[at + Layout::KEY];
+    if kind == Layout::EVICTING_KIND {
         let node = storage::load_node(s, at + (Layout::KEY + 1));
-        return AppliedPending::Replaced(key, node);
+        return EndedPending::Replaced(key, node);
     }
-    AppliedPending::Inserted(key)
+    if kind == 0 {
+        return EndedPending::Placed(key);
+    }
+    let ending = ending_of(kind);
+    EndedPending::Dropped(key, ending)
 }
 
 // The n bytes that stand `by` bytes behind `at`, moved to `at`.
@@ -138,7 +168,7 @@ fn drop_record(s: &mut [u8], n: usize)
 }
 
 // Internal: the oldest record, taken out of the queue; Nothing where the queue is empty.
-pub fn take_record(s: &mut [u8]) -> AppliedPending
+pub fn take_record(s: &mut [u8]) -> EndedPending
     requires { ⌜ length (now s) ≡ storageSize ⌝ }
     requires { ⌜ headerFormed (now s) ≡ true ⌝ }
     ensures { λ r. ⌜ recordsOf r ≡ take 1 (tableOf (now (s .entry)) .queue) ⌝ }
@@ -147,7 +177,7 @@ pub fn take_record(s: &mut [u8]) -> AppliedPending
 {
     let n = record_count(s);
     if n == 0 {
-        return AppliedPending::Nothing;
+        return EndedPending::Nothing;
     }
     let oldest = load_record(s, Layout::RECORDS_AT);
     drop_record(s, n - 1);

@@ -17,7 +17,7 @@ use node::Value;
 pub extern "C" fn kbuckets_version() -> u32
     ensures { λ r. ⌜ r ≡ version ⌝ }
 {
-    0x0000_0300
+    0x0000_0400
 }
 
 // The table.

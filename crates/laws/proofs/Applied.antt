@@ -1,12 +1,12 @@
 -- Applying due pendings: a second time does nothing, and after buckets were visited each bucket is as if it had been visited alone.
-use mathlib.Core.Path.{_≡_, refl, sym, ap, _∙_}
-use mathlib.Core.Bool.{Bool, true, false, cond, not, _&&_, _||_}
+use mathlib.Core.Path.{_≡_, refl, sym, ap, _∙_, subst⁻¹}
+use mathlib.Core.Bool.{Bool, true, false, cond, not, _&&_}
 use mathlib.Core.List.{List, [], _∷_, _++_, append-nil, append-assoc}
 use mathlib.Core.Option.{Option, none, some}
 use Prim.Native.Nat.{ℕ}
 use lib.Dec.{leb}
 use Rattle.model.specs.Base.{same, every}
-use Rattle.model.specs.Node.{Node, PendingNode, AppliedPending}
+use Rattle.model.specs.Node.{Node, PendingNode, EndedPending}
 use Rattle.model.specs.Result.{BucketInsertResult, isInserted}
 use Rattle.model.specs.Bucket.{Bucket, BucketSettings, holds, isFull, failsBucketFilter, isMaxIncoming, withPending, cleared, insertFull, insert, applyFull, applyDue, applyIfDue, applyPending}
 use Rattle.model.specs.Table.{Table, write}
@@ -37,13 +37,14 @@ module _ (s : BucketSettings) (now : ℕ) where
   due-left : (n : Node) (b : Bucket) → b .pending ≡ none → applyDue s now n b .0 .pending ≡ none
   unfolding applyDue
   due-left n b e =
-      cases (λ (r : Bucket × List AppliedPending). r .0 .pending ≡ none) (isFull b) (λ h. full (b .disconnected))
-      (λ h. cases (λ (r : Bucket × List AppliedPending). r .0 .pending ≡ none) (isInserted (insert s now n b .0)) (λ i. insert-left n b e i) (λ i. e))
+      cases (λ (r : Bucket × List EndedPending). r .0 .pending ≡ none) (isFull b) (λ h. full (b .disconnected))
+      (λ h. cases (λ (r : Bucket). r .pending ≡ none) (isInserted (insert s now n b .0)) (λ i. insert-left n b e i) (λ i. e))
     where
       full : (ds : List Node) → applyFull s n b ds .0 .pending ≡ none
       full [] = e
       full (d ∷ ds) =
-          cases (λ (r : Bucket × List AppliedPending). r .0 .pending ≡ none) (failsBucketFilter s (n .value) b || isMaxIncoming s n b) (λ h. e) (λ h. refl)
+          cases (λ (r : Bucket × List EndedPending). r .0 .pending ≡ none) (failsBucketFilter s (n .value) b) (λ h. e)
+          (λ h. cases (λ (r : Bucket × List EndedPending). r .0 .pending ≡ none) (isMaxIncoming s n b) (λ i. e) (λ i. refl))
 
   pub apply-none : (b : Bucket) → b .pending ≡ none → applyPending s now b ≡ (b, [])
   unfolding applyPending
@@ -57,10 +58,23 @@ module _ (s : BucketSettings) (now : ℕ) where
       go : (o : Option PendingNode) → b .pending ≡ o → applyPending s now (applyIfDue s now b o .0) ≡ (applyIfDue s now b o .0, [])
       go none e = apply-none b e
       go (some p) e =
-          cases (λ (r : Bucket × List AppliedPending). applyPending s now (r .0) ≡ (r .0, [])) (leb (p .deadline) now)
+          cases (λ (r : Bucket × List EndedPending). applyPending s now (r .0) ≡ (r .0, [])) (leb (p .deadline) now)
           (λ h. apply-none _ (due-left (p .node) _ refl))
           (λ h. ap (applyIfDue s now b) e
           ∙ ap (λ (t : Bool). cond t (applyDue s now (p .node) (withPending none b)) (b, [])) h)
+
+  -- applying gives one record and leaves no pending, or gives none
+  pub apply-ends : (P : List EndedPending → Option PendingNode → Type 0) → ((p : Option PendingNode) → P [] p) → ((rs : List EndedPending) → P rs none)
+      → (b : Bucket) → P (applyPending s now b .1) (applyPending s now b .0 .pending)
+  unfolding applyPending
+  apply-ends P f g b = go (b .pending)
+    where
+      go : (o : Option PendingNode) → P (applyIfDue s now b o .1) (applyIfDue s now b o .0 .pending)
+      go none = f (b .pending)
+      go (some p) =
+          cases (λ (r : Bucket × List EndedPending). P (r .1) (r .0 .pending)) (leb (p .deadline) now)
+          (λ _. subst⁻¹ (P (applyDue s now (p .node) (withPending none b) .1)) (due-left (p .node) (withPending none b) refl) (g _))
+          (λ _. f (b .pending))
 
 -- ---- buckets of a table, one after the other
 
@@ -72,7 +86,7 @@ visit-keeps now j t i = go (same i j) refl
   where
     go : (c : Bool) → same i j ≡ c → applyPending (t .settings .bucket) now (cond c (applied now t j) (t .buckets i)) .0 ≡ applied now t i
     go true e =
-        ap (λ (r : Bucket × List AppliedPending). r .0) (apply-again (t .settings .bucket) now (t .buckets j))
+        ap (λ (r : Bucket × List EndedPending). r .0) (apply-again (t .settings .bucket) now (t .buckets j))
         ∙ ap (λ (k : ℕ). applied now t k) (sym (same-true i j e))
     go false e = refl
 

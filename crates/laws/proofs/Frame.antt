@@ -6,7 +6,7 @@ use mathlib.Core.List.{List, [], _∷_}
 use mathlib.Core.Option.{Option, none, some}
 use Rattle.model.specs.Base.{same}
 use Rattle.model.specs.Bytes.{number}
-use Rattle.model.specs.Node.{AppliedPending}
+use Rattle.model.specs.Node.{EndedPending}
 use Rattle.model.specs.Bucket.{Bucket, applyPending}
 use Rattle.model.specs.Table.{Table, Answer, Effect, write, indexIn}
 use Rattle.model.specs.Call.{Call}
@@ -26,13 +26,13 @@ isNew (Call.onKey k c) = false
 isNew (Call.list l n now out) = false
 isNew Call.takeAppliedPending = false
 
-pub write-other : (t : Table) (i j : ℕ) (b : Bucket) (rs : List AppliedPending) → same i j ≡ false → write t j b rs .buckets i ≡ t .buckets i
+pub write-other : (t : Table) (i j : ℕ) (b : Bucket) (rs : List EndedPending) → same i j ≡ false → write t j b rs .buckets i ≡ t .buckets i
 write-other t i j b rs e = ap (λ (q : Bool). cond q b (t .buckets i)) e
 
 pub applyAll-other : (now i : ℕ) (is : List ℕ) (t : Table) → Untouched i is → applyAll now is t .0 .buckets i ≡ t .buckets i
 applyAll-other now i [] t h = refl
 applyAll-other now i (j ∷ is) t h =
-    let a : Bucket × List AppliedPending = applyPending (t .settings .bucket) now (t .buckets j) in
+    let a : Bucket × List EndedPending = applyPending (t .settings .bucket) now (t .buckets j) in
     applyAll-other now i is (write t j (a .0) (a .1)) (h .1) ∙ write-other t i j (a .0) (a .1) (h .0)
 
 pub applyAll-settings : (now : ℕ) (is : List ℕ) (t : Table) → applyAll now is t .0 .settings ≡ t .settings
@@ -43,7 +43,7 @@ pub onKey-other : (t : Table) (self : Answer) (f : ℕ → Bucket → Effect) (o
 onKey-other t self f none i h = refl
 onKey-other t self f (some j) i h = write-other t i j (f j (t .buckets j) .bucket) (f j (t .buckets j) .records) (h .0)
 
-pub takeOldest-buckets : (t : Table) (q : List AppliedPending) → takeOldest t q .table .buckets ≡ t .buckets
+pub takeOldest-buckets : (t : Table) (q : List EndedPending) → takeOldest t q .table .buckets ≡ t .buckets
 takeOldest-buckets t [] = refl
 takeOldest-buckets t (a ∷ q) = refl
 

@@ -9,7 +9,7 @@ use lib.ListN.{length, getD, length-append, length-replicate}
 use borrow.Author.Tests.{le-leb}
 use Rattle.model.specs.Base.{joined, tabulate}
 use Rattle.model.specs.Bytes.{number, bytes, part, zeros, Bytes}
-use Rattle.model.specs.Node.{AppliedPending}
+use Rattle.model.specs.Node.{EndedPending}
 use Rattle.model.specs.Bucket.{maxNodesPerBucket}
 use Rattle.model.specs.Table.{Table, maxRecords}
 use Rattle.model.specs.Sizes.{keySize, timeSize, recordSize, timeoutAt, maxIncomingAt, tableFilterAt, bucketFilterAt, recordCountAt, paddingAt, paddingSize, recordsAt, recordAt, headerSize}
@@ -34,7 +34,7 @@ settingsBytes t =
     ++ (t .settings .bucket .maxIncoming ∷ flagByte (t .settings .tableFilter) ∷ flagByte (t .settings .bucket .filter) ∷ length (t .queue) ∷ zeros paddingSize))
 
 -- the records' bytes
-abbrev pub queueBytes : List AppliedPending → List ℕ
+abbrev pub queueBytes : List EndedPending → List ℕ
 queueBytes q = joined recordBytes q ++ zeros ((maxRecords - length q) * recordSize)
 
 pub header-cut : (t : Table) → headerBytes t ≡ settingsBytes t ++ queueBytes (t .queue)
@@ -44,12 +44,12 @@ header-cut t = simp append-assoc
 pub length-settings : (t : Table) → length (settingsBytes t) ≡ recordsAt
 length-settings t = simp (length-append, length-bytes)
 
-pub length-records : (q : List AppliedPending) → length (joined recordBytes q) ≡ length q * recordSize
+pub length-records : (q : List EndedPending) → length (joined recordBytes q) ≡ length q * recordSize
 length-records q = length-joined recordBytes recordSize q (all-any _ q length-record)
 
 pub length-header : (t : Table) → length (t .queue) ≤ maxRecords → length (headerBytes t) ≡ headerSize
 length-header t l =
-    let q : List AppliedPending = t .queue in
+    let q : List EndedPending = t .queue in
     rw (
       header-cut t,
       length-append (settingsBytes t) (queueBytes q),
@@ -63,7 +63,7 @@ length-header t l =
 pub Bytes-header : (t : Table) → FitsSettings (t .settings) → All FitsRecord (t .queue) → length (t .queue) ≤ maxRecords → Bytes (headerBytes t)
 unfolding headerBytes
 Bytes-header t f g l =
-    let q : List AppliedPending = t .queue in
+    let q : List EndedPending = t .queue in
     let z : List ℕ = zeros ((maxRecords - length q) * recordSize) in
     let w : List ℕ = joined recordBytes q ++ z in
     let p : List ℕ = zeros paddingSize ++ w in
@@ -150,9 +150,9 @@ module _ (t : Table) (r : List ℕ) where
   cut-records : storage ≡ settingsBytes t ++ (joined recordBytes (t .queue) ++ (zeros ((maxRecords - length (t .queue)) * recordSize) ++ r))
   cut-records = rw (header-cut t) (simp append-assoc)
 
-  pub recordPart-there : (j : ℕ) (d : AppliedPending) → j < length (t .queue) → recordPart storage j ≡ recordBytes (getD (t .queue) j d)
+  pub recordPart-there : (j : ℕ) (d : EndedPending) → j < length (t .queue) → recordPart storage j ≡ recordBytes (getD (t .queue) j d)
   recordPart-there j d l =
-      let q : List AppliedPending = t .queue in
+      let q : List EndedPending = t .queue in
       let z : List ℕ = zeros ((maxRecords - length q) * recordSize) in
       rw cut-records
       (part-right (settingsBytes t) (joined recordBytes q ++ (z ++ r)) recordsAt (j * recordSize) recordSize (length-settings t)
@@ -161,14 +161,14 @@ module _ (t : Table) (r : List ℕ) where
 
   pub queue-there : All FitsRecord (t .queue) → tabulate (getD storage recordCountAt 0) (λ j. recordIn (recordPart storage j)) ≡ t .queue
   queue-there f =
-      let d : AppliedPending = recordIn [] in
+      let d : EndedPending = recordIn [] in
       rw recordCount-there
       (tabulate-is (t .queue) d (length (t .queue)) (λ j. recordIn (recordPart storage j)) refl
       (λ j l. ap recordIn (recordPart-there j d l) ∙ record-there (getD (t .queue) j d) (all-getD FitsRecord (t .queue) j d f l)))
 
   unused-zero : areZero storage (recordAt (length (t .queue))) ((maxRecords - length (t .queue)) * recordSize) ≡ true
   unused-zero =
-      let q : List AppliedPending = t .queue in
+      let q : List EndedPending = t .queue in
       let k : ℕ = (maxRecords - length q) * recordSize in
       areZero-part storage (recordAt (length q)) k
       (rw cut-records
@@ -178,7 +178,7 @@ module _ (t : Table) (r : List ℕ) where
   pub header-formed : FitsSettings (t .settings) → length (t .queue) ≤ maxRecords → headerFormed storage ≡ true
   unfolding headerFormed
   header-formed f l =
-      let d : AppliedPending = recordIn [] in
+      let d : EndedPending = recordIn [] in
       rw (
         maxIncoming-there,
         tableFilter-there,

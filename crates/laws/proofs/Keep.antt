@@ -1,16 +1,20 @@
 -- The bucket's rules keep a well-formed bucket (question 2) and a bucket whose numbers fit their bytes (Fits).
 use Prim.Native.Nat.{ℕ, _<_, _^_}
-use mathlib.Core.Path.{_≡_}
-use mathlib.Core.Bool.{Bool}
-use mathlib.Core.Option.{Option, some}
+use mathlib.Core.Path.{_≡_, refl}
+use mathlib.Core.Bool.{Bool, _&&_}
+use mathlib.Core.List.{List}
+use mathlib.Core.Option.{Option, none, some}
+use Rattle.model.specs.Base.{same}
 use Rattle.model.specs.Key.{bucketIndex}
 use Rattle.model.specs.Value.{Value}
-use Rattle.model.specs.Node.{Node, AppliedPending, withStatus, withValue}
-use Rattle.model.specs.Bucket.{Bucket, BucketSettings, emptyBucket, insert, applyPending, updateStatus, updateValue, updatePending, remove}
+use Rattle.model.specs.Node.{Node, PendingNode, Ending, EndedPending, evictedIn, endedIf, withStatus, withValue}
+use Rattle.model.specs.Result.{BucketInsertResult, isInserted}
+use Rattle.model.specs.Bucket.{Bucket, BucketSettings, emptyBucket, nodes, ofKey, insertEndings, isFirst, statusEndings, insert, applyPending, updateStatus, updateValue, updatePending, remove}
 use Rattle.model.specs.Table.{Settings}
 use Rattle.model.specs.Sizes.{keySize}
-use Rattle.model.specs.Fits.{All, Opt, Any, WellFormed, FitsValue, FitsNode, FitsDeadline, FitsRecord, FitsBucket}
-use Rattle.laws.proofs.KeepEach.{insert-each, applyPending-each, applyPending-kept, updateStatus-each, updateValue-each, updatePending-each, remove-each}
+use Rattle.model.specs.Fits.{All, Opt, Any, WellFormed, FitsValue, FitsNode, FitsDeadline, FitsPending, FitsRecord, FitsBucket}
+use Rattle.laws.proofs.Tests.{cases}
+use Rattle.laws.proofs.KeepEach.{EachRecord, insert-each, applyPending-each, applyPending-kept, ended-each, updateStatus-each, updateValue-each, updatePending-each, remove-each}
 use Rattle.laws.proofs.KeepFormed.{empty-formed, insert-formed, applyPending-formed, updateStatus-formed, updateValue-formed, updatePending-formed, remove-formed}
 use Rattle.laws.proofs.All.{all-map}
 
@@ -56,8 +60,27 @@ withValue-fits v f n h = record { key = h .key; value = f }
 pub empty-fits : FitsBucket emptyBucket
 empty-fits = record { held = tt; pending = tt }
 
+abbrev KeyFits : ℕ → Type 0
+KeyFits k = k < 256 ^ keySize
+
+each-fits : (rs : List EndedPending) → EachRecord FitsNode KeyFits rs → All FitsRecord rs
+each-fits rs h = all-map (λ (r : EndedPending). KeyFits (r .key) × Opt FitsNode (evictedIn (r .ending))) FitsRecord (λ r h. record { key = h .0; evicted = h .1 }) rs h
+
 pub records-fit : (s : BucketSettings) (now : ℕ) (b : Bucket) → FitsBucket b → All FitsRecord (applyPending s now b .1)
-records-fit s now b f =
-    all-map (λ (r : AppliedPending). (r .inserted < 256 ^ keySize) × Opt FitsNode (r .evicted)) FitsRecord (λ r h. record { inserted = h .0; evicted = h .1 })
-    (applyPending s now b .1)
-    (applyPending-kept FitsNode FitsDeadline (λ (k : ℕ). k < 256 ^ keySize) (λ n h. h .key) s now b f .1)
+records-fit s now b f = each-fits (applyPending s now b .1) (applyPending-kept FitsNode FitsDeadline KeyFits (λ n h. h .key) s now b f .1)
+
+-- the records of a call's own step fit
+ended-fit : (x : Ending) → evictedIn x ≡ none → (p : Option PendingNode) → Opt FitsPending p → All FitsRecord (endedIf x p)
+ended-fit x e p f = each-fits (endedIf x p) (ended-each FitsNode FitsDeadline KeyFits (λ n h. h .key) x e p f)
+
+pub statusEndings-fit : (k : ℕ) (u : Bool) (b : Bucket) → FitsBucket b → All FitsRecord (statusEndings k u b)
+statusEndings-fit k u b f =
+    cases (All FitsRecord) (u && isFirst k (nodes b)) (λ _. ended-fit Ending.FirstConfirmed refl (b .pending) (f .pending)) (λ _. tt)
+
+ofKey-fits : (k : ℕ) (p : Option PendingNode) → Opt FitsPending p → Opt FitsPending (ofKey k p)
+ofKey-fits k none f = tt
+ofKey-fits k (some p) f = cases (Opt FitsPending) (same (p .node .key) k) (λ _. f) (λ _. tt)
+
+pub insertEndings-fit : (n : Node) (b : Bucket) (r : BucketInsertResult) → FitsBucket b → All FitsRecord (insertEndings n b r)
+insertEndings-fit n b r f =
+    cases (All FitsRecord) (isInserted r) (λ _. ended-fit Ending.Inserted refl (ofKey (n .key) (b .pending)) (ofKey-fits (n .key) (b .pending) (f .pending))) (λ _. tt)

@@ -1,23 +1,32 @@
 -- What holds of every node of a bucket, held or pending, is kept by the bucket's rules (01, "bucket.rs (722)").
 use Prim.Native.Nat.{ℕ, _+_}
 use mathlib.Core.Path.{_≡_, refl, subst, subst⁻¹}
-use mathlib.Core.Bool.{Bool, true, false, cond, _&&_, _||_}
+use mathlib.Core.Bool.{Bool, true, false, cond, _&&_}
 use mathlib.Core.List.{List, [], _∷_, _++_}
 use mathlib.Core.Option.{Option, none, some}
 use lib.Dec.{leb}
 use Rattle.model.specs.Base.{same}
 use Rattle.model.specs.Value.{Value, sameValue}
-use Rattle.model.specs.Node.{Node, PendingNode, AppliedPending, withStatus, withValue}
+use Rattle.model.specs.Node.{Node, PendingNode, Ending, EndedPending, evictedIn, endedIf, withStatus, withValue}
 use Rattle.model.specs.Result.{BucketInsertResult, FailureReason, UpdateResult, isInserted}
-use Rattle.model.specs.Bucket.{Bucket, BucketSettings, nodes, isFull, holds, get, failsBucketFilter, isMaxIncoming, withPending, cleared, put, placed, takeOut, insertFull, insert, applyFull, applyDue, applyIfDue, applyPending, reinsert, isFirst, takenOut, updateIfPending, updateStatusOf, updateStatus, updateValueOf, updateValue, pendingWithStatus, updatePending, remove}
+use Rattle.model.specs.Bucket.{Bucket, BucketSettings, nodes, isFull, holds, get, failsBucketFilter, isMaxIncoming, withPending, cleared, put, placed, takeOut, insertFull, insert, insertEnding, applyFull, applyDue, applyIfDue, applyPending, reinsert, isFirst, takenOut, updateIfPending, updateStatusOf, updateStatus, updateValueOf, updateValue, pendingWithStatus, updatePending, remove}
 use Rattle.model.specs.Fits.{All, Opt, Each}
 use Rattle.laws.proofs.Tests.{cases}
 use Rattle.laws.proofs.KeepLists.{put-between, omit-append, all-omit, revalue-append, all-revalue, all-find, get-nodes}
 use Rattle.laws.proofs.All.{all-insert}
 
 -- a record's key is a node's that had the property, and so is the node that it evicted
-abbrev pub EachRecord : (Node → Type 0) → (ℕ → Type 0) → List AppliedPending → Type 0
-EachRecord P K = All (λ (r : AppliedPending). K (r .inserted) × Opt P (r .evicted))
+abbrev pub EachRecord : (Node → Type 0) → (ℕ → Type 0) → List EndedPending → Type 0
+EachRecord P K = All (λ (r : EndedPending). K (r .key) × Opt P (evictedIn (r .ending)))
+
+-- an insert evicts none
+insert-evicts-none : (r : BucketInsertResult) → evictedIn (insertEnding r) ≡ none
+insert-evicts-none BucketInsertResult.Inserted = refl
+insert-evicts-none BucketInsertResult.FailedFilter = refl
+insert-evicts-none BucketInsertResult.TooManyIncoming = refl
+insert-evicts-none (BucketInsertResult.Pending k) = refl
+insert-evicts-none BucketInsertResult.Full = refl
+insert-evicts-none BucketInsertResult.NodeExists = refl
 
 module _ (P : Node → Type 0) (D : ℕ → Type 0) where
   pub withPending-each : (p : Option PendingNode) (b : Bucket) → Each P D b → Opt (λ (q : PendingNode). P (q .node) × D (q .deadline)) p → Each P D (withPending p b)
@@ -74,21 +83,25 @@ module _ (P : Node → Type 0) (D : ℕ → Type 0) where
 
   -- applying, with the records that it gives
   module _ (K : ℕ → Type 0) (key : (n : Node) → P n → K (n .key)) where
-    abbrev Kept : Bucket × List AppliedPending → Type 0
+    abbrev Kept : Bucket × List EndedPending → Type 0
     Kept r = Each P D (r .0) × EachRecord P K (r .1)
 
     applyFull-kept : (s : BucketSettings) (n : Node) (b : Bucket) (ds : List Node) → ds ≡ b .disconnected → P n → Each P D b → Kept (applyFull s n b ds)
-    applyFull-kept s n b [] q h e = (e, tt)
+    applyFull-kept s n b [] q h e = (e, ((key n h, tt), tt))
     applyFull-kept s n b (x ∷ ds) q h e =
         let l : All P ((x ∷ ds) ++ b .connected) = subst⁻¹ (λ (l : List Node). All P (l ++ b .connected)) q (e .held) in
-        cases Kept (failsBucketFilter s (n .value) b || isMaxIncoming s n b) (λ _. (e, tt))
-        (λ _. (put-each n (record { disconnected = ds; connected = b .connected; pending = none }) h (record { held = l .1; pending = tt }), ((key n h, l .0), tt)))
+        cases Kept (failsBucketFilter s (n .value) b) (λ _. (e, ((key n h, tt), tt)))
+        (λ _. cases Kept (isMaxIncoming s n b) (λ _. (e, ((key n h, tt), tt)))
+        (λ _. (put-each n (record { disconnected = ds; connected = b .connected; pending = none }) h (record { held = l .1; pending = tt }), ((key n h, l .0), tt))))
 
     applyDue-kept : (s : BucketSettings) (now : ℕ) (n : Node) (b : Bucket) → P n → Each P D b → Kept (applyDue s now n b)
     unfolding applyDue
     applyDue-kept s now n b h e =
         cases Kept (isFull b) (λ _. applyFull-kept s n b (b .disconnected) refl h e)
-        (λ f. cases Kept (isInserted (insert s now n b .0)) (λ _. (insert-free-each s now n b f h e, ((key n h, tt), tt))) (λ _. (e, tt)))
+        (λ f. (
+          cases (Each P D) (isInserted (insert s now n b .0)) (λ _. insert-free-each s now n b f h e) (λ _. e),
+          ((key n h, subst⁻¹ (Opt P) (insert-evicts-none (insert s now n b .0)) tt), tt),
+        ))
 
     applyIfDue-kept : (s : BucketSettings) (now : ℕ) (b : Bucket) (p : Option PendingNode) → Opt (λ (q : PendingNode). P (q .node) × D (q .deadline)) p
         → Each P D b → Kept (applyIfDue s now b p)
@@ -100,6 +113,11 @@ module _ (P : Node → Type 0) (D : ℕ → Type 0) where
     pub applyPending-kept : (s : BucketSettings) (now : ℕ) (b : Bucket) → Each P D b → Kept (applyPending s now b)
     unfolding applyPending
     applyPending-kept s now b e = applyIfDue-kept s now b (b .pending) (e .pending) e
+
+    -- the record of a pending that evicted none
+    pub ended-each : (x : Ending) → evictedIn x ≡ none → (p : Option PendingNode) → Opt (λ (q : PendingNode). P (q .node) × D (q .deadline)) p → EachRecord P K (endedIf x p)
+    ended-each x e none h = tt
+    ended-each x e (some p) h = ((key (p .node) (h .0), subst⁻¹ (Opt P) e tt), tt)
 
   pub applyPending-each : (s : BucketSettings) (now : ℕ) (b : Bucket) → Each P D b → Each P D (applyPending s now b .0)
   applyPending-each s now b e = applyPending-kept (λ k. Unit {0}) (λ n h. tt) s now b e .0

@@ -2,7 +2,7 @@
 use Prim.Native.Nat.{ℕ, suc, _≤_, _<_}
 use native.Mathlib.Omega.{arith}
 use mathlib.Core.Path.{_≡_, refl, sym, ap, _∙_, subst, subst⁻¹}
-use mathlib.Core.Bool.{Bool, true, false, not, _&&_, _||_}
+use mathlib.Core.Bool.{Bool, true, false, not, _&&_}
 use mathlib.Core.List.{List, [], _∷_, _++_}
 use mathlib.Core.Option.{Option, none, some}
 use lib.ListN.{length, length-append}
@@ -10,11 +10,11 @@ use lib.Dec.{leb}
 use borrow.Author.Tests.{leb-false, lt-leb}
 use Rattle.model.specs.Base.{same, isSome}
 use Rattle.model.specs.Value.{Value, sameValue}
-use Rattle.model.specs.Node.{Node, PendingNode, AppliedPending, connectedIncoming, withStatus, withValue}
+use Rattle.model.specs.Node.{Node, PendingNode, EndedPending, connectedIncoming, withStatus, withValue}
 use Rattle.model.specs.Result.{BucketInsertResult, FailureReason, UpdateResult, isInserted}
 use Rattle.model.specs.Bucket.{Bucket, BucketSettings, maxNodesPerBucket, emptyBucket, nodes, numEntries, isFull, holds, get, failsBucketFilter, incomingNodes, isMaxIncoming, withPending, cleared, only, put, placed, omit, takeOut, insertFull, insert, applyFull, applyDue, applyIfDue, applyPending, reinsert, isFirst, takenOut, updateIfPending, updateStatusOf, updateStatus, revalue, updateValueOf, updateValue, pendingWithStatus, updatePending, remove}
 use Rattle.model.specs.Fits.{All, Opt, Different, Formed}
-use Rattle.laws.proofs.Tests.{cases, or-right, same-sym}
+use Rattle.laws.proofs.Tests.{cases, same-sym}
 use Rattle.laws.proofs.KeepLists.{get-key, more-mono, incoming-rest, Without, different-insert, put-between, more, more-within, length-select-insert, length-insert, get-nodes, holds-without, without-holds, omit-append, all-omit, without-omit, different-omit, length-omit, length-omit-held, incoming-omit, revalue-append, all-revalue, different-revalue, length-revalue, incoming-revalue}
 use Rattle.laws.proofs.All.{all-append, all-insert, opt-map}
 
@@ -198,22 +198,22 @@ applyFull-formed : (s : BucketSettings) (n : Node) (b : Bucket) (ds : List Node)
     → Formed (s .maxIncoming) (applyFull s n b ds .0)
 applyFull-formed s n b [] q w h = w
 applyFull-formed s n b (d ∷ ds) q w h =
-    cases (λ (r : Bucket × List AppliedPending). Formed (s .maxIncoming) (r .0)) (failsBucketFilter s (n .value) b || isMaxIncoming s n b) (λ _. w)
-    (λ e. evicted-formed s n b d ds q w h (or-right (failsBucketFilter s (n .value) b) (isMaxIncoming s n b) e))
+    let Q : Bucket × List EndedPending → Type 0 = λ r. Formed (s .maxIncoming) (r .0) in
+    cases Q (failsBucketFilter s (n .value) b) (λ _. w) (λ _. cases Q (isMaxIncoming s n b) (λ _. w) (λ e. evicted-formed s n b d ds q w h e))
 
 applyDue-formed : (s : BucketSettings) (now : ℕ) (n : Node) (b : Bucket) → Formed (s .maxIncoming) b → holds (n .key) b ≡ false
     → Formed (s .maxIncoming) (applyDue s now n b .0)
 unfolding applyDue
 applyDue-formed s now n b w h =
-    let Q : Bucket × List AppliedPending → Type 0 = λ r. Formed (s .maxIncoming) (r .0) in
+    let Q : Bucket × List EndedPending → Type 0 = λ r. Formed (s .maxIncoming) (r .0) in
     cases Q (isFull b) (λ _. applyFull-formed s n b (b .disconnected) refl w h)
-    (λ _. cases Q (isInserted (insert s now n b .0)) (λ _. insert-formed s now n b w) (λ _. w))
+    (λ _. cases (Formed (s .maxIncoming)) (isInserted (insert s now n b .0)) (λ _. insert-formed s now n b w) (λ _. w))
 
 applyIfDue-formed : (s : BucketSettings) (now : ℕ) (b : Bucket) (p : Option PendingNode) → Opt (λ (q : PendingNode). holds (q .node .key) b ≡ false) p
     → Formed (s .maxIncoming) b → Formed (s .maxIncoming) (applyIfDue s now b p .0)
 applyIfDue-formed s now b none h w = w
 applyIfDue-formed s now b (some p) h w =
-    cases (λ (r : Bucket × List AppliedPending). Formed (s .maxIncoming) (r .0)) (leb (p .deadline) now)
+    cases (λ (r : Bucket × List EndedPending). Formed (s .maxIncoming) (r .0)) (leb (p .deadline) now)
     (λ _. applyDue-formed s now (p .node) (withPending none b) (withPending-formed (s .maxIncoming) none b w tt) h) (λ _. w)
 
 pub applyPending-formed : (s : BucketSettings) (now : ℕ) (b : Bucket) → Formed (s .maxIncoming) b → Formed (s .maxIncoming) (applyPending s now b .0)

@@ -4,7 +4,7 @@ use native.Mathlib.Omega.{arith}
 use native.Mathlib.Nat.{mul-le-mul-right, pow-succ', suc-mul}
 use mathlib.Core.Path.{_≡_, refl, sym, ap, _∙_, subst, subst⁻¹}
 use mathlib.Core.Bool.{Bool, true, false, cond, _&&_}
-use mathlib.Core.List.{List, [], _∷_}
+use mathlib.Core.List.{List, [], _∷_, _++_}
 use mathlib.Core.Option.{Option, none, some}
 use lib.ListN.{length}
 use lib.Dec.{eqb, leb}
@@ -14,10 +14,10 @@ use Rattle.model.specs.Base.{same, isSome}
 use Rattle.model.specs.Bytes.{number, Bytes}
 use Rattle.model.specs.Key.{distance, log2Distance, lessOne, bucketIndex}
 use Rattle.model.specs.Value.{Value}
-use Rattle.model.specs.Node.{Node, AppliedPending}
+use Rattle.model.specs.Node.{Node, EndedPending}
 use Rattle.model.specs.Result.{UpdateResult, isFailed}
 use Rattle.model.specs.Bucket.{Bucket, BucketSettings, maxNodesPerBucket, emptyBucket, holds, insert, applyPending, updateStatus, updateValue, updatePending, remove}
-use Rattle.model.specs.Table.{Settings, Table, Answer, Effect, numBuckets, maxRecords, emptyTable, failsTableFilter, thenStatus, updateNodeIn, thenValue, insertOrUpdateIn, write, indexIn}
+use Rattle.model.specs.Table.{Settings, Table, Answer, Effect, numBuckets, maxRecords, emptyTable, failsTableFilter, thenStatus, updateNodeIn, givenStatusEndings, updateNodeEndings, thenValue, insertOrUpdateIn, insertOrUpdateEndings, write, indexIn}
 use Rattle.model.specs.Sizes.{keySize, timeSize}
 use Rattle.model.specs.Call.{ValueArgument, Call, KeyCall, isOne, optional, valueOf}
 use Rattle.model.specs.Listing.{applyAll, applies}
@@ -27,7 +27,7 @@ use Rattle.model.specs.Fits.{All, Opt, WellFormed, FitsAddress, FitsValue, Fits
 use Rattle.laws.proofs.Tests.{same-true, clash, cases, and-left}
 use Rattle.laws.proofs.Questions.{accepted}
 use Rattle.laws.proofs.KeepEach.{insert-each, applyPending-each, updateStatus-each, updateValue-each, updatePending-each, remove-each}
-use Rattle.laws.proofs.Keep.{empty-well-formed, insert-well-formed, applyPending-well-formed, updateStatus-well-formed, updateValue-well-formed, updatePending-well-formed, remove-well-formed, empty-fits, records-fit, withStatus-fits, withValue-fits}
+use Rattle.laws.proofs.Keep.{empty-well-formed, insert-well-formed, applyPending-well-formed, updateStatus-well-formed, updateValue-well-formed, updatePending-well-formed, remove-well-formed, empty-fits, records-fit, statusEndings-fit, insertEndings-fit, withStatus-fits, withValue-fits}
 use Rattle.laws.proofs.All.{all-append}
 
 -- the bucket index is 0 to 255
@@ -83,7 +83,7 @@ pub record FitsAt (s : Settings) (i : ℕ) (b : Bucket) : Type 0 where
   pub fits : FitsBucket b
   pub formed : WellFormed s i b
 
-pub write-fits : (t : Table) (i : ℕ) (b : Bucket) (rs : List AppliedPending) → FitsEndless t → FitsAt (t .settings) i b → (numBuckets ≤ i → b ≡ emptyBucket)
+pub write-fits : (t : Table) (i : ℕ) (b : Bucket) (rs : List EndedPending) → FitsEndless t → FitsAt (t .settings) i b → (numBuckets ≤ i → b ≡ emptyBucket)
     → All FitsRecord rs → FitsEndless (write t i b rs)
 write-fits t i b rs f h p r =
     record {
@@ -170,11 +170,31 @@ onKey-fits t self f (some i) l h g =
     write-fits t i (f i (t .buckets i) .bucket) (f i (t .buckets i) .records) h (g i refl .0) (λ p. absurd (let q = l i refl in omega arith)) (g i refl .1)
 
 -- a due pending is applied first
-after-applying : {c : Bucket} (s : Settings) (i now : ℕ) (b : Bucket) → FitsAt s i b → (FitsAt s i (applyPending (s .bucket) now b .0) → FitsAt s i c)
-    → FitsAt s i c × All FitsRecord (applyPending (s .bucket) now b .1)
-after-applying s i now b h g = (g (apply-at s i now b h), records-fit (s .bucket) now b (h .fits))
+after-applying : {c : Bucket} (rs : List EndedPending) (s : Settings) (i now : ℕ) (b : Bucket) → FitsAt s i b
+    → (FitsAt s i (applyPending (s .bucket) now b .0) → FitsAt s i c × All FitsRecord rs) → FitsAt s i c × All FitsRecord (applyPending (s .bucket) now b .1 ++ rs)
+after-applying rs s i now b h g =
+    let e = g (apply-at s i now b h) in
+    (e .0, all-append FitsRecord (applyPending (s .bucket) now b .1) rs (records-fit (s .bucket) now b (h .fits)) (e .1))
 
-takeOldest-fits : (t : Table) (q : List AppliedPending) → All FitsRecord q → FitsEndless t → FitsEndless (takeOldest t q .table)
+-- the records of the call's own step
+givenStatus-records : (s : Settings) (i k : ℕ) (u : Option Bool) (b : Bucket) → FitsAt s i b → All FitsRecord (givenStatusEndings k u b)
+givenStatus-records s i k none b h = tt
+givenStatus-records s i k (some u) b h = statusEndings-fit k u b (h .fits)
+
+updateNode-records : (s : Settings) (i : ℕ) (fails : Bool) (k : ℕ) (v : Value) (u : Option Bool) (b : Bucket) → FitsValue v → FitsAt s i b
+    → All FitsRecord (updateNodeEndings (s .bucket) fails k v u b)
+updateNode-records s i fails k v u b f h =
+    cases (All FitsRecord) fails (λ _. tt)
+    (λ _. cases (All FitsRecord) (isFailed (updateValue (s .bucket) k v b .0)) (λ _. tt) (λ _. givenStatus-records s i k u _ (value-at s i k v b f h)))
+
+insertOrUpdate-records : (s : Settings) (i : ℕ) (fails : Bool) (now : ℕ) (n : Node) (b : Bucket) → FitsAt s i b
+    → All FitsRecord (insertOrUpdateEndings (s .bucket) fails now n b)
+insertOrUpdate-records s i fails now n b h =
+    cases (All FitsRecord) fails (λ _. tt)
+    (λ _. cases (All FitsRecord) (holds (n .key) b) (λ _. statusEndings-fit (n .key) (n .connected) b (h .fits))
+    (λ _. insertEndings-fit n b (insert (s .bucket) now n b .0) (h .fits)))
+
+takeOldest-fits : (t : Table) (q : List EndedPending) → All FitsRecord q → FitsEndless t → FitsEndless (takeOldest t q .table)
 takeOldest-fits t [] r h = h
 takeOldest-fits t (a ∷ q) r h = record { settings = h .settings; buckets = h .buckets; well-formed = h .well-formed; past = h .past; records = r .1 }
 
@@ -199,22 +219,27 @@ effect-fits : (c : KeyCall) (k : List ℕ) (t : Table) (i : ℕ) (b : Bucket) �
     → clockFits (Call.onKey k c) t ≡ true → indexIn t (number k) ≡ some i → FitsAt (t .settings) i b → FitsEffect (t .settings) i (effect c k t i b)
 unfolding keysFit clockFits
 effect-fits (KeyCall.updateNodeStatus st dr now) k t i b c e d q h =
-    after-applying (t .settings) i now b h (λ w. status-at (t .settings) i (number k) (isOne st) (optional dr) _ w)
+    after-applying _ (t .settings) i now b h (λ w. (status-at (t .settings) i (number k) (isOne st) (optional dr) _ w, statusEndings-fit (number k) (isOne st) _ (w .fits)))
 effect-fits (KeyCall.updateNode v st now) k t i b c e d q h =
-    after-applying (t .settings) i now b h (λ w. updateNodeIn-at (t .settings) i (failsTableFilter t i (number k) (valueOf v)) now (number k) (valueOf v) (optional st) _ (value-fits v (c .1)) w)
+    after-applying _ (t .settings) i now b h (λ w. (
+      updateNodeIn-at (t .settings) i (failsTableFilter t i (number k) (valueOf v)) now (number k) (valueOf v) (optional st) _ (value-fits v (c .1)) w,
+      updateNode-records (t .settings) i (failsTableFilter t i (number k) (valueOf v)) (number k) (valueOf v) (optional st) _ (value-fits v (c .1)) w,
+    ))
 effect-fits (KeyCall.insertOrUpdate v st dr now) k t i b c e d q h =
-    after-applying (t .settings) i now b h
-    (λ w. insertOrUpdateIn-at (t .settings) i (failsTableFilter t i (number k) (valueOf v)) now (nodeOf k v st dr) _
-    (node-fits k v st dr (c .0) (c .1) (and-left (eqb (length k) keySize) true e)) q
-    (deadline-fits now (t .settings .bucket .pendingTimeout) d) w)
-effect-fits (KeyCall.remove now) k t i b c e d q h = after-applying (t .settings) i now b h (λ w. remove-at (t .settings) i now (number k) _ w)
-effect-fits (KeyCall.entry now) k t i b c e d q h = after-applying (t .settings) i now b h (λ w. w)
-effect-fits (KeyCall.presentUpdate st dr) k t i b c e d q h = (status-at (t .settings) i (number k) (isOne st) (optional dr) b h, tt)
+    after-applying _ (t .settings) i now b h
+    (λ w. (
+      insertOrUpdateIn-at (t .settings) i (failsTableFilter t i (number k) (valueOf v)) now (nodeOf k v st dr) _
+          (node-fits k v st dr (c .0) (c .1) (and-left (eqb (length k) keySize) true e)) q (deadline-fits now (t .settings .bucket .pendingTimeout) d) w,
+      insertOrUpdate-records (t .settings) i (failsTableFilter t i (number k) (valueOf v)) now (nodeOf k v st dr) _ w,
+    ))
+effect-fits (KeyCall.remove now) k t i b c e d q h = after-applying _ (t .settings) i now b h (λ w. (remove-at (t .settings) i now (number k) _ w, tt))
+effect-fits (KeyCall.entry now) k t i b c e d q h = after-applying _ (t .settings) i now b h (λ w. (w, tt))
+effect-fits (KeyCall.presentUpdate st dr) k t i b c e d q h = (status-at (t .settings) i (number k) (isOne st) (optional dr) b h, statusEndings-fit (number k) (isOne st) b (h .fits))
 effect-fits (KeyCall.pendingUpdate st dr) k t i b c e d q h = (pending-at (t .settings) i (isOne st) (isOne dr) b h, tt)
 effect-fits (KeyCall.absentInsert v st dr now) k t i b c e d q h = (
   insert-at (t .settings) i now (nodeOf k v st dr) b (node-fits k v st dr (c .0) (c .1) (and-left (eqb (length k) keySize) true e)) q
       (deadline-fits now (t .settings .bucket .pendingTimeout) d) h,
-  tt,
+  insertEndings-fit (nodeOf k v st dr) b (insert (t .settings .bucket) now (nodeOf k v st dr) b .0) (h .fits),
 )
 
 -- the call's work, with an endless queue

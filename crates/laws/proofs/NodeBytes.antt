@@ -1,17 +1,17 @@
 -- The bytes of a value, of a node and of a record of the queue: what is written is read again.
-use mathlib.Core.Path.{_≡_, refl, ap, _∙_}
+use mathlib.Core.Path.{_≡_, refl, _∙_}
 use mathlib.Core.Bool.{Bool, true, false}
 use mathlib.Core.List.{List, _∷_, _++_}
 use mathlib.Core.Option.{Option, none, some}
-use Prim.Native.Nat.{ℕ, suc, _+_}
+use Prim.Native.Nat.{ℕ, _+_, _<_}
 use native.Mathlib.Omega.{arith}
 use lib.ListN.{length, getD, length-append, length-replicate}
 use lib.Dec.{eqb}
 use Rattle.model.specs.Bytes.{number, bytes, part, zeros, Bytes}
 use Rattle.model.specs.Value.{Address, Value}
-use Rattle.model.specs.Node.{Node, AppliedPending}
+use Rattle.model.specs.Node.{Node, Ending, EndedPending, evictedIn}
 use Rattle.model.specs.Sizes.{keySize, slotSize, valueSize, nodeSize, recordSize}
-use Rattle.model.specs.Layout.{flagByte, addressBytes, valueBytes, nodeBytes, evictedBytes, recordBytes, addressIn, valueIn, nodeIn, evictedIn, recordIn}
+use Rattle.model.specs.Layout.{flagByte, addressBytes, valueBytes, nodeBytes, evictingKind, endingKind, evictedBytes, recordBytes, addressIn, valueIn, nodeIn, endingOf, endingIn, recordIn}
 use Rattle.model.specs.Fits.{Opt, FitsAddress, FitsValue, FitsNode, FitsRecord}
 use Rattle.laws.proofs.Parts.{part-front, part-right, part-end, part-all, getD-right}
 use Rattle.laws.proofs.Bytes.{length-bytes, number-there, Bytes-cons, Bytes-all, Bytes-append, Bytes-zeros, Bytes-bytes}
@@ -30,11 +30,11 @@ pub length-node : (n : Node) → length (nodeBytes n) ≡ nodeSize
 unfolding nodeBytes
 length-node n = simp (length-append, length-bytes, length-value)
 
-pub length-evicted : (o : Option Node) → length (evictedBytes o) ≡ 1 + nodeSize
-length-evicted none = length-replicate {A = ℕ} (1 + nodeSize) 0
-length-evicted (some n) = ap suc (length-node n)
+pub length-evicted : (o : Option Node) → length (evictedBytes o) ≡ nodeSize
+length-evicted none = length-replicate {A = ℕ} nodeSize 0
+length-evicted (some n) = length-node n
 
-pub length-record : (r : AppliedPending) → length (recordBytes r) ≡ recordSize
+pub length-record : (r : EndedPending) → length (recordBytes r) ≡ recordSize
 unfolding recordBytes
 length-record r = simp (length-append, length-bytes, length-evicted)
 
@@ -59,12 +59,23 @@ Bytes-node n f =
     (Bytes-flag (n .connected) (flagByte (n .incoming) ∷ valueBytes (n .value)) (Bytes-flag (n .incoming) (valueBytes (n .value)) (Bytes-value (n .value) (f .value))))
 
 pub Bytes-evicted : (o : Option Node) → Opt FitsNode o → Bytes (evictedBytes o)
-Bytes-evicted none f = Bytes-zeros (1 + nodeSize)
-Bytes-evicted (some n) f = Bytes-cons 1 (nodeBytes n) (omega arith) (Bytes-node n f)
+Bytes-evicted none f = Bytes-zeros nodeSize
+Bytes-evicted (some n) f = Bytes-node n f
 
-pub Bytes-record : (r : AppliedPending) → FitsRecord r → Bytes (recordBytes r)
+kind-within : (e : Ending) → endingKind e < 256
+kind-within (Ending.Placed none) = omega arith
+kind-within (Ending.Placed (some n)) = omega arith
+kind-within Ending.FirstConnected = omega arith
+kind-within Ending.BucketFilter = omega arith
+kind-within Ending.TooManyIncoming = omega arith
+kind-within Ending.Inserted = omega arith
+kind-within Ending.FirstConfirmed = omega arith
+
+pub Bytes-record : (r : EndedPending) → FitsRecord r → Bytes (recordBytes r)
 unfolding recordBytes
-Bytes-record r f = Bytes-append (bytes keySize (r .inserted)) (evictedBytes (r .evicted)) (Bytes-bytes keySize (r .inserted)) (Bytes-evicted (r .evicted) (f .evicted))
+Bytes-record r f =
+    Bytes-append (bytes keySize (r .key)) (endingKind (r .ending) ∷ evictedBytes (evictedIn (r .ending))) (Bytes-bytes keySize (r .key))
+    (Bytes-cons (endingKind (r .ending)) (evictedBytes (evictedIn (r .ending))) (kind-within (r .ending)) (Bytes-evicted (evictedIn (r .ending)) (f .evicted)))
 
 -- what is written is read again
 
@@ -109,22 +120,32 @@ module _ (n : Node) where
   unfolding nodeIn
   node-there f = rw (node-key f, node-state, node-direction, node-value, flag-there (n .connected), flag-there (n .incoming), value-there (n .value) (f .value))
 
-pub evicted-there : (o : Option Node) (a : List ℕ) → length a ≡ keySize → Opt FitsNode o → evictedIn (a ++ evictedBytes o) ≡ o
+-- a kind with no node behind it
+plain-there : (k : ℕ) (a : List ℕ) → length a ≡ keySize → eqb k evictingKind ≡ false → endingIn (a ++ (k ∷ zeros nodeSize)) ≡ endingOf k
+plain-there k a e h = rw (getD-right a (k ∷ zeros nodeSize) keySize 0 e, h)
+
+pub ending-there : (x : Ending) (a : List ℕ) → length a ≡ keySize → Opt FitsNode (evictedIn x)
+    → endingIn (a ++ (endingKind x ∷ evictedBytes (evictedIn x))) ≡ x
 unfolding part
-evicted-there none a e f = rw (getD-right a (zeros (1 + nodeSize)) keySize 0 e)
-evicted-there (some n) a e f =
+ending-there (Ending.Placed none) a e f = plain-there 0 a e refl
+ending-there (Ending.Placed (some n)) a e f =
     rw (
-      getD-right a (1 ∷ nodeBytes n) keySize 0 e,
-      part-right a (1 ∷ nodeBytes n) keySize 1 nodeSize e,
+      getD-right a (evictingKind ∷ nodeBytes n) keySize 0 e,
+      part-right a (evictingKind ∷ nodeBytes n) keySize 1 nodeSize e,
       part-all (nodeBytes n) nodeSize (omega (arith, length-node n)),
       node-there n f,
     )
+ending-there Ending.FirstConnected a e f = plain-there 2 a e refl
+ending-there Ending.BucketFilter a e f = plain-there 3 a e refl
+ending-there Ending.TooManyIncoming a e f = plain-there 4 a e refl
+ending-there Ending.Inserted a e f = plain-there 5 a e refl
+ending-there Ending.FirstConfirmed a e f = plain-there 6 a e refl
 
-pub record-there : (r : AppliedPending) → FitsRecord r → recordIn (recordBytes r) ≡ r
+pub record-there : (r : EndedPending) → FitsRecord r → recordIn (recordBytes r) ≡ r
 unfolding recordIn recordBytes
 record-there r f =
     rw (
-      part-front (bytes keySize (r .inserted)) (evictedBytes (r .evicted)) keySize (length-bytes keySize (r .inserted)),
-      number-there keySize (r .inserted) (f .inserted),
-      evicted-there (r .evicted) (bytes keySize (r .inserted)) (length-bytes keySize (r .inserted)) (f .evicted),
+      part-front (bytes keySize (r .key)) (endingKind (r .ending) ∷ evictedBytes (evictedIn (r .ending))) keySize (length-bytes keySize (r .key)),
+      number-there keySize (r .key) (f .key),
+      ending-there (r .ending) (bytes keySize (r .key)) (length-bytes keySize (r .key)) (f .evicted),
     )

@@ -1,5 +1,5 @@
 -- The codes of a node's and of a record's bytes: what is written has them in range, and bytes that have are those of what is read.
-use mathlib.Core.Path.{_≡_, refl, sym, _∙_}
+use mathlib.Core.Path.{_≡_, refl, sym, _∙_, subst⁻¹}
 use mathlib.Core.Bool.{Bool, true, false, _&&_, _||_}
 use mathlib.Core.List.{List, [], _∷_, _++_}
 use mathlib.Core.Option.{Option, none, some}
@@ -11,9 +11,9 @@ use borrow.Author.Tests.{eqb-true, eqb-false, leb-true}
 use Rattle.model.specs.Base.{allBelow}
 use Rattle.model.specs.Bytes.{bytes, part, zeros, Bytes}
 use Rattle.model.specs.Value.{Address}
-use Rattle.model.specs.Node.{Node, AppliedPending}
+use Rattle.model.specs.Node.{Node, Ending, EndedPending, evictedIn}
 use Rattle.model.specs.Sizes.{keySize, slotSize, valueSize, nodeSize, recordSize}
-use Rattle.model.specs.Layout.{flagByte, addressBytes, valueBytes, nodeBytes, evictedBytes, recordBytes, addressIn, valueIn, nodeIn, evictedIn, recordIn}
+use Rattle.model.specs.Layout.{flagByte, addressBytes, valueBytes, nodeBytes, evictingKind, lastKind, endingKind, evictedBytes, recordBytes, addressIn, valueIn, nodeIn, endingOf, endingIn, recordIn}
 use Rattle.model.specs.Formed.{areZero, nodeCodes, recordFormed}
 use Rattle.model.specs.Fits.{Opt, FitsAddress, FitsValue, FitsNode, FitsRecord}
 use Rattle.laws.proofs.Tests.{cases, split, and-left, and-right, or-rest}
@@ -51,22 +51,32 @@ pub node-codes : (n : Node) → nodeCodes (nodeBytes n) ≡ true
 unfolding nodeBytes valueBytes
 node-codes n = codes-of (n .value .address) (bytes keySize (n .key)) (n .connected) (n .incoming) (bytes slotSize (n .value .slot)) (length-bytes keySize (n .key))
 
-evicted-formed : (o : Option Node) (a : List ℕ) → length a ≡ keySize → recordFormed (a ++ evictedBytes o) ≡ true
+-- a kind with no node behind it
+plain-formed : (k : ℕ) (a : List ℕ) → length a ≡ keySize → eqb k evictingKind ≡ false → leb k lastKind ≡ true → recordFormed (a ++ (k ∷ zeros nodeSize)) ≡ true
 unfolding recordFormed part
-evicted-formed none a e =
-    rw (getD-right a (zeros (1 + nodeSize)) keySize 0 e)
-    (areZero-part (a ++ zeros (1 + nodeSize)) (keySize + 1) nodeSize (part-right a (zeros (1 + nodeSize)) keySize 1 nodeSize e ∙ part-all (zeros nodeSize) nodeSize (omega (arith, length-replicate {A = ℕ} nodeSize 0))))
-evicted-formed (some n) a e =
+plain-formed k a e h l =
+    rw (getD-right a (k ∷ zeros nodeSize) keySize 0 e, h, l)
+    (areZero-part (a ++ (k ∷ zeros nodeSize)) (keySize + 1) nodeSize (part-right a (k ∷ zeros nodeSize) keySize 1 nodeSize e ∙ part-all (zeros nodeSize) nodeSize (omega (arith, length-replicate {A = ℕ} nodeSize 0))))
+
+ending-formed : (x : Ending) (a : List ℕ) → length a ≡ keySize → recordFormed (a ++ (endingKind x ∷ evictedBytes (evictedIn x))) ≡ true
+unfolding recordFormed part
+ending-formed (Ending.Placed none) a e = plain-formed 0 a e refl refl
+ending-formed (Ending.Placed (some n)) a e =
     rw (
-      getD-right a (1 ∷ nodeBytes n) keySize 0 e,
-      part-right a (1 ∷ nodeBytes n) keySize 1 nodeSize e,
+      getD-right a (evictingKind ∷ nodeBytes n) keySize 0 e,
+      part-right a (evictingKind ∷ nodeBytes n) keySize 1 nodeSize e,
       part-all (nodeBytes n) nodeSize (omega (arith, length-node n)),
     )
     (node-codes n)
+ending-formed Ending.FirstConnected a e = plain-formed 2 a e refl refl
+ending-formed Ending.BucketFilter a e = plain-formed 3 a e refl refl
+ending-formed Ending.TooManyIncoming a e = plain-formed 4 a e refl refl
+ending-formed Ending.Inserted a e = plain-formed 5 a e refl refl
+ending-formed Ending.FirstConfirmed a e = plain-formed 6 a e refl refl
 
-pub record-formed : (r : AppliedPending) → recordFormed (recordBytes r) ≡ true
+pub record-formed : (r : EndedPending) → recordFormed (recordBytes r) ≡ true
 unfolding recordBytes
-record-formed r = evicted-formed (r .evicted) (bytes keySize (r .inserted)) (length-bytes keySize (r .inserted))
+record-formed r = ending-formed (r .ending) (bytes keySize (r .key)) (length-bytes keySize (r .key))
 
 -- what is read
 
@@ -134,33 +144,55 @@ module _ (s : List ℕ) (l : length s ≡ nodeSize) (h : Bytes s) where
         value = value-fits (part s (keySize + 2) valueSize) (length-part s (keySize + 2) valueSize (omega arith)) (Bytes-part s (keySize + 2) valueSize h);
       }
 
+-- the kinds with no node behind them
+kind-back : (x : ℕ) → leb x lastKind ≡ true → eqb x evictingKind ≡ false → endingKind (endingOf x) ≡ x
+kind-back x l e =
+    split (eqb x 2) (λ n. rw n (sym (eqb-true x 2 n)))
+    (λ n2. split (eqb x 3) (λ n. rw (n2, n) (sym (eqb-true x 3 n)))
+    (λ n3. split (eqb x 4) (λ n. rw (n2, n3, n) (sym (eqb-true x 4 n)))
+    (λ n4. split (eqb x 5) (λ n. rw (n2, n3, n4, n) (sym (eqb-true x 5 n)))
+    (λ n5. split (eqb x 6) (λ n. rw (n2, n3, n4, n5, n) (sym (eqb-true x 6 n)))
+    (λ n6.
+    rw (n2, n3, n4, n5, n6)
+    (zero-of (leb-true x lastKind l) (eqb-false x evictingKind e) (eqb-false x 2 n2) (eqb-false x 3 n3) (eqb-false x 4 n4) (eqb-false x 5 n5) (eqb-false x 6 n6)))))))
+  where
+    zero-of : x ≤ lastKind → (x ≡ evictingKind → ⊥) → (x ≡ 2 → ⊥) → (x ≡ 3 → ⊥) → (x ≡ 4 → ⊥) → (x ≡ 5 → ⊥) → (x ≡ 6 → ⊥) → 0 ≡ x
+    zero-of m n1 n2 n3 n4 n5 n6 = omega arith
+
+none-evicted : (x : ℕ) → evictedIn (endingOf x) ≡ none
+none-evicted x =
+    let N : Ending → Type 0 = λ e. evictedIn e ≡ none in
+    cases N (eqb x 2) (λ _. refl)
+    (λ _. cases N (eqb x 3) (λ _. refl)
+    (λ _. cases N (eqb x 4) (λ _. refl) (λ _. cases N (eqb x 5) (λ _. refl) (λ _. cases N (eqb x 6) (λ _. refl) (λ _. refl)))))
+
 module _ (s : List ℕ) (l : length s ≡ recordSize) (h : Bytes s) where
-  evicted-back : recordFormed s ≡ true → evictedBytes (evictedIn s) ≡ part s keySize (1 + nodeSize)
+  ending-back : recordFormed s ≡ true → endingKind (endingIn s) ∷ evictedBytes (evictedIn (endingIn s)) ≡ part s keySize (1 + nodeSize)
   unfolding recordFormed
-  evicted-back c =
+  ending-back c =
       let p : List ℕ = part s (keySize + 1) nodeSize in
       let x : ℕ = getD s keySize 0 in
-      split (eqb x 0)
+      split (eqb x evictingKind)
       (λ e.
-      let z : areZero s (keySize + 1) nodeSize ≡ true = rw e at c in
-      rw (part-cons s keySize nodeSize (omega arith), eqb-true x 0 e, part-areZero s (keySize + 1) nodeSize (omega arith) z))
+      let d : nodeCodes p ≡ true = rw e at c in
+      rw (part-cons s keySize nodeSize (omega arith), e, eqb-true x evictingKind e, node-back p (length-part s (keySize + 1) nodeSize (omega arith)) (Bytes-part s (keySize + 1) nodeSize h) d))
       (λ e.
-      let d : (eqb x 1 && nodeCodes p) ≡ true = rw e at c in
-      let f : eqb x 1 ≡ true = and-left (eqb x 1) (nodeCodes p) d in
-      rw (part-cons s keySize nodeSize (omega arith), f, eqb-true x 1 f, node-back p (length-part s (keySize + 1) nodeSize (omega arith)) (Bytes-part s (keySize + 1) nodeSize h) (and-right (eqb x 1) (nodeCodes p) d)))
+      let d : (leb x lastKind && areZero s (keySize + 1) nodeSize) ≡ true = rw e at c in
+      let z : areZero s (keySize + 1) nodeSize ≡ true = and-right (leb x lastKind) (areZero s (keySize + 1) nodeSize) d in
+      rw (part-cons s keySize nodeSize (omega arith), e, kind-back x (and-left (leb x lastKind) (areZero s (keySize + 1) nodeSize) d) e, none-evicted x, part-areZero s (keySize + 1) nodeSize (omega arith) z))
 
   pub record-back : recordFormed s ≡ true → recordBytes (recordIn s) ≡ s
   unfolding recordIn recordBytes
   record-back c =
-      rw (number-back s 0 keySize (omega arith) h, evicted-back c, ← part-append s 0 keySize (1 + nodeSize)) (part-all s recordSize (omega arith))
+      rw (number-back s 0 keySize (omega arith) h, ending-back c, ← part-append s 0 keySize (1 + nodeSize)) (part-all s recordSize (omega arith))
 
   pub record-fits : FitsRecord (recordIn s)
   unfolding recordIn
   record-fits =
       record {
-        inserted = number-fits s 0 keySize (omega arith) h;
+        key = number-fits s 0 keySize (omega arith) h;
         evicted =
-            cases (Opt FitsNode) (eqb (getD s keySize 0) 1)
+            cases (λ (x : Ending). Opt FitsNode (evictedIn x)) (eqb (getD s keySize 0) evictingKind)
             (λ e. node-fits (part s (keySize + 1) nodeSize) (length-part s (keySize + 1) nodeSize (omega arith)) (Bytes-part s (keySize + 1) nodeSize h))
-            (λ e. tt);
+            (λ e. subst⁻¹ (Opt FitsNode) (none-evicted (getD s keySize 0)) tt);
       }

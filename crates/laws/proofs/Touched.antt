@@ -11,7 +11,7 @@ use borrow.Author.Tests.{leb-true}
 use Rattle.model.specs.Base.{joined}
 use Rattle.model.specs.Bytes.{number}
 use Rattle.model.specs.Bucket.{Bucket, numEntries, applyPending}
-use Rattle.model.specs.Node.{AppliedPending}
+use Rattle.model.specs.Node.{EndedPending, placedOf}
 use Rattle.model.specs.Table.{Table, numBuckets, write, indexIn}
 use Rattle.model.specs.Call.{Listing, Call}
 use Rattle.model.specs.Listing.{applied, visited, indices, indexAt, bucketsAt, appliedPass, applies}
@@ -34,8 +34,8 @@ all-visited P size (suc n) (i ∷ is) h = (h .0, all-visited P size (suc n - siz
 pub pass-below : (now n seen : ℕ) (is : List ℕ) (t : Table) → Below is → Below (appliedPass now n seen is t)
 pass-below now n seen [] t h = tt
 pass-below now n seen (i ∷ is) t h =
-    let a : Bucket × List AppliedPending = applyPending (t .settings .bucket) now (t .buckets i) in
-    let yielded : Bool = not (eqb (length (a .1)) 0) in
+    let a : Bucket × List EndedPending = applyPending (t .settings .bucket) now (t .buckets i) in
+    let yielded : Bool = not (eqb (length (placedOf (a .1))) 0) in
     let seen′ : ℕ = seen + cond yielded (numEntries (a .0)) 0 in
     (h .0, cases Below (yielded && leb n seen′) (λ _. tt) (λ _. pass-below now n seen′ is (write t i (a .0) (a .1)) (h .1)))
 

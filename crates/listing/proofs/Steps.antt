@@ -10,7 +10,7 @@ use lib.ListN.{length, take, length-append}
 use borrow.Author.Tests.{eqb-true, leb-true, le-leb, lt-leb}
 use Rattle.model.specs.Base.{same, every, joined}
 use Rattle.model.specs.Bytes.{Bytes}
-use Rattle.model.specs.Node.{Node, AppliedPending}
+use Rattle.model.specs.Node.{Node, EndedPending}
 use Rattle.model.specs.Table.{Table, Answer, numBuckets, maxRecords}
 use Rattle.model.specs.Sizes.{keySize, storageSize}
 use Rattle.model.specs.Call.{Listing, Call}
@@ -205,7 +205,7 @@ module _ (x : Shape) (target : List ℕ) (a : TargetOf x target) (now n : ℕ) (
 
     queue-is : queueFits c t ≡ leb (length (visitAll now n is t .0 .queue)) maxRecords
     unfolding queueFits act
-    queue-is = ap (λ (r : Table × List AppliedPending). leb (length (r .0 .queue)) maxRecords) left-is
+    queue-is = ap (λ (r : Table × List EndedPending). leb (length (r .0 .queue)) maxRecords) left-is
 
     -- the nodes listed are those found in the table that is left
     found-is : found (listingBy x target) n now t ≡ firstNodes n x (visitAll now n is t .0) is

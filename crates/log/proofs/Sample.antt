@@ -1,7 +1,7 @@
--- The sample's answers, and that log and table agree after it, by computing.
+-- The answers of the two samples, that log and table agree after each call, and what is claimed of pendings, by computing.
 use mathlib.Core.Path.{_≡_, refl}
 use mathlib.Core.Bool.{true}
-use mathlib.Core.List.{[], _∷_}
+use mathlib.Core.List.{[], _∷_, _++_}
 use lib.Count.{leadingZeros}
 use Rattle.model.specs.Base.{same, joined, tabulate}
 use Rattle.model.specs.Bytes.{number, bytes}
@@ -14,7 +14,8 @@ use Rattle.model.specs.Listing.{visited, found}
 use Rattle.model.specs.Question.{keysFit, codesInRange, clockFits, outputFits, kindFits}
 use Rattle.model.specs.Step.{act, queueFits, step}
 use Rattle.log.specs.Log.{group}
-use Rattle.log.specs.Sample.{sample, answersHold, logAgrees}
+use Rattle.log.specs.Pending.{waiting}
+use Rattle.log.specs.Sample.{sample, endings, newAgain, answersHold, endAgrees, logAgrees, pendingsHold}
 
 pub sample-answers : answersHold sample ≡ true
 unfolding leadingZeros same joined tabulate number bytes log2Distance bucketIndex sameNet sameValue counts ipFilterFails isFull failsBucketFilter isMaxIncoming insert applyDue applyPending reinsert updateStatus updateValue updatePending remove heldNodes failsTableFilter visited found keysFit codesInRange clockFits outputFits kindFits act queueFits step sample answersHold
@@ -23,3 +24,20 @@ sample-answers = refl
 pub sample-agrees : logAgrees (5 ∷ 6 ∷ []) sample ≡ true
 unfolding leadingZeros same joined tabulate number bytes log2Distance bucketIndex sameNet sameValue counts ipFilterFails isFull failsBucketFilter isMaxIncoming insert applyDue applyPending reinsert updateStatus updateValue updatePending remove heldNodes failsTableFilter visited found keysFit codesInRange clockFits outputFits kindFits act queueFits step sample group logAgrees
 sample-agrees = refl
+
+-- each of the six endings
+pub endings-answers : answersHold endings ≡ true
+unfolding leadingZeros same joined tabulate number bytes log2Distance bucketIndex sameNet sameValue counts ipFilterFails isFull failsBucketFilter isMaxIncoming insert applyDue applyPending reinsert updateStatus updateValue updatePending remove heldNodes failsTableFilter visited found keysFit codesInRange clockFits outputFits kindFits act queueFits step endings answersHold
+endings-answers = refl
+
+pub endings-agree : endAgrees (255 ∷ []) endings ≡ true
+unfolding leadingZeros same joined tabulate number bytes log2Distance bucketIndex sameNet sameValue counts ipFilterFails isFull failsBucketFilter isMaxIncoming insert applyDue applyPending reinsert updateStatus updateValue updatePending remove heldNodes failsTableFilter visited found keysFit codesInRange clockFits outputFits kindFits act queueFits step endings group endAgrees
+endings-agree = refl
+
+pub sample-pendings : pendingsHold sample ≡ true
+unfolding leadingZeros same joined tabulate number bytes log2Distance bucketIndex sameNet sameValue counts ipFilterFails isFull failsBucketFilter isMaxIncoming insert applyDue applyPending reinsert updateStatus updateValue updatePending remove heldNodes failsTableFilter visited found keysFit codesInRange clockFits outputFits kindFits act queueFits step sample waiting pendingsHold
+sample-pendings = refl
+
+pub endings-pendings : pendingsHold (endings ++ newAgain) ≡ true
+unfolding leadingZeros same joined tabulate number bytes log2Distance bucketIndex sameNet sameValue counts ipFilterFails isFull failsBucketFilter isMaxIncoming insert applyDue applyPending reinsert updateStatus updateValue updatePending remove heldNodes failsTableFilter visited found keysFit codesInRange clockFits outputFits kindFits act queueFits step endings waiting pendingsHold
+endings-pendings = refl

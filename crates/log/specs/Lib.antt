@@ -2,4 +2,5 @@
 pub mod Log
 pub mod Closest
 pub mod Claim
+pub mod Pending
 pub mod Sample

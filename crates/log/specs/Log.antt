@@ -9,7 +9,7 @@ use Rattle.model.specs.Base.{same, isSome, given}
 use Rattle.model.specs.Bytes.{number}
 use Rattle.model.specs.Key.{bucketIndex}
 use Rattle.model.specs.Value.{Value}
-use Rattle.model.specs.Node.{Node, AppliedPending}
+use Rattle.model.specs.Node.{Node, Ending, EndedPending}
 use Rattle.model.specs.Result.{InsertResult, isInserted, isFailed}
 use Rattle.model.specs.Table.{Settings, Answer}
 use Rattle.model.specs.Call.{Call, KeyCall, isOne, optional, valueOf}
@@ -20,7 +20,7 @@ use Rattle.model.specs.Formed.{isAt}
 pub record Entry : Type 0 where
   pub call : Call
   pub answer : Answer
-  pub records : List AppliedPending
+  pub records : List EndedPending
 
 -- What the log reads of an answer: that the call was refused; any Failed answer; remove answering true; Inserted.
 pub record Verdict : Type 0 where
@@ -116,10 +116,19 @@ abbrev pub evictionEvents : Option Node → List Event → List Event
 evictionEvents none es = es
 evictionEvents (some n) es = Event.departure (n .key) ∷ es
 
--- The records' events come first, oldest record first: an eviction is a departure, the applied key a placement.
-abbrev pub recordEvents : List AppliedPending → List Event → List Event
+-- The records' events come first, oldest record first: an eviction is a departure, the applied key a placement. 02, slip 4: only placed
+-- records are placements.
+abbrev pub endingEvents : ℕ → Ending → List Event → List Event
+endingEvents k (Ending.Placed n) es = Event.placement k ∷ evictionEvents n es
+endingEvents k Ending.FirstConnected es = es
+endingEvents k Ending.BucketFilter es = es
+endingEvents k Ending.TooManyIncoming es = es
+endingEvents k Ending.Inserted es = es
+endingEvents k Ending.FirstConfirmed es = es
+
+abbrev pub recordEvents : List EndedPending → List Event → List Event
 recordEvents [] es = es
-recordEvents (r ∷ rs) es = recordEvents rs (Event.placement (r .inserted) ∷ evictionEvents (r .evicted) es)
+recordEvents (r ∷ rs) es = recordEvents rs (endingEvents (r .key) (r .ending) es)
 
 -- Then come the call's own. Placement: Inserted; on a held key (held after the records: docs/DECISIONS.md, 10), a status step in a call
 -- that does not answer Failed.

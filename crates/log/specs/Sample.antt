@@ -1,21 +1,24 @@
--- A list of calls on which table and log are compared by computing. It fills bucket 5 (keys 32 to 63), evicts, fails, is refused, and
--- changes state, direction and value of held and of pending nodes.
-use Prim.Native.Nat.{ℕ, _*_}
-use mathlib.Core.Bool.{Bool, true, _&&_}
+-- Two lists of calls on which table and log are compared by computing. The first fills bucket 5 (keys 32 to 63), evicts, fails, is refused,
+-- and changes state, direction and value of held and of pending nodes. The second has each of the six endings of a pending (02, slip 4).
+use Prim.Native.Nat.{ℕ, _+_, _*_, _^_}
+use mathlib.Core.Bool.{Bool, true, _&&_, _||_}
 use mathlib.Core.List.{List, [], _∷_, _++_, map, reverse}
-use mathlib.Core.Option.{some}
+use mathlib.Core.Option.{none, some}
+use lib.Dec.{eqb}
 use Rattle.model.specs.Base.{every, joined}
 use Rattle.model.specs.Bytes.{zeros}
+use Rattle.model.specs.Node.{Ending}
 use Rattle.model.specs.Result.{FailureReason, BucketInsertResult, UpdateResult, InsertResult}
 use Rattle.model.specs.Bucket.{nodes}
-use Rattle.model.specs.Table.{Table, Answer}
+use Rattle.model.specs.Table.{Table, EntryKind, Answer}
 use Rattle.model.specs.Sizes.{nodeSize}
-use Rattle.model.specs.Call.{Listing, Call, KeyCall}
-use Rattle.model.specs.Step.{nodeOf}
+use Rattle.model.specs.Call.{ValueArgument, Listing, Call, KeyCall}
+use Rattle.model.specs.Step.{nodeOf, step}
 use Rattle.model.specs.Numbers.{sameNumbers, nodeNumbers, settingsNumbers, answerNumbers}
-use Rattle.model.specs.Rows.{noTable, key, plain, from}
-use Rattle.log.specs.Log.{Entry, Log, logOf, logBucket}
+use Rattle.model.specs.Rows.{noTable, key, plain, addressed, from}
+use Rattle.log.specs.Log.{Entry, Log, isRefused, logOf, logBucket}
 use Rattle.log.specs.Claim.{tableAfter, entries}
+use Rattle.log.specs.Pending.{answeredPending, recorded, stillWaiting, dueEnded, oneRecord}
 
 -- a new node at time 0, whose slot is its key
 abbrev inserted : (state : ℕ) → ℕ → Call × Answer
@@ -53,11 +56,72 @@ sample =
     ∷ inserted 1 64
     ∷ inserted 1 65
     ∷ (Call.onKey (key 64) (KeyCall.presentUpdate 1 2), Answer.Update UpdateResult.NotModified)
-    ∷ (Call.takeAppliedPending, Answer.TakeAppliedPending (some (record { inserted = 48; evicted = some (nodeOf (key 32) (plain 32) 0 0) })))
+    ∷ (Call.takeAppliedPending, Answer.TakeAppliedPending (some (record { key = 48; ending = Ending.Placed (some (nodeOf (key 32) (plain 32) 0 0)) })))
     -- a further new, with other settings and another local key; then 32 is of bucket 5 again
     ∷ (Call.new (key 1) 0 16 1 0, Answer.New)
     ∷ inserted 0 32
     ∷ []))
+
+-- The bucket is full and d stands at place 0: a connected node becomes pending, due ten later.
+abbrev waits : (k : ℕ) (v : ValueArgument) (direction now d : ℕ) → Call × Answer
+waits k v dr now d = (Call.onKey (key k) (KeyCall.insertOrUpdate v 1 dr now), Answer.InsertOrUpdate (InsertResult.Pending d))
+
+-- a call that applies what is due in the bucket
+abbrev looks : ℕ → Call × Answer
+looks now = (Call.onKey (key 63) (KeyCall.entry now), Answer.Entry EntryKind.Absent)
+
+abbrev takes : ℕ → Ending → Call × Answer
+takes k e = (Call.takeAppliedPending, Answer.TakeAppliedPending (some (record { key = k; ending = e })))
+
+-- All keys are of bucket 255. At most one connected incoming node, bucket filter on, timeout 10.
+unfoldable pub endings : List (Call × Answer)
+endings =
+    (Call.new (key (2 ^ 255)) 10 1 0 1, Answer.New)
+    -- four disconnected nodes and twelve connected
+    ∷ (from (inserted 0) 32 4
+    ++ (from (inserted 1) 36 12
+    -- 48 is placed and evicts 32
+    ++ (waits 48 (plain 48) 0 0 32
+    ∷ looks 10
+    -- 49 is cleared: place 0 is confirmed
+    ∷ waits 49 (plain 49) 0 10 33
+    ∷ (Call.onKey (key 33) (KeyCall.updateNodeStatus 1 2 11), Answer.Update UpdateResult.UpdatedAndPromoted)
+    -- 50 is dropped by the bucket filter: two nodes got addresses of its /24
+    ∷ waits 50 (addressed 1 50) 0 12 34
+    ∷ (Call.onKey (key 36) (KeyCall.updateNode (addressed 2 36) 2 13), Answer.Update UpdateResult.Updated)
+    ∷ (Call.onKey (key 37) (KeyCall.updateNode (addressed 3 37) 2 14), Answer.Update UpdateResult.Updated)
+    ∷ looks 22
+    -- 51 is dropped by the incoming limit: 38 became incoming
+    ∷ waits 51 (plain 51) 1 23 34
+    ∷ (Call.onKey (key 38) (KeyCall.updateNodeStatus 1 1 24), Answer.Update UpdateResult.Updated)
+    ∷ looks 33
+    -- 52 is cleared by a direct insert
+    ∷ waits 52 (plain 52) 0 34 34
+    ∷ (Call.onKey (key 39) (KeyCall.remove 35), Answer.Remove true)
+    ∷ (Call.onKey (key 52) (KeyCall.insertOrUpdate (plain 52) 1 0 36), Answer.InsertOrUpdate InsertResult.Inserted)
+    -- 53 is dropped: all sixteen are connected by then
+    ∷ waits 53 (plain 53) 0 37 34
+    ∷ (Call.onKey (key 35) (KeyCall.updateNodeStatus 1 2 38), Answer.Update UpdateResult.UpdatedAndPromoted)
+    ∷ (Call.onKey (key 34) (KeyCall.remove 39), Answer.Remove true)
+    ∷ (Call.onKey (key 54) (KeyCall.insertOrUpdate (plain 54) 1 0 40), Answer.InsertOrUpdate InsertResult.Inserted)
+    ∷ looks 47
+    ∷ takes 48 (Ending.Placed (some (nodeOf (key 32) (plain 32) 0 0)))
+    ∷ takes 49 Ending.FirstConfirmed
+    ∷ takes 50 Ending.BucketFilter
+    ∷ takes 51 Ending.TooManyIncoming
+    ∷ takes 52 Ending.Inserted
+    ∷ takes 53 Ending.FirstConnected
+    ∷ (Call.takeAppliedPending, Answer.TakeAppliedPending none)
+    -- 55 waits, changed while it does; once it is due, an Absent insert does not end it
+    ∷ (Call.onKey (key 54) (KeyCall.updateNodeStatus 0 2 48), Answer.Update UpdateResult.Updated)
+    ∷ waits 55 (plain 55) 0 49 54
+    ∷ (Call.onKey (key 55) (KeyCall.pendingUpdate 1 1), Answer.Update UpdateResult.UpdatedPending)
+    ∷ (Call.onKey (key 56) (KeyCall.absentInsert (plain 56) 1 0 60), Answer.Insert BucketInsertResult.Full)
+    ∷ [])))
+
+-- `new` ends 55 and leaves no record
+abbrev pub newAgain : List (Call × Answer)
+newAgain = (Call.new (key 0) 10 1 0 1, Answer.New) ∷ []
 
 abbrev pub calls : List (Call × Answer) → List Call
 calls cs = map (λ (c : Call × Answer). c .0) cs
@@ -84,6 +148,22 @@ abbrev pub beginnings : {A : Type 0} → List A → List (List A)
 beginnings [] = [] ∷ []
 beginnings (x ∷ xs) = [] ∷ map (λ ys. x ∷ ys) (beginnings xs)
 
--- so it is after each call
+-- so it is after all of them
+unfoldable pub endAgrees : List ℕ → List (Call × Answer) → Bool
+endAgrees is cs = agreesAfter is (calls cs)
+
+-- and after each
 unfoldable pub logAgrees : List ℕ → List (Call × Answer) → Bool
 logAgrees is cs = every (agreesAfter is) (beginnings (calls cs))
+
+-- Pendings: the counts after each call, a due pending of a bucket that the call applies, one record. h: the entries so far, newest first
+abbrev pub pendingsAfter : List Call → List Entry → Table → Bool
+pendingsAfter [] h t = true
+pendingsAfter (c ∷ cs) h t =
+    let o = step c t in
+    let h′ : List Entry = record { call = c; answer = o .answer; records = o .records } ∷ h in
+    eqb (answeredPending h′) (recorded h′ + stillWaiting (o .table))
+    && ((isRefused (o .answer) || dueEnded c t (o .records)) && (oneRecord c (o .records) && pendingsAfter cs h′ (o .table)))
+
+unfoldable pub pendingsHold : List (Call × Answer) → Bool
+pendingsHold cs = pendingsAfter (calls cs) [] noTable

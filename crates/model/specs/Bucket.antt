@@ -1,13 +1,13 @@
 -- A bucket and its rules (01, "bucket.rs (722)").
 use Prim.Native.Nat.{ℕ, _+_}
-use mathlib.Core.Bool.{Bool, true, false, cond, not, _&&_, _||_}
+use mathlib.Core.Bool.{Bool, true, false, cond, not, _&&_}
 use mathlib.Core.List.{List, [], _∷_, _++_}
 use mathlib.Core.Option.{Option, none, some}
 use lib.ListN.{length}
 use lib.Dec.{leb}
 use Rattle.model.specs.Base.{same, select, isSome}
 use Rattle.model.specs.Value.{Value, sameValue}
-use Rattle.model.specs.Node.{Node, PendingNode, AppliedPending, connectedIncoming, withStatus, withValue, sameStatus, promotes}
+use Rattle.model.specs.Node.{Node, PendingNode, Ending, EndedPending, ended, endedIf, connectedIncoming, withStatus, withValue, sameStatus, promotes}
 use Rattle.model.specs.Filter.{ipFilterFails, maxNodesPerSubnetBucket}
 use Rattle.model.specs.Result.{FailureReason, BucketInsertResult, UpdateResult, isInserted}
 
@@ -119,29 +119,49 @@ insert s now n b =
     (cond (isFull b) (insertFull s now n b (n .connected) (b .disconnected) (b .pending))
     (BucketInsertResult.Inserted, placed n b))))
 
+-- the pending, if it is of this key
+abbrev pub ofKey : ℕ → Option PendingNode → Option PendingNode
+ofKey k none = none
+ofKey k (some p) = cond (same (p .node .key) k) (some p) none
+
+-- 02, slip 4: an insert that answers Inserted ends the pending of its key. b is the bucket before it.
+abbrev pub insertEndings : Node → Bucket → BucketInsertResult → List EndedPending
+insertEndings n b r = cond (isInserted r) (endedIf Ending.Inserted (ofKey (n .key) (b .pending))) []
+
+-- 02, slip 4: the ending of a pending that was inserted with free places
+abbrev pub insertEnding : BucketInsertResult → Ending
+insertEnding BucketInsertResult.Inserted = Ending.Placed none
+insertEnding BucketInsertResult.FailedFilter = Ending.BucketFilter
+insertEnding BucketInsertResult.TooManyIncoming = Ending.TooManyIncoming
+-- never met: there is a free place, and a pending is not held
+insertEnding (BucketInsertResult.Pending k) = Ending.FirstConnected
+insertEnding BucketInsertResult.Full = Ending.FirstConnected
+insertEnding BucketInsertResult.NodeExists = Ending.Inserted
+
 -- 01, Apply pending: with free places it is an insert; a failure drops it. b is the bucket with the pending taken out.
-abbrev pub applyFree : BucketSettings → ℕ → Node → Bucket → Bucket × List AppliedPending
+abbrev pub applyFree : BucketSettings → ℕ → Node → Bucket → Bucket × List EndedPending
 applyFree s now n b =
     let r = insert s now n b in
-    cond (isInserted (r .0)) (r .1, record { inserted = n .key; evicted = none } ∷ []) (b, [])
+    (cond (isInserted (r .0)) (r .1) b, ended n (insertEnding (r .0)))
 
 -- 01, Apply pending: with 16 held, dropped if place 0 is connected, the bucket filter fails, or it is connected incoming at the
--- maximum; otherwise place 0 is evicted and the pending placed by its state
-abbrev pub applyFull : BucketSettings → Node → Bucket → List Node → Bucket × List AppliedPending
-applyFull s n b [] = (b, [])
+-- maximum; otherwise place 0 is evicted and the pending placed by its state. 02, slip 4: the record names the first that holds.
+abbrev pub applyFull : BucketSettings → Node → Bucket → List Node → Bucket × List EndedPending
+applyFull s n b [] = (b, ended n Ending.FirstConnected)
 applyFull s n b (d ∷ ds) =
-    cond (failsBucketFilter s (n .value) b || isMaxIncoming s n b) (b, [])
-    (put n (record { disconnected = ds; connected = b .connected; pending = none }), record { inserted = n .key; evicted = some d } ∷ [])
+    cond (failsBucketFilter s (n .value) b) (b, ended n Ending.BucketFilter)
+    (cond (isMaxIncoming s n b) (b, ended n Ending.TooManyIncoming)
+    (put n (record { disconnected = ds; connected = b .connected; pending = none }), ended n (Ending.Placed (some d))))
 
-unfoldable pub applyDue : BucketSettings → ℕ → Node → Bucket → Bucket × List AppliedPending
+unfoldable pub applyDue : BucketSettings → ℕ → Node → Bucket → Bucket × List EndedPending
 applyDue s now n b = cond (isFull b) (applyFull s n b (b .disconnected)) (applyFree s now n b)
 
-abbrev pub applyIfDue : BucketSettings → ℕ → Bucket → Option PendingNode → Bucket × List AppliedPending
+abbrev pub applyIfDue : BucketSettings → ℕ → Bucket → Option PendingNode → Bucket × List EndedPending
 applyIfDue s now b none = (b, [])
 applyIfDue s now b (some p) = cond (leb (p .deadline) now) (applyDue s now (p .node) (withPending none b)) (b, [])
 
--- 01, Apply pending: when deadline ≤ now; a drop leaves no record
-unfoldable pub applyPending : BucketSettings → ℕ → Bucket → Bucket × List AppliedPending
+-- 01, Apply pending: when deadline ≤ now; 02, slip 4: whatever its ending, it leaves a record
+unfoldable pub applyPending : BucketSettings → ℕ → Bucket → Bucket × List EndedPending
 applyPending s now b = applyIfDue s now b (b .pending)
 
 -- 01, update_status: it inserts the node again. The bucket has a free place then and does not hold the key, so only the two tests
@@ -165,6 +185,10 @@ isFirst k (n ∷ ns) = same (n .key) k
 -- 01, update_status: takes the node out; place 0 given Connected clears the pending, even when the insert fails
 abbrev pub takenOut : ℕ → Bool → Bucket → Bucket
 takenOut k u b = withPending (cond (u && isFirst k (nodes b)) none (b .pending)) (takeOut k b)
+
+-- 02, slip 4: place 0 given Connected ends the pending, even when the insert fails or the status was the same
+abbrev pub statusEndings : ℕ → Bool → Bucket → List EndedPending
+statusEndings k u b = cond (u && isFirst k (nodes b)) (endedIf Ending.FirstConfirmed (b .pending)) []
 
 -- bucket.rs, update_status and update_value on a key that is not held: a pending of the key is changed
 abbrev pub updateIfPending : ℕ → (Node → Node) → Bucket → Option PendingNode → UpdateResult × Bucket

@@ -7,7 +7,7 @@ use mathlib.Core.Option.{none, some}
 use lib.ListN.{replicate}
 use Rattle.model.specs.Base.{joined}
 use Rattle.model.specs.Bytes.{bytes, splice, zeros}
-use Rattle.model.specs.Node.{Node, AppliedPending}
+use Rattle.model.specs.Node.{Node, Ending, EndedPending}
 use Rattle.model.specs.Result.{FailureReason, BucketInsertResult, UpdateResult, InsertResult}
 use Rattle.model.specs.Table.{EntryKind, Answer}
 use Rattle.model.specs.Sizes.{keySize, slotSize, valueSize, nodeSize, placeAt, pendingAt, bucketSize, maxIncomingAt, tableFilterAt, bucketFilterAt, recordCountAt, paddingAt, paddingSize, recordAt, headerSize, storageSize}
@@ -33,9 +33,16 @@ updateFailed r = Answer.Update (UpdateResult.Failed r)
 abbrev insertFailed : FailureReason → Answer
 insertFailed r = Answer.InsertOrUpdate (InsertResult.Failed r)
 
+-- a record of key k
+abbrev ends : ℕ → Ending → EndedPending
+ends k e = record { key = k; ending = e }
+
 -- a record of key k that evicted the disconnected node d, whose slot is its key
-abbrev recordOf : ℕ → ℕ → AppliedPending
-recordOf k d = record { inserted = k; evicted = some (nodeOf (key d) (plain d) 0 0) }
+abbrev recordOf : ℕ → ℕ → EndedPending
+recordOf k d = ends k (Ending.Placed (some (nodeOf (key d) (plain d) 0 0)))
+
+abbrev taken : ℕ → Ending → Answer
+taken k e = Answer.TakeAppliedPending (some (ends k e))
 
 abbrev evicting : ℕ → ℕ → Answer
 evicting k d = Answer.TakeAppliedPending (some (recordOf k d))
@@ -97,6 +104,24 @@ twoPending = pendingAt100 ++ (from disconnected 64 16 ++ (Call.onKey (key 80) (K
 -- bucket filter on; bucket 5 full of disconnected nodes, two of one /24, and 48 pending since time 0 with a third value of it
 abbrev thirdPending : List Call
 thirdPending = twoOfANet ++ (from disconnected 34 14 ++ (connected 48 ∷ Call.onKey (key 48) (KeyCall.updateNode (addressed 3 0) 2 0) ∷ []))
+
+-- max_incoming m; bucket 5 full of disconnected nodes, and 48 pending since time 0, connected incoming
+abbrev pendingIncoming : ℕ → List Call
+pendingIncoming m = start m 0 0 ∷ (from disconnected 32 16 ++ (connected 48 ∷ Call.onKey (key 48) (KeyCall.pendingUpdate 1 1) ∷ []))
+
+-- the same with the bucket filter on, two of one /24 held, and 48 with a third value of it
+abbrev thirdIncoming : ℕ → List Call
+thirdIncoming m =
+    start m 0 1
+    ∷ Call.onKey (key 32) (KeyCall.absentInsert (plain 32) 0 0 0)
+    ∷ Call.onKey (key 33) (KeyCall.absentInsert (addressed 1 0) 0 0 0)
+    ∷ Call.onKey (key 34) (KeyCall.absentInsert (addressed 2 0) 0 0 0)
+    ∷ (from disconnected 35 13
+    ++ (connected 48 ∷ Call.onKey (key 48) (KeyCall.updateNode (addressed 3 0) 2 0) ∷ Call.onKey (key 48) (KeyCall.pendingUpdate 1 1) ∷ []))
+
+-- applies the pending of bucket 5
+abbrev dueAll : Call
+dueAll = Call.onKey (key 63) (KeyCall.entry 60000)
 
 abbrev insertOrUpdate : ℕ → Call
 insertOrUpdate k = Call.onKey (key k) (KeyCall.insertOrUpdate (plain k) 0 0 0)
@@ -171,9 +196,9 @@ twoApplied =
 abbrev plainBytes : (state key : ℕ) → List ℕ
 plainBytes st k = zeros 31 ++ (k ∷ st ∷ (zeros valueSize ++ (k ∷ [])))
 
--- the bytes of a record of key 48, with this evicted flag and evicted node
-abbrev evictedBytes : (flag : ℕ) (node : List ℕ) → List ℕ
-evictedBytes flag bs = key 48 ++ (flag ∷ bs)
+-- the bytes of a record of key 48, with this kind and evicted node
+abbrev evictedBytes : (kind : ℕ) (node : List ℕ) → List ℕ
+evictedBytes kind bs = key 48 ++ (kind ∷ bs)
 
 -- a header with n records, each of key 0 and with no evicted node, but for other bytes from an index on
 abbrev headerWith : (n index : ℕ) → List ℕ → List ℕ
@@ -307,11 +332,13 @@ allAnswers =
     ∷ EntryKind.Pending true false ∷ EntryKind.Absent ∷ EntryKind.SelfEntry ∷ [])
     ++ (map Answer.Found (1 ∷ 2 ∷ [])
     ++ (map Answer.TakeAppliedPending
-    (none ∷ some (record { inserted = 1; evicted = none }) ∷ some (recordOf 1 2) ∷ some (recordOf 2 2) ∷ some (recordOf 1 3)
-    ∷ some (record { inserted = 1; evicted = some (nodeOf (key 2) (plain 2) 0 1) })
-    ∷ some (record { inserted = 1; evicted = some (nodeOf (key 2) (plain 2) 1 0) })
-    ∷ some (record { inserted = 1; evicted = some (nodeOf (key 2) (addressed 1 2) 0 0) })
-    ∷ some (record { inserted = 1; evicted = some (nodeOf (key 2) (addressed 2 2) 0 0) }) ∷ [])))))))))
+    (none ∷ some (ends 1 (Ending.Placed none)) ∷ some (recordOf 1 2) ∷ some (recordOf 2 2) ∷ some (recordOf 1 3)
+    ∷ some (ends 1 (Ending.Placed (some (nodeOf (key 2) (plain 2) 0 1))))
+    ∷ some (ends 1 (Ending.Placed (some (nodeOf (key 2) (plain 2) 1 0))))
+    ∷ some (ends 1 (Ending.Placed (some (nodeOf (key 2) (addressed 1 2) 0 0))))
+    ∷ some (ends 1 (Ending.Placed (some (nodeOf (key 2) (addressed 2 2) 0 0))))
+    ∷ some (ends 1 Ending.FirstConnected) ∷ some (ends 1 Ending.BucketFilter) ∷ some (ends 1 Ending.TooManyIncoming) ∷ some (ends 1 Ending.Inserted)
+    ∷ some (ends 1 Ending.FirstConfirmed) ∷ some (ends 2 Ending.FirstConfirmed) ∷ [])))))))))
 
 unfoldable pub cases : List Row
 cases =
@@ -396,19 +423,19 @@ cases =
     ∷ Row.keys (pendingAt100 ++ (Call.onKey (key 48) (KeyCall.entry 60100) ∷ [])) 5 (numbers 33 16)
     -- with a free place it is an insert
     ∷ Row.answers (pendingAt100 ++ (Call.onKey (key 32) (KeyCall.remove 100) ∷ [])) (Call.onKey (key 48) (KeyCall.entry 60100) ∷ Call.takeAppliedPending ∷ [])
-    (present true ∷ Answer.TakeAppliedPending (some (record { inserted = 48; evicted = none })) ∷ [])
-    -- place 0 connected: it is dropped and leaves no record
+    (present true ∷ taken 48 (Ending.Placed none) ∷ [])
+    -- 16 held and place 0 connected: it is dropped
     ∷ Row.answers (pendingOverOne ++ (Call.onKey (key 32) (KeyCall.remove 0) ∷ [])) (connected 49 ∷ Call.onKey (key 48) (KeyCall.entry 60000) ∷ Call.takeAppliedPending ∷ [])
-    (Answer.Insert BucketInsertResult.Inserted ∷ absent ∷ noRecord ∷ [])
+    (Answer.Insert BucketInsertResult.Inserted ∷ absent ∷ taken 48 Ending.FirstConnected ∷ [])
     -- insert_or_update on a key that is only pending tries an insert; Inserted clears the pending
     ∷ Row.answers (pendingAt100 ++ (Call.onKey (key 32) (KeyCall.remove 100) ∷ []))
     (Call.onKey (key 48) (KeyCall.insertOrUpdate (plain 48) 1 0 100) ∷ Call.onKey (key 48) (KeyCall.entry 60100) ∷ Call.takeAppliedPending ∷ [])
-    (Answer.InsertOrUpdate InsertResult.Inserted ∷ present true ∷ noRecord ∷ [])
+    (Answer.InsertOrUpdate InsertResult.Inserted ∷ present true ∷ taken 48 Ending.Inserted ∷ [])
     -- place 0 given Connected clears the pending, even when that insert fails
     ∷ Row.answers
     (start 0 0 0 ∷ Call.onKey (key 32) (KeyCall.absentInsert (plain 32) 0 1 0) ∷ (from disconnected 33 15 ++ (connected 48 ∷ [])))
-    (Call.onKey (key 32) (KeyCall.updateNodeStatus 1 2 0) ∷ Call.onKey (key 48) (KeyCall.entry 0) ∷ [])
-    (updateFailed FailureReason.TooManyIncoming ∷ absent ∷ [])
+    (Call.onKey (key 32) (KeyCall.updateNodeStatus 1 2 0) ∷ Call.onKey (key 48) (KeyCall.entry 0) ∷ Call.takeAppliedPending ∷ [])
+    (updateFailed FailureReason.TooManyIncoming ∷ absent ∷ taken 48 Ending.FirstConfirmed ∷ [])
     -- Pending: update sets the status; the pending is placed by its state
     ∷ Row.answers pendingAt100 (Call.onKey (key 48) (KeyCall.pendingUpdate 0 0) ∷ Call.onKey (key 48) (KeyCall.entry 60099) ∷ Call.onKey (key 48) (KeyCall.entry 60100) ∷ [])
     (Answer.Update UpdateResult.UpdatedPending ∷ pending false ∷ present false ∷ [])
@@ -510,6 +537,37 @@ cases =
     -- the records that a call adds
     ∷ Row.adds twoPending (Call.onKey (key 32) (KeyCall.entry 60100)) (recordOf 48 32 ∷ [])
     ∷ Row.adds twoPending (Call.list Listing.iter 33 60100 (zeros (33 * nodeSize))) (recordOf 48 32 ∷ recordOf 80 64 ∷ [])
+    -- 02, slip 4: a due pending with a free place, at the maximum; with 16 held, the first ground in the order place 0, filter, maximum
+    ∷ Row.adds (pendingIncoming 0 ++ (Call.onKey (key 34) (KeyCall.remove 0) ∷ [])) dueAll (ends 48 Ending.TooManyIncoming ∷ [])
+    ∷ Row.adds (thirdPending ++ (Call.onKey (key 48) (KeyCall.pendingUpdate 1 1) ∷ [])) dueAll (ends 48 Ending.BucketFilter ∷ [])
+    ∷ Row.adds (thirdIncoming 0) dueAll (ends 48 Ending.BucketFilter ∷ [])
+    ∷ Row.adds (thirdIncoming 0 ++ (from (λ k. Call.onKey (key k) (KeyCall.presentUpdate 1 2)) 33 15 ++ (Call.onKey (key 32) (KeyCall.remove 0) ∷ connected 49 ∷ []))) dueAll
+    (ends 48 Ending.FirstConnected ∷ [])
+    -- place 0 given Connected by each call that has a status step, also where the step fails or the status was the same
+    ∷ Row.adds pendingAt100 (Call.onKey (key 32) (KeyCall.updateNodeStatus 1 2 100)) (ends 48 Ending.FirstConfirmed ∷ [])
+    ∷ Row.adds pendingAt100 (Call.onKey (key 32) (KeyCall.updateNode (plain 7) 1 100)) (ends 48 Ending.FirstConfirmed ∷ [])
+    ∷ Row.adds pendingAt100 (Call.onKey (key 32) (KeyCall.insertOrUpdate (plain 32) 1 0 100)) (ends 48 Ending.FirstConfirmed ∷ [])
+    ∷ Row.adds pendingAt100 (Call.onKey (key 32) (KeyCall.presentUpdate 1 2)) (ends 48 Ending.FirstConfirmed ∷ [])
+    ∷ Row.adds (pendingIncoming 0) (Call.onKey (key 32) (KeyCall.presentUpdate 1 1)) (ends 48 Ending.FirstConfirmed ∷ [])
+    ∷ Row.adds (pendingIncoming 0) (Call.onKey (key 32) (KeyCall.insertOrUpdate (plain 32) 1 1 0)) (ends 48 Ending.FirstConfirmed ∷ [])
+    ∷ Row.adds (pendingOverOne ++ (Call.onKey (key 32) (KeyCall.remove 0) ∷ [])) (Call.onKey (key 33) (KeyCall.presentUpdate 1 2)) (ends 48 Ending.FirstConfirmed ∷ [])
+    -- a due one has been ended by then, with the record that applying it left
+    ∷ Row.adds pendingAt100 (Call.onKey (key 33) (KeyCall.updateNodeStatus 1 2 60100)) (recordOf 48 32 ∷ [])
+    -- place 0 given Disconnected, or another place Connected; a value alone; a failed value's step; remove; an entry's insert; Pending update
+    ∷ Row.adds pendingAt100 (Call.onKey (key 32) (KeyCall.updateNodeStatus 0 2 100)) []
+    ∷ Row.adds pendingAt100 (Call.onKey (key 33) (KeyCall.presentUpdate 1 2)) []
+    ∷ Row.adds pendingAt100 (Call.onKey (key 32) (KeyCall.updateNode (plain 7) 2 100)) []
+    ∷ Row.adds (thirdPending ++ (Call.onKey (key 34) (KeyCall.updateNode (addressed 2 0) 2 0) ∷ [])) (Call.onKey (key 32) (KeyCall.updateNode (addressed 5 0) 1 0)) []
+    ∷ Row.adds pendingAt100 (Call.onKey (key 32) (KeyCall.remove 100)) []
+    ∷ Row.adds pendingAt100 (Call.onKey (key 49) (KeyCall.absentInsert (plain 49) 1 0 60100)) []
+    ∷ Row.adds pendingAt100 (Call.onKey (key 48) (KeyCall.pendingUpdate 0 0)) []
+    -- new leaves no record of the pendings that it ends
+    ∷ Row.adds twoPending (start 16 0 0) []
+    -- a direct insert of another key leaves the pending
+    ∷ Row.adds (pendingAt100 ++ (Call.onKey (key 33) (KeyCall.remove 100) ∷ [])) (Call.onKey (key 49) (KeyCall.insertOrUpdate (plain 49) 1 0 100)) []
+    -- a dropped pending neither counts in the applying pass nor stops it; given twice, its distance yields one record
+    ∷ Row.adds (thirdPending ++ (from disconnected 64 16 ++ (connected 80 ∷ [])))
+    (Call.list (Listing.nodesByDistances (6 ∷ 6 ∷ 7 ∷ [])) 16 60000 (zeros (16 * nodeSize))) (ends 48 Ending.BucketFilter ∷ recordOf 80 64 ∷ [])
     -- the bytes of a table, and how many there are
     ∷ Row.stores twoApplied 5
     (zeros 31 ++ (1 ∷ (zeros 6 ++ (234 ∷ 96 ∷ 7 ∷ 1 ∷ 0 ∷ 2 ∷ (zeros paddingSize ++ (zeros 31 ++ (48 ∷ 1 ∷ (plainBytes 0 32 ++ (zeros 31 ++ (49 ∷ []))))))))))
@@ -545,10 +603,10 @@ cases =
     ∷ Row.answers (start 0 0 0 ∷ from disconnected 32 16) (Call.onKey (key 48) (KeyCall.absentInsert (plain 48) 1 1 0) ∷ [])
     (Answer.Insert BucketInsertResult.TooManyIncoming ∷ [])
     -- a due pending is dropped: 16 held and the bucket filter fails; a free place and the filter fails; 16 held and at the maximum
-    ∷ Row.answers thirdPending (Call.onKey (key 48) (KeyCall.entry 60000) ∷ Call.takeAppliedPending ∷ []) (absent ∷ noRecord ∷ [])
-    ∷ Row.answers thirdPending (Call.onKey (key 34) (KeyCall.remove 0) ∷ Call.onKey (key 48) (KeyCall.entry 60000) ∷ Call.takeAppliedPending ∷ []) (Answer.Remove true ∷ absent ∷ noRecord ∷ [])
+    ∷ Row.answers thirdPending (Call.onKey (key 48) (KeyCall.entry 60000) ∷ Call.takeAppliedPending ∷ []) (absent ∷ taken 48 Ending.BucketFilter ∷ [])
+    ∷ Row.answers thirdPending (Call.onKey (key 34) (KeyCall.remove 0) ∷ Call.onKey (key 48) (KeyCall.entry 60000) ∷ Call.takeAppliedPending ∷ []) (Answer.Remove true ∷ absent ∷ taken 48 Ending.BucketFilter ∷ [])
     ∷ Row.answers (start 0 0 0 ∷ (from disconnected 32 16 ++ (connected 48 ∷ Call.onKey (key 48) (KeyCall.pendingUpdate 1 1) ∷ [])))
-    (Call.onKey (key 48) (KeyCall.entry 60000) ∷ Call.takeAppliedPending ∷ []) (absent ∷ noRecord ∷ [])
+    (Call.onKey (key 48) (KeyCall.entry 60000) ∷ Call.takeAppliedPending ∷ []) (absent ∷ taken 48 Ending.TooManyIncoming ∷ [])
     -- another place given Connected, or place 0 given Disconnected, leaves the pending
     ∷ Row.answers pendingAt100 (Call.onKey (key 33) (KeyCall.updateNodeStatus 1 2 100) ∷ Call.onKey (key 32) (KeyCall.updateNodeStatus 0 2 100) ∷ Call.onKey (key 48) (KeyCall.entry 100) ∷ [])
     (Answer.Update UpdateResult.UpdatedAndPromoted ∷ Answer.Update UpdateResult.NotModified ∷ pending true ∷ [])
@@ -626,7 +684,7 @@ questionCases =
     ∷ Row.formedHeader (headerWith 64 (recordAt 0 - 1) (1 ∷ [])) false
     ∷ Row.formedHeader (headerWith 64 (recordAt 63) (evictedBytes 1 (plainBytes 1 32))) true
     ∷ Row.formedHeader (headerWith 64 (recordAt 63) (evictedBytes 2 (plainBytes 1 32))) false
-    -- of a record: the evicted flag; the evicted node's state, direction, address flag and octets; unused bytes that are not zero
+    -- of a record: the kind; the evicted node's state, direction, address flag and octets; unused bytes that are not zero
     ∷ Row.formedRecord (evictedBytes 1 (plainBytes 1 32)) true
     ∷ Row.formedRecord (evictedBytes 2 (plainBytes 1 32)) false
     ∷ Row.formedRecord (evictedBytes 1 (plainBytes 2 32)) false
@@ -635,6 +693,10 @@ questionCases =
     ∷ Row.formedRecord (evictedBytes 1 (key 32 ++ (0 ∷ 0 ∷ 0 ∷ 0 ∷ 0 ∷ 0 ∷ 1 ∷ zeros slotSize))) false
     ∷ Row.formedRecord (evictedBytes 0 (zeros nodeSize)) true
     ∷ Row.formedRecord (evictedBytes 0 (zeros (nodeSize - 1) ++ (1 ∷ []))) false
+    ∷ Row.formedRecord (evictedBytes 2 (zeros nodeSize)) true
+    ∷ Row.formedRecord (evictedBytes 6 (zeros nodeSize)) true
+    ∷ Row.formedRecord (evictedBytes 6 (zeros (nodeSize - 1) ++ (1 ∷ []))) false
+    ∷ Row.formedRecord (evictedBytes 7 (zeros nodeSize)) false
     -- question 3: a key of 31 bytes, in front of a code out of range
     ∷ Row.refuses pendingAt100 (Call.onKey (bytes 31 32) (KeyCall.updateNodeStatus 2 2 0)) 3
     ∷ Row.refuses pendingAt100 (Call.new (bytes 31 0) 0 16 0 0) 3
@@ -660,6 +722,10 @@ questionCases =
     -- question 8: the 64th record fits, the next does not
     ∷ Row.answers (fullAtOnce ++ (applied 272 63 ++ (connected 335 ∷ []))) (settle 335 ∷ []) (Answer.Update UpdateResult.Updated ∷ [])
     ∷ Row.refuses (fullAtOnce ++ (applied 272 64 ++ (connected 336 ∷ []))) (settle 336) 8
+    -- 02, slip 4: it counts every ending; Present update is asked it too, and refused only where it ends the pending
+    ∷ Row.answers (fullAtOnce ++ (applied 272 63 ++ (connected 335 ∷ []))) (Call.onKey (key 319) (KeyCall.presentUpdate 1 2) ∷ []) (Answer.Update UpdateResult.UpdatedAndPromoted ∷ [])
+    ∷ Row.refuses (fullAtOnce ++ (applied 272 64 ++ (connected 336 ∷ []))) (Call.onKey (key 320) (KeyCall.presentUpdate 1 2)) 8
+    ∷ Row.answers (fullAtOnce ++ (applied 272 64 ++ (connected 336 ∷ []))) (Call.onKey (key 321) (KeyCall.presentUpdate 1 2) ∷ []) (Answer.Update UpdateResult.UpdatedAndPromoted ∷ [])
     -- question 2, of a whole storage: max_incoming 17; in front of a key of 31 bytes, and behind question 1
     ∷ Row.refusesBytes (zeros maxIncomingAt ++ (17 ∷ zeros (storageSize - (maxIncomingAt + 1)))) (Call.list (Listing.closestKeys (bytes 31 0)) 0 0 []) 2
     ∷ Row.refusesBytes (zeros maxIncomingAt ++ (17 ∷ [])) (Call.list Listing.iter 0 0 []) 1

@@ -10,7 +10,7 @@ use Rattle.model.specs.Base.{same}
 use Rattle.model.specs.Bytes.{Bytes}
 use Rattle.model.specs.Key.{bucketIndex}
 use Rattle.model.specs.Value.{Address, Value}
-use Rattle.model.specs.Node.{Node, PendingNode, AppliedPending}
+use Rattle.model.specs.Node.{Node, PendingNode, EndedPending, evictedIn}
 use Rattle.model.specs.Bucket.{Bucket, maxNodesPerBucket, emptyBucket, nodes, numEntries, holds, incomingNodes}
 use Rattle.model.specs.Table.{Settings, Table, numBuckets, maxRecords}
 use Rattle.model.specs.Sizes.{keySize, timeSize, slotSize}
@@ -77,9 +77,9 @@ FitsDeadline d = d < 256 ^ timeSize
 abbrev pub FitsPending : PendingNode → Type 0
 FitsPending p = FitsNode (p .node) × FitsDeadline (p .deadline)
 
-pub record FitsRecord (r : AppliedPending) : Type 0 where
-  pub inserted : r .inserted < 256 ^ keySize
-  pub evicted : Opt FitsNode (r .evicted)
+pub record FitsRecord (r : EndedPending) : Type 0 where
+  pub key : r .key < 256 ^ keySize
+  pub evicted : Opt FitsNode (evictedIn (r .ending))
 
 abbrev pub FitsBucket : Bucket → Type 0
 FitsBucket = Each FitsNode FitsDeadline

@@ -11,7 +11,7 @@ use Rattle.model.specs.Key.{bucketIndex}
 use Rattle.model.specs.Bucket.{maxNodesPerBucket, incomingNodes}
 use Rattle.model.specs.Table.{numBuckets, maxRecords}
 use Rattle.model.specs.Sizes.{keySize, timeSize, nodeSize, recordSize, placeAt, pendingAt, maxIncomingAt, tableFilterAt, bucketFilterAt, recordCountAt, paddingAt, paddingSize, recordAt}
-use Rattle.model.specs.Layout.{placeIn, nodesIn, recordPart, bucketPart}
+use Rattle.model.specs.Layout.{evictingKind, lastKind, placeIn, nodesIn, recordPart, bucketPart}
 
 -- the k bytes from index at on are zero
 unfoldable pub areZero : List ℕ → ℕ → ℕ → Bool
@@ -56,11 +56,11 @@ bucketFormed ofIndex maxIncoming bs =
     && (allBelow (getD bs 0 0) (λ j. nodeCodes (placeIn bs j))
     && areZero bs (placeAt (getD bs 0 0)) ((maxNodesPerBucket - getD bs 0 0) * nodeSize))))))))
 
--- a record's bytes: codes as in 4, unused bytes zero
+-- a record's bytes: its ending is one of the kinds, codes as in 4, unused bytes zero
 unfoldable pub recordFormed : List ℕ → Bool
 recordFormed bs =
-    cond (eqb (getD bs keySize 0) 0) (areZero bs (keySize + 1) nodeSize)
-    (eqb (getD bs keySize 0) 1 && nodeCodes (part bs (keySize + 1) nodeSize))
+    cond (eqb (getD bs keySize 0) evictingKind) (nodeCodes (part bs (keySize + 1) nodeSize))
+    (leb (getD bs keySize 0) lastKind && areZero bs (keySize + 1) nodeSize)
 
 -- the settings and the queue: codes as in 4, at most 64 records, unused bytes zero
 unfoldable pub headerFormed : List ℕ → Bool

@@ -8,7 +8,7 @@ use lib.Dec.{eqb}
 use Rattle.model.specs.Base.{joined, tabulate}
 use Rattle.model.specs.Bytes.{number, bytes, part, zeros}
 use Rattle.model.specs.Value.{Address, Value}
-use Rattle.model.specs.Node.{Node, PendingNode, AppliedPending}
+use Rattle.model.specs.Node.{Node, PendingNode, Ending, EndedPending, evictedIn}
 use Rattle.model.specs.Bucket.{Bucket, maxNodesPerBucket, nodes, numEntries}
 use Rattle.model.specs.Table.{Settings, Table, numBuckets, maxRecords}
 use Rattle.model.specs.Sizes.{keySize, timeSize, slotSize, valueSize, nodeSize, recordSize, placeAt, pendingAt, pendingSize, bucketSize, timeoutAt, maxIncomingAt, tableFilterAt, bucketFilterAt, recordCountAt, paddingSize, recordAt, bucketAt}
@@ -30,12 +30,28 @@ valueBytes v = addressBytes (v .address) ++ bytes slotSize (v .slot)
 unfoldable pub nodeBytes : Node → List ℕ
 nodeBytes n = bytes keySize (n .key) ++ (flagByte (n .connected) ∷ flagByte (n .incoming) ∷ valueBytes (n .value))
 
-abbrev pub evictedBytes : Option Node → List ℕ
-evictedBytes none = zeros (1 + nodeSize)
-evictedBytes (some n) = 1 ∷ nodeBytes n
+-- 02, slip 4: a placed pending's record is written as before; the other endings follow in the paper's order
+abbrev pub evictingKind : ℕ
+evictingKind = 1
 
-unfoldable pub recordBytes : AppliedPending → List ℕ
-recordBytes r = bytes keySize (r .inserted) ++ evictedBytes (r .evicted)
+abbrev pub endingKind : Ending → ℕ
+endingKind (Ending.Placed none) = 0
+endingKind (Ending.Placed (some n)) = evictingKind
+endingKind Ending.FirstConnected = 2
+endingKind Ending.BucketFilter = 3
+endingKind Ending.TooManyIncoming = 4
+endingKind Ending.Inserted = 5
+endingKind Ending.FirstConfirmed = 6
+
+abbrev pub lastKind : ℕ
+lastKind = 6
+
+abbrev pub evictedBytes : Option Node → List ℕ
+evictedBytes none = zeros nodeSize
+evictedBytes (some n) = nodeBytes n
+
+unfoldable pub recordBytes : EndedPending → List ℕ
+recordBytes r = bytes keySize (r .key) ++ (endingKind (r .ending) ∷ evictedBytes (evictedIn (r .ending)))
 
 abbrev pub pendingBytes : Option PendingNode → List ℕ
 pendingBytes none = zeros pendingSize
@@ -80,11 +96,21 @@ nodeIn bs =
       incoming = eqb (getD bs (keySize + 1) 0) 1;
     }
 
-abbrev pub evictedIn : List ℕ → Option Node
-evictedIn bs = cond (eqb (getD bs keySize 0) 1) (some (nodeIn (part bs (keySize + 1) nodeSize))) none
+-- the ending of a kind, where no node was evicted
+abbrev pub endingOf : ℕ → Ending
+endingOf k =
+    cond (eqb k 2) Ending.FirstConnected
+    (cond (eqb k 3) Ending.BucketFilter
+    (cond (eqb k 4) Ending.TooManyIncoming
+    (cond (eqb k 5) Ending.Inserted
+    (cond (eqb k 6) Ending.FirstConfirmed (Ending.Placed none)))))
 
-unfoldable pub recordIn : List ℕ → AppliedPending
-recordIn bs = record { inserted = number (part bs 0 keySize); evicted = evictedIn bs }
+abbrev pub endingIn : List ℕ → Ending
+endingIn bs =
+    cond (eqb (getD bs keySize 0) evictingKind) (Ending.Placed (some (nodeIn (part bs (keySize + 1) nodeSize)))) (endingOf (getD bs keySize 0))
+
+unfoldable pub recordIn : List ℕ → EndedPending
+recordIn bs = record { key = number (part bs 0 keySize); ending = endingIn bs }
 
 -- the bytes of place j of a bucket, and the nodes of the places that are held
 abbrev pub placeIn : List ℕ → ℕ → List ℕ

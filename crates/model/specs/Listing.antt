@@ -9,7 +9,7 @@ use Rattle.model.specs.Base.{joined, tabulate}
 use Rattle.model.specs.Bytes.{number}
 use Rattle.model.specs.Key.{distance}
 use Rattle.model.specs.Value.{Value}
-use Rattle.model.specs.Node.{Node, AppliedPending}
+use Rattle.model.specs.Node.{Node, EndedPending, placedOf}
 use Rattle.model.specs.Bucket.{Bucket, nodes, numEntries, applyPending}
 use Rattle.model.specs.Table.{Table, numBuckets, write}
 use Rattle.model.specs.Sort.{sortBy}
@@ -31,7 +31,7 @@ item (Listing.closestValues x) n = Item.ClosestValue (n .key) (n .value)
 item (Listing.closestValuesPredicate x p) n = Item.PredicateValue (n .key) (matches p (n .value)) (n .value)
 
 -- the due pendings of the buckets named are applied, one bucket after the other
-abbrev pub applyAll : ℕ → List ℕ → Table → Table × List AppliedPending
+abbrev pub applyAll : ℕ → List ℕ → Table → Table × List EndedPending
 applyAll now [] t = (t, [])
 applyAll now (i ∷ is) t =
     let a = applyPending (t .settings .bucket) now (t .buckets i) in
@@ -61,12 +61,12 @@ abbrev pub bucketsAt : List ℕ → List ℕ
 bucketsAt = joined (λ d. indices (indexAt d))
 
 -- 01, nodes_by_distances: the applying pass counts only buckets that yielded a record and stops after a record at which they hold n
--- or more. seen: what they hold so far.
+-- or more. 02, slip 4: the record of a pending that was placed. seen: what they hold so far.
 abbrev pub appliedPass : ℕ → ℕ → ℕ → List ℕ → Table → List ℕ
 appliedPass now n seen [] t = []
 appliedPass now n seen (i ∷ is) t =
     let a = applyPending (t .settings .bucket) now (t .buckets i) in
-    let yielded = not (eqb (length (a .1)) 0) in
+    let yielded = not (eqb (length (placedOf (a .1))) 0) in
     let seen′ = seen + cond yielded (numEntries (a .0)) 0 in
     i ∷ cond (yielded && leb n seen′) [] (appliedPass now n seen′ is (write t i (a .0) (a .1)))
 

@@ -8,7 +8,7 @@ use lib.ListN.{length}
 use lib.Dec.{eqb}
 use Rattle.model.specs.Base.{joined, tabulate}
 use Rattle.model.specs.Value.{Address}
-use Rattle.model.specs.Node.{Node, PendingNode, AppliedPending}
+use Rattle.model.specs.Node.{Node, PendingNode, Ending, EndedPending}
 use Rattle.model.specs.Result.{FailureReason, BucketInsertResult, UpdateResult, InsertResult}
 use Rattle.model.specs.Bucket.{Bucket, nodes}
 use Rattle.model.specs.Table.{Settings, Table, EntryKind, Answer, numBuckets}
@@ -32,18 +32,23 @@ abbrev pub nodeNumbers : Node → List ℕ
 nodeNumbers n =
     n .key ∷ flagByte (n .connected) ∷ flagByte (n .incoming) ∷ n .value .slot ∷ addressNumbers (n .value .address)
 
-abbrev pub evictedNumbers : Option Node → List ℕ
-evictedNumbers none = 0 ∷ []
-evictedNumbers (some n) = 1 ∷ nodeNumbers n
+abbrev pub endingNumbers : Ending → List ℕ
+endingNumbers (Ending.Placed none) = 0 ∷ []
+endingNumbers (Ending.Placed (some n)) = 1 ∷ nodeNumbers n
+endingNumbers Ending.FirstConnected = 2 ∷ []
+endingNumbers Ending.BucketFilter = 3 ∷ []
+endingNumbers Ending.TooManyIncoming = 4 ∷ []
+endingNumbers Ending.Inserted = 5 ∷ []
+endingNumbers Ending.FirstConfirmed = 6 ∷ []
 
 abbrev pub pendingNumbers : Option PendingNode → List ℕ
 pendingNumbers none = 0 ∷ []
 pendingNumbers (some p) = 1 ∷ p .deadline ∷ nodeNumbers (p .node)
 
-abbrev pub recordNumbers : AppliedPending → List ℕ
-recordNumbers r = r .inserted ∷ evictedNumbers (r .evicted)
+abbrev pub recordNumbers : EndedPending → List ℕ
+recordNumbers r = r .key ∷ endingNumbers (r .ending)
 
-abbrev pub takenNumbers : Option AppliedPending → List ℕ
+abbrev pub takenNumbers : Option EndedPending → List ℕ
 takenNumbers none = 0 ∷ []
 takenNumbers (some r) = 1 ∷ recordNumbers r
 

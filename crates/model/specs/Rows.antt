@@ -9,7 +9,7 @@ use lib.Dec.{eqb}
 use Rattle.model.specs.Base.{every, joined, tabulate}
 use Rattle.model.specs.Bytes.{bytes, part, zeros}
 use Rattle.model.specs.Key.{distance, bucketIndex}
-use Rattle.model.specs.Node.{Node, AppliedPending}
+use Rattle.model.specs.Node.{Node, EndedPending}
 use Rattle.model.specs.Result.{BucketInsertResult, UpdateResult}
 use Rattle.model.specs.Bucket.{nodes, firstConnectedPos, remove}
 use Rattle.model.specs.Table.{Table, EntryKind, Answer, emptyTable}
@@ -74,7 +74,7 @@ pub data Row : Type 0 where
   -- after the calls, the buckets that a call writes back, in turn
   writesBack : (before : List Call) (call : Call) (buckets : List ℕ) → Row
   -- after the calls, the records that a call adds to the queue
-  adds : (before : List Call) (call : Call) (records : List AppliedPending) → Row
+  adds : (before : List Call) (call : Call) (records : List EndedPending) → Row
   -- after the calls, the header's bytes but for the zeros behind them, and a bucket's bytes; settings, queue and bucket are read from them
   stores : (before : List Call) (bucket : ℕ) (header stored : List ℕ) → Row
   -- after the calls, header and bucket written into a storage of nines that ends behind the bucket: the buckets before it stay

@@ -21,7 +21,7 @@ valueSize = 5 + slotSize
 abbrev pub nodeSize : ℕ
 nodeSize = keySize + 2 + valueSize
 
--- a record: inserted key, evicted flag, evicted node
+-- a record: key, kind of its ending, evicted node
 abbrev pub recordSize : ℕ
 recordSize = keySize + 1 + nodeSize
 

@@ -6,10 +6,10 @@ use mathlib.Core.Option.{Option, none, some}
 use lib.ListN.{length}
 use lib.Dec.{leb}
 use Rattle.model.specs.Bytes.{number}
-use Rattle.model.specs.Node.{Node, AppliedPending}
+use Rattle.model.specs.Node.{Node, EndedPending}
 use Rattle.model.specs.Result.{FailureReason, UpdateResult, InsertResult}
-use Rattle.model.specs.Bucket.{Bucket, insert, updateStatus, updatePending, remove}
-use Rattle.model.specs.Table.{Settings, Table, EntryKind, Answer, Effect, maxRecords, emptyTable, afterApplying, asStored, failsTableFilter, updateNodeIn, insertOrUpdateIn, kindOf, withQueue, write, indexIn}
+use Rattle.model.specs.Bucket.{Bucket, insert, insertEndings, updateStatus, statusEndings, updatePending, remove}
+use Rattle.model.specs.Table.{Settings, Table, EntryKind, Answer, Effect, maxRecords, emptyTable, afterApplying, asStored, noEndings, failsTableFilter, updateNodeIn, updateNodeEndings, insertOrUpdateIn, insertOrUpdateEndings, kindOf, withQueue, write, indexIn}
 use Rattle.model.specs.Call.{ValueArgument, Call, KeyCall, isOne, optional, valueOf}
 use Rattle.model.specs.Listing.{Item, item, applyAll, applies, found}
 use Rattle.model.specs.Question.{firstFailed, keysFit, codesInRange, clockFits, outputFits, kindFits}
@@ -18,7 +18,7 @@ pub record Outcome : Type 0 where
   pub answer : Answer
   pub table : Table
   -- the records added to the queue
-  pub records : List AppliedPending
+  pub records : List EndedPending
   -- what a listing gives of each node that it lists
   pub items : List Item
 
@@ -51,22 +51,28 @@ ownAnswer (KeyCall.absentInsert v st dr now) = Answer.Refused 7
 abbrev pub effect : KeyCall → (key : List ℕ) → Table → ℕ → Bucket → Effect
 effect (KeyCall.updateNodeStatus st dr now) k t i =
     let s = t .settings .bucket in
-    afterApplying s now (λ b. let r = updateStatus s (number k) (isOne st) (optional dr) b in (Answer.Update (r .0), r .1))
+    afterApplying s now (statusEndings (number k) (isOne st))
+    (λ b. let r = updateStatus s (number k) (isOne st) (optional dr) b in (Answer.Update (r .0), r .1))
 effect (KeyCall.updateNode v st now) k t i =
     let s = t .settings .bucket in
-    afterApplying s now (updateNodeIn s (failsTableFilter t i (number k) (valueOf v)) now (number k) (valueOf v) (optional st))
+    afterApplying s now (updateNodeEndings s (failsTableFilter t i (number k) (valueOf v)) (number k) (valueOf v) (optional st))
+    (updateNodeIn s (failsTableFilter t i (number k) (valueOf v)) now (number k) (valueOf v) (optional st))
 effect (KeyCall.insertOrUpdate v st dr now) k t i =
     let s = t .settings .bucket in
-    afterApplying s now (insertOrUpdateIn s (failsTableFilter t i (number k) (valueOf v)) now (nodeOf k v st dr))
+    afterApplying s now (insertOrUpdateEndings s (failsTableFilter t i (number k) (valueOf v)) now (nodeOf k v st dr))
+    (insertOrUpdateIn s (failsTableFilter t i (number k) (valueOf v)) now (nodeOf k v st dr))
 effect (KeyCall.remove now) k t i =
     let s = t .settings .bucket in
-    afterApplying s now (λ b. let r = remove s now (number k) b in (Answer.Remove (r .0), r .1))
-effect (KeyCall.entry now) k t i = afterApplying (t .settings .bucket) now (λ b. (Answer.Entry (kindOf (number k) b), b))
+    afterApplying s now noEndings (λ b. let r = remove s now (number k) b in (Answer.Remove (r .0), r .1))
+effect (KeyCall.entry now) k t i = afterApplying (t .settings .bucket) now noEndings (λ b. (Answer.Entry (kindOf (number k) b), b))
 effect (KeyCall.presentUpdate st dr) k t i =
-    asStored (λ b. let r = updateStatus (t .settings .bucket) (number k) (isOne st) (optional dr) b in (Answer.Update (r .0), r .1))
-effect (KeyCall.pendingUpdate st dr) k t i = asStored (λ b. (Answer.Update UpdateResult.UpdatedPending, updatePending (isOne st) (isOne dr) b))
+    asStored (statusEndings (number k) (isOne st))
+    (λ b. let r = updateStatus (t .settings .bucket) (number k) (isOne st) (optional dr) b in (Answer.Update (r .0), r .1))
+effect (KeyCall.pendingUpdate st dr) k t i = asStored noEndings (λ b. (Answer.Update UpdateResult.UpdatedPending, updatePending (isOne st) (isOne dr) b))
 effect (KeyCall.absentInsert v st dr now) k t i =
-    asStored (λ b. let r = insert (t .settings .bucket) now (nodeOf k v st dr) b in (Answer.Insert (r .0), r .1))
+    let s = t .settings .bucket in
+    asStored (λ b. insertEndings (nodeOf k v st dr) b (insert s now (nodeOf k v st dr) b .0))
+    (λ b. let r = insert s now (nodeOf k v st dr) b in (Answer.Insert (r .0), r .1))
 
 -- the settings of a new table
 abbrev pub settingsOf : (localKey pendingTimeout maxIncoming tableFilter bucketFilter : ℕ) → Settings
@@ -74,7 +80,7 @@ settingsOf k timeout m tf bf =
     record { localKey = k; bucket = record { pendingTimeout = timeout; maxIncoming = m; filter = isOne bf }; tableFilter = isOne tf }
 
 -- 01, Queue: first in, first out
-abbrev pub takeOldest : Table → List AppliedPending → Outcome
+abbrev pub takeOldest : Table → List EndedPending → Outcome
 takeOldest t [] = unchanged (Answer.TakeAppliedPending none) t
 takeOldest t (a ∷ rest) = unchanged (Answer.TakeAppliedPending (some a)) (withQueue rest t)
 

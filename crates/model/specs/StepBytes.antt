@@ -7,7 +7,7 @@ use lib.ListN.{length}
 use lib.Dec.{eqb}
 use Rattle.model.specs.Base.{joined, tabulate}
 use Rattle.model.specs.Bytes.{number, splice}
-use Rattle.model.specs.Node.{AppliedPending}
+use Rattle.model.specs.Node.{EndedPending}
 use Rattle.model.specs.Table.{Table, Answer, numBuckets, indexIn}
 use Rattle.model.specs.Sizes.{bucketAt, storageSize}
 use Rattle.model.specs.Call.{Call}
@@ -21,7 +21,7 @@ pub record BytesOutcome : Type 0 where
   pub answer : Answer
   pub storage : List ℕ
   pub output : List ℕ
-  pub records : List AppliedPending
+  pub records : List EndedPending
 
 -- 2: does it hold a well-formed table (not asked by `new`)?
 abbrev pub holdsTable : Call → List ℕ → Bool

@@ -6,21 +6,21 @@ use mathlib.Core.Option.{Option, none, some}
 use Rattle.model.specs.Base.{same, at}
 use Rattle.model.specs.Key.{bucketIndex}
 use Rattle.model.specs.Value.{Value, sameValue}
-use Rattle.model.specs.Node.{Node, PendingNode, AppliedPending}
+use Rattle.model.specs.Node.{Node, PendingNode, EndedPending}
 use Rattle.model.specs.Filter.{ipFilterFails, maxNodesPerSubnetTable}
 use Rattle.model.specs.Result.{FailureReason, BucketInsertResult, UpdateResult, InsertResult, isFailed}
-use Rattle.model.specs.Bucket.{Bucket, BucketSettings, emptyBucket, nodes, get, holds, omit, insert, applyPending, updateStatus, updateValue, remove}
+use Rattle.model.specs.Bucket.{Bucket, BucketSettings, emptyBucket, nodes, get, holds, omit, insert, insertEndings, applyPending, updateStatus, statusEndings, updateValue, remove}
 
 pub record Settings : Type 0 where
   pub localKey : ℕ
   pub bucket : BucketSettings
   pub tableFilter : Bool
 
--- queue: the records of applied pendings, oldest first
+-- queue: the records of ended pendings, oldest first
 pub record Table : Type 0 where
   pub settings : Settings
   pub buckets : ℕ → Bucket
-  pub queue : List AppliedPending
+  pub queue : List EndedPending
 
 abbrev pub numBuckets : ℕ
 numBuckets = 256
@@ -49,24 +49,29 @@ pub data Answer : Type 0 where
   Remove : Bool → Answer
   Entry : EntryKind → Answer
   Found : ℕ → Answer
-  TakeAppliedPending : Option AppliedPending → Answer
+  TakeAppliedPending : Option EndedPending → Answer
 
 -- what a call does to the bucket of its key: its answer, the bucket, and the records that it adds
 pub record Effect : Type 0 where
   pub answer : Answer
   pub bucket : Bucket
-  pub records : List AppliedPending
+  pub records : List EndedPending
 
--- kbucket.rs: every call on a key but the entry actions applies a due pending first
-abbrev pub afterApplying : BucketSettings → ℕ → (Bucket → Answer × Bucket) → Bucket → Effect
-afterApplying s now f b =
+-- kbucket.rs: every call on a key but the entry actions applies a due pending first. 02, slip 4: g gives the records of the pending
+-- that the call's own step ends.
+abbrev pub afterApplying : BucketSettings → ℕ → (g : Bucket → List EndedPending) → (Bucket → Answer × Bucket) → Bucket → Effect
+afterApplying s now g f b =
     let a = applyPending s now b in
     let r = f (a .0) in
-    record { answer = r .0; bucket = r .1; records = a .1 }
+    record { answer = r .0; bucket = r .1; records = a .1 ++ g (a .0) }
 
 -- 01, Entries: the later action applies no pending
-abbrev pub asStored : (Bucket → Answer × Bucket) → Bucket → Effect
-asStored f b = let r = f b in record { answer = r .0; bucket = r .1; records = [] }
+abbrev pub asStored : (g : Bucket → List EndedPending) → (Bucket → Answer × Bucket) → Bucket → Effect
+asStored g f b = let r = f b in record { answer = r .0; bucket = r .1; records = g b }
+
+-- the call's own step ends no pending
+abbrev pub noEndings : Bucket → List EndedPending
+noEndings b = []
 
 abbrev pub kindIfPending : ℕ → Option PendingNode → EntryKind
 kindIfPending k none = EntryKind.Absent
@@ -141,6 +146,15 @@ updateNodeIn s fails now k v u b =
     cond fails (Answer.Update (UpdateResult.Failed FailureReason.TableFilter), remove s now k b .1)
     (let r = updateValue s k v b in cond (isFailed (r .0)) (Answer.Update (r .0), r .1) (thenStatus s k u (r .0) (r .1)))
 
+abbrev pub givenStatusEndings : ℕ → Option Bool → Bucket → List EndedPending
+givenStatusEndings k none b = []
+givenStatusEndings k (some u) b = statusEndings k u b
+
+-- 02, slip 4: of update_node's steps the status's step may end the pending
+abbrev pub updateNodeEndings : BucketSettings → Bool → ℕ → Value → Option Bool → Bucket → List EndedPending
+updateNodeEndings s fails k v u b =
+    cond fails [] (let r = updateValue s k v b in cond (isFailed (r .0)) [] (givenStatusEndings k u (r .1)))
+
 -- kbucket.rs, insert_or_update on a held key: what the value's step and the status's step answer together
 abbrev pub insertUpdates : (value status : UpdateResult) → InsertResult
 insertUpdates UpdateResult.Updated UpdateResult.Updated = InsertResult.Updated false
@@ -183,12 +197,17 @@ insertOrUpdateIn s fails now n b =
     (let r = updateStatus s (n .key) (n .connected) (some (n .incoming)) b in thenValue s (n .key) (n .value) (r .0) (r .1))
     (let r = insert s now n b in (Answer.InsertOrUpdate (inserts (r .0)), r .1)))
 
+-- 02, slip 4: of insert_or_update's steps the status's step, on a held key, or the insert may end the pending
+abbrev pub insertOrUpdateEndings : BucketSettings → Bool → ℕ → Node → Bucket → List EndedPending
+insertOrUpdateEndings s fails now n b =
+    cond fails [] (cond (holds (n .key) b) (statusEndings (n .key) (n .connected) b) (insertEndings n b (insert s now n b .0)))
+
 -- the table with another queue
-abbrev pub withQueue : List AppliedPending → Table → Table
+abbrev pub withQueue : List EndedPending → Table → Table
 withQueue q t = record { settings = t .settings; buckets = t .buckets; queue = q }
 
 -- the table with another bucket i and further records
-abbrev pub write : Table → ℕ → Bucket → List AppliedPending → Table
+abbrev pub write : Table → ℕ → Bucket → List EndedPending → Table
 write t i b rs = record { settings = t .settings; buckets = at i b (t .buckets); queue = t .queue ++ rs }
 
 abbrev pub indexIn : Table → ℕ → Option ℕ

@@ -4,7 +4,7 @@ use mathlib.Core.Path.{_≡_, sym, ap, _∙_}
 use mathlib.Core.Bool.{Bool, true, false, cond, not}
 use mathlib.Core.List.{List}
 use borrow.Author.Tests.{not-true, not-false}
-use Rattle.model.specs.Node.{AppliedPending}
+use Rattle.model.specs.Node.{EndedPending}
 use Rattle.model.specs.Bucket.{Bucket}
 use Rattle.model.specs.Table.{Answer, Effect}
 use Rattle.model.specs.Call.{Call, KeyCall}
@@ -27,7 +27,7 @@ has-room r t e f = sym e ∙ not-false r f
 -- a call at its key's bucket, by what `finish` answered and wrote
 module _ (s key : List ℕ) (c : KeyCall) {k : Key} {i : ℕ} (y : AtBucket s key (keyArguments c .codes) (keyArguments c .now) k i)
     (g : keyArguments c .kind (kindOfKey key (tableOf s)) ≡ true)
-    (b : Bucket) {rs : List AppliedPending} {r : Bool} {s′ : List ℕ} (x : (r ≡ roomFor s rs) × (s′ ≡ cond r (rewritten s i b rs) s))
+    (b : Bucket) {rs : List EndedPending} {r : Bool} {s′ : List ℕ} (x : (r ≡ roomFor s rs) × (s′ ≡ cond r (rewritten s i b rs) s))
     (p : rs ≡ effect c key (tableOf s) i (tableOf s .buckets i) .records) where
   abbrev e : Effect
   e = effect c key (tableOf s) i (tableOf s .buckets i)

@@ -5,3 +5,4 @@ pub mod OneKey
 pub mod Stored
 pub mod Steps
 pub mod Ended
+pub mod Endings

@@ -9,7 +9,7 @@ use lib.ListN.{length, length-append}
 use lib.Dec.{leb}
 use borrow.Author.Tests.{le-leb}
 use Rattle.model.specs.Bytes.{Bytes, number, splice}
-use Rattle.model.specs.Node.{AppliedPending}
+use Rattle.model.specs.Node.{EndedPending}
 use Rattle.model.specs.Bucket.{Bucket}
 use Rattle.model.specs.Table.{Table, Answer, Effect, write, indexIn, maxRecords}
 use Rattle.model.specs.Sizes.{headerSize, storageSize}
@@ -115,7 +115,7 @@ module _ (s : List ℕ) (i : ℕ) (e : Effect) where
   unfolding inBucket
   in-refused y = record { answer = rw y; storage = rw y }
 
-  pub in-done : (a : Answer) (s′ : List ℕ) (b : Bucket) (rs : List AppliedPending) → roomFor s rs ≡ true → s′ ≡ rewritten s i b rs → a ≡ e .answer → b ≡ e .bucket → rs ≡ e .records
+  pub in-done : (a : Answer) (s′ : List ℕ) (b : Bucket) (rs : List EndedPending) → roomFor s rs ≡ true → s′ ≡ rewritten s i b rs → a ≡ e .answer → b ≡ e .bucket → rs ≡ e .records
       → Answers a s′ (inBucket s i e)
   unfolding inBucket
   in-done a s′ b rs y w p q r =

@@ -7,7 +7,7 @@ use mathlib.Core.List.{List, _++_}
 use lib.ListN.{length, length-append}
 use borrow.Author.Tests.{leb-true}
 use Rattle.model.specs.Bytes.{splice}
-use Rattle.model.specs.Node.{AppliedPending}
+use Rattle.model.specs.Node.{EndedPending}
 use Rattle.model.specs.Bucket.{Bucket}
 use Rattle.model.specs.Table.{maxRecords, withQueue}
 use Rattle.model.specs.Sizes.{bucketAt, storageSize}
@@ -18,7 +18,7 @@ use Rattle.laws.proofs.Parts.{length-splice}
 use Rattle.laws.proofs.HeaderBytes.{length-header}
 use Rattle.on_key.specs.Answers.{roomFor, rewritten}
 
-module _ (s : List ℕ) (rs : List AppliedPending) where
+module _ (s : List ℕ) (rs : List EndedPending) where
   pub room : roomFor s rs ≡ true → length (tableOf s .queue) + length rs ≤ maxRecords
   unfolding roomFor
   room e = leb-true _ _ e

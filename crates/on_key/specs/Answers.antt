@@ -6,7 +6,8 @@ use mathlib.Core.List.{List, [], _∷_}
 use mathlib.Core.Option.{Option, none, some}
 use lib.ListN.{length}
 use lib.Dec.{eqb, leb}
-use Rattle.model.specs.Node.{PendingNode, AppliedPending}
+use Rattle.model.specs.Base.{same}
+use Rattle.model.specs.Node.{PendingNode, Ending, EndedPending, ended}
 use Rattle.model.specs.Bucket.{Bucket, applyPending}
 use Rattle.model.specs.Table.{Answer, Effect, write, numBuckets, maxRecords}
 use Rattle.model.specs.Sizes.{keySize, storageSize}
@@ -15,7 +16,7 @@ use Rattle.model.specs.Formed.{headerFormed, bucketFormedAt, formed}
 use Rattle.model.specs.Question.{firstFailed, deadlineFits}
 use Rattle.model.specs.StepBytes.{BytesOutcome, restore}
 use Rattle.bucket.specs.declared.KBucket.{KBucket}
-use Rattle.bucket.specs.declared.AppliedPending as code
+use Rattle.bucket.specs.declared.EndedPending as code
 use Rattle.bucket.specs.declared.UpdateAnswer.{UpdateAnswer}
 use Rattle.bucket.specs.declared.UpdateAnswer.the-variants as update-answer
 use Rattle.bucket.specs.Bucket.{Becomes}
@@ -72,17 +73,32 @@ isDue now none = false
 isDue now (some p) = leb (p .deadline) now
 
 -- bucket i after a due pending was applied, and the record of it
-pub record AppliedAt (s : List ℕ) (i now : ℕ) (b : KBucket) (a : code.AppliedPending) : Type 0 where
+pub record AppliedAt (s : List ℕ) (i now : ℕ) (b : KBucket) (a : code.EndedPending) : Type 0 where
   pub bucket : Becomes (tableOf s .settings .bucket) (applyPending (tableOf s .settings .bucket) now (tableOf s .buckets i) .0) b
   pub records : recordsOf a ≡ applyPending (tableOf s .settings .bucket) now (tableOf s .buckets i) .1
   pub codes : appliedCodes a ≡ true
 
+-- what there is of the first, or else of the second
+abbrev pub eitherOf : {A : Type 0} → List A → List A → List A
+eitherOf [] ys = ys
+eitherOf (x ∷ xs) ys = x ∷ xs
+
+-- 02, slip 4: a pending that a call on key k cleared: by a direct insert, where it is of that key, or else because place 0 was confirmed
+abbrev pub clearedAs : ℕ → PendingNode → Ending
+clearedAs k p = cond (same (p .node .key) k) Ending.Inserted Ending.FirstConfirmed
+
+-- the record of a pending that was there before a call's own step and is there no more
+abbrev pub gone : (key : ℕ) (before after : Option PendingNode) → List EndedPending
+gone k none q = []
+gone k (some p) none = ended (p .node) (clearedAs k p)
+gone k (some p) (some q) = []
+
 -- 01, question 8: the queue has room for the records
-unfoldable pub roomFor : List ℕ → List AppliedPending → Bool
+unfoldable pub roomFor : List ℕ → List EndedPending → Bool
 roomFor s rs = leb (length (tableOf s .queue) + length rs) maxRecords
 
 -- the storage with another bucket i and further records
-unfoldable pub rewritten : List ℕ → ℕ → Bucket → List AppliedPending → List ℕ
+unfoldable pub rewritten : List ℕ → ℕ → Bucket → List EndedPending → List ℕ
 rewritten s i b rs = restore s (i ∷ []) (write (tableOf s) i b rs)
 
 -- a call on the key's bucket i: question 8, then what the call does to the bucket

@@ -11,13 +11,15 @@ ghost use Rattle.model.specs.Layout.{tableOf};
 ghost use Rattle.model.specs.Formed.{headerFormed};
 ghost use Rattle.key.specs.Key.{num};
 ghost use Rattle.key.specs.Answers.{bucketIndexOf};
-ghost use Rattle.bucket.specs.Bucket.{bucketOf, Sound};
+ghost use Rattle.bucket.specs.Bucket.{pendingOf, bucketOf, Sound};
 ghost use Rattle.bucket.specs.Calls.{recordsOf, appliedCodes};
-ghost use Rattle.on_key.specs.Answers.{refusal, failedOfTwo, failedOfFive, Ready, Timely, isDue, AppliedAt, roomFor, rewritten};
+ghost use Rattle.on_key.specs.Answers.{refusal, failedOfTwo, failedOfFive, Ready, Timely, isDue, AppliedAt, eitherOf, gone, roomFor, rewritten};
 ghost use Rattle.on_key.specs.Start.{Begun};
 use bucket::Applied;
-use bucket::AppliedPending;
+use bucket::EndedPending;
+use bucket::Ending;
 use bucket::KBucket;
+use bucket::Pending;
 use key::BucketIndex;
 use key::Key;
 use storage::Layout;
@@ -104,7 +106,7 @@ pub fn apply_at(s: &[u8], i: usize, time: u64) -> Applied
     let b = buckets::load_bucket(s, i);
     let mut a = Applied {
         bucket: b,
-        applied: AppliedPending::Nothing,
+        applied: EndedPending::Nothing,
     };
     if is_due(s, i, time) {
         let loaded = a.bucket;
@@ -113,28 +115,42 @@ pub fn apply_at(s: &[u8], i: usize, time: u64) -> Applied
     a
 }
 
-// Internal: how many records an applied pending gives.
-pub fn count_of(applied: AppliedPending) -> usize
-    ensures { λ r. ⌜ (r ≡ length (recordsOf applied)) × (r ≤ 1) ⌝ }
+// Internal: the record of a call on this key: that of the pending which was applied, or else of the one that the call's own step ended.
+// `before` is the bucket's pending as the step found it, `after` as it left it.
+pub fn record_of(applied: EndedPending, before: Pending, after: Pending, key: Key) -> EndedPending
+    requires { ⌜ appliedCodes applied ≡ true ⌝ }
+    ensures { λ r. ⌜ recordsOf r ≡ eitherOf (recordsOf applied) (gone (num key) (pendingOf before) (pendingOf after)) ⌝ }
+    ensures { λ r. ⌜ appliedCodes r ≡ true ⌝ }
 {
-    match applied {
-        AppliedPending::Nothing => 0,
-        AppliedPending::Inserted(_) => 1,
-        AppliedPending::Replaced(_, _) => 1,
+    if bucket::count_of(applied) != 0 {
+        return applied;
+    }
+    if bucket::waits(after) {
+        return EndedPending::Nothing;
+    }
+    match before {
+        Pending::Nothing => EndedPending::Nothing,
+        Pending::Waiting(node, _) => {
+            let own = node.key;
+            if own.eq(key) {
+                return EndedPending::Dropped(own, Ending::Inserted);
+            }
+            EndedPending::Dropped(own, Ending::FirstConfirmed)
+        }
     }
 }
 
 // Internal: question 8 of a call that gives this record.
-pub fn has_room(s: &[u8], applied: AppliedPending) -> bool
+pub fn has_room(s: &[u8], applied: EndedPending) -> bool
     requires { ⌜ (length (now s) ≡ storageSize) × (headerFormed (now s) ≡ true) ⌝ }
     ensures { λ r. ⌜ r ≡ roomFor (now (s .entry)) (recordsOf applied) ⌝ }
 {
     let n = header::record_count(s);
-    n + count_of(applied) <= Layout::MAX_RECORDS
+    n + bucket::count_of(applied) <= Layout::MAX_RECORDS
 }
 
 // Internal: adds the record to the queue and stores bucket i.
-pub fn write_back(s: &mut [u8], i: usize, applied: AppliedPending, b: KBucket)
+pub fn write_back(s: &mut [u8], i: usize, applied: EndedPending, b: KBucket)
     requires { ⌜ Ready (now s) i ⌝ }
     requires { ⌜ roomFor (now s) (recordsOf applied) ≡ true ⌝ }
     requires { ⌜ appliedCodes applied ≡ true ⌝ }
@@ -185,7 +201,7 @@ pub fn begin_at(s: &[u8], key: &[u8], codes: bool, time: u64) -> Start
 }
 
 // Internal: question 8; where it passes, the record goes into the queue and bucket i is stored.
-pub fn finish(s: &mut [u8], i: usize, applied: AppliedPending, b: KBucket) -> bool
+pub fn finish(s: &mut [u8], i: usize, applied: EndedPending, b: KBucket) -> bool
     requires { ⌜ Ready (now s) i ⌝ }
     requires { ⌜ appliedCodes applied ≡ true ⌝ }
     requires { ⌜ Sound b ⌝ }

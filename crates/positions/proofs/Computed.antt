@@ -13,6 +13,7 @@ use Rattle.model.specs.Value.{sameNet, sameValue}
 use Rattle.model.specs.Bucket.{firstConnectedPos, isFull, failsBucketFilter, isMaxIncoming, insert, applyDue, applyPending, reinsert, updateStatus, remove}
 use Rattle.model.specs.Result.{BucketInsertResult, UpdateResult, Reply}
 use Rattle.key.specs.Key.{num, keyOf}
+use Rattle.model.specs.Node.{Ending}
 use Rattle.node.specs.Node.{nodeOf}
 use Rattle.bucket.specs.declared.KBucket.{KBucket}
 use Rattle.bucket.specs.Bucket.{bucketOf, keyAt, sound}
@@ -44,7 +45,7 @@ pub not-due : applyPendingCall pending 60099 .0 ≡ Reply.Answered []
 unfolding same counts ipFilterFails sameNet sameValue isFull failsBucketFilter isMaxIncoming insert applyDue applyPending num keyOf sound newCall insertCall applyPendingCall filled
 not-due = refl
 
-pub due : applyPendingCall pending 60100 .0 ≡ Reply.Answered (record { inserted = 48; evicted = some (nodeOf (nodeFrom 32 plain 0 0)) } ∷ [])
+pub due : applyPendingCall pending 60100 .0 ≡ Reply.Answered (record { key = 48; ending = Ending.Placed (some (nodeOf (nodeFrom 32 plain 0 0))) } ∷ [])
 unfolding same counts ipFilterFails sameNet sameValue isFull failsBucketFilter isMaxIncoming insert applyDue applyPending num keyOf sound newCall insertCall applyPendingCall filled
 due = refl
 

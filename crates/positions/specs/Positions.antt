@@ -5,7 +5,7 @@ use mathlib.Core.List.{List, [], _∷_}
 use mathlib.Core.Option.{Option, none, some}
 use Rattle.model.specs.Base.{same}
 use Rattle.model.specs.Key.{bucketIndex}
-use Rattle.model.specs.Node.{AppliedPending}
+use Rattle.model.specs.Node.{EndedPending}
 use Rattle.model.specs.Result.{BucketInsertResult, UpdateResult, Reply}
 use Rattle.key.specs.declared.Key.{Key}
 use Rattle.key.specs.Key.{num}
@@ -78,13 +78,13 @@ updateNumber (Reply.Answered (UpdateResult.Failed r)) = 13
 updateNumber (Reply.Answered UpdateResult.NotModified) = 14
 
 -- no pending was applied
-abbrev pub noneApplied : Reply (List AppliedPending) → Bool
+abbrev pub noneApplied : Reply (List EndedPending) → Bool
 noneApplied (Reply.Refused q) = false
 noneApplied (Reply.Answered []) = true
 noneApplied (Reply.Answered (r ∷ rs)) = false
 
 -- the pending of this key was applied
-abbrev pub appliedKey : ℕ → Reply (List AppliedPending) → Bool
+abbrev pub appliedKey : ℕ → Reply (List EndedPending) → Bool
 appliedKey k (Reply.Refused q) = false
 appliedKey k (Reply.Answered []) = false
-appliedKey k (Reply.Answered (r ∷ rs)) = same (r .inserted) k
+appliedKey k (Reply.Answered (r ∷ rs)) = same (r .key) k

@@ -5,8 +5,8 @@ ghost use Rattle.key.specs.Answers.{bucketIndexOf};
 ghost use Rattle.model.specs.Result.{Reply};
 ghost use Rattle.bucket.specs.Calls.{insertAnswerOf, applyAnswerOf, updateAnswerOf, insertResultOf, updateResultOf};
 ghost use Rattle.positions.specs.Positions.{indexNumber, insertNumber, namesKey, updateNumber, noneApplied, appliedKey};
-use bucket::AppliedPending;
 use bucket::ApplyAnswer;
+use bucket::EndedPending;
 use bucket::InsertAnswer;
 use bucket::InsertResult;
 use bucket::UpdateAnswer;
@@ -99,9 +99,10 @@ pub(crate) fn none_applied(a: ApplyAnswer) -> bool
     match a {
         ApplyAnswer::Refused(_) => false,
         ApplyAnswer::Answered(p) => match p {
-            AppliedPending::Nothing => true,
-            AppliedPending::Inserted(_) => false,
-            AppliedPending::Replaced(_, _) => false,
+            EndedPending::Nothing => true,
+            EndedPending::Placed(_) => false,
+            EndedPending::Replaced(_, _) => false,
+            EndedPending::Dropped(_, _) => false,
         },
     }
 }
@@ -113,9 +114,10 @@ pub(crate) fn applied_key(a: ApplyAnswer, key: Key) -> bool
     match a {
         ApplyAnswer::Refused(_) => false,
         ApplyAnswer::Answered(p) => match p {
-            AppliedPending::Nothing => false,
-            AppliedPending::Inserted(k) => k.eq(key),
-            AppliedPending::Replaced(k, _) => k.eq(key),
+            EndedPending::Nothing => false,
+            EndedPending::Placed(k) => k.eq(key),
+            EndedPending::Replaced(k, _) => k.eq(key),
+            EndedPending::Dropped(k, _) => k.eq(key),
         },
     }
 }
@@ -206,21 +208,25 @@ pub(crate) fn say_applied(a: ApplyAnswer) {
     }
 }
 
-fn say_record(p: AppliedPending) {
+fn say_record(p: EndedPending) {
     match p {
-        AppliedPending::Nothing => {
+        EndedPending::Nothing => {
             io::write_all(1, b"not applied");
         }
-        AppliedPending::Inserted(k) => {
+        EndedPending::Placed(k) => {
             say_key(k);
             io::write_all(1, b" inserted");
         }
-        AppliedPending::Replaced(k, n) => {
+        EndedPending::Replaced(k, n) => {
             let evicted = n.key;
             say_key(k);
             io::write_all(1, b" inserted, ");
             say_key(evicted);
             io::write_all(1, b" evicted");
+        }
+        EndedPending::Dropped(k, _) => {
+            say_key(k);
+            io::write_all(1, b" dropped");
         }
     }
 }

@@ -3,6 +3,7 @@ ghost use mathlib.Core.Path.{_≡_};
 ghost use mathlib.Core.List.{[], _∷_};
 ghost use mathlib.Core.Option.{none, some};
 ghost use Prim.Native.Nat.{_+_, _≤_};
+ghost use Rattle.model.specs.Node.{Ending};
 ghost use Rattle.model.specs.Bucket.{firstConnectedPos};
 ghost use Rattle.model.specs.Result.{BucketInsertResult, UpdateResult, Reply};
 ghost use Rattle.key.specs.Answers.{bucketIndexOf};
@@ -160,7 +161,7 @@ pub(crate) fn row5() -> Visits
 // 6: pending at 100, timeout 60,000; applied at 60,099; applied at 60,100.
 pub(crate) fn row6() -> Applies
     ensures { λ r. ⌜ applyAnswerOf (r .early) ≡ Reply.Answered [] ⌝ }
-    ensures { λ r. ⌜ applyAnswerOf (r .due) ≡ Reply.Answered (record { inserted = 48; evicted = some (nodeOf (nodeFrom 32 plain 0 0)) } ∷ []) ⌝ }
+    ensures { λ r. ⌜ applyAnswerOf (r .due) ≡ Reply.Answered (record { key = 48; ending = Ending.Placed (some (nodeOf (nodeFrom 32 plain 0 0))) } ∷ []) ⌝ }
 {
     let b = empty(16, 0);
     let full = fill(b, 32, 16, 0);

@@ -35,8 +35,12 @@ impl Layout {
 
     pub const NODE: usize = Layout::VALUE_AT + Layout::VALUE;
 
-    // A record of the queue: inserted key, evicted flag, evicted node.
+    // A record of the queue: key, kind of its ending, evicted node.
     pub const RECORD: usize = Layout::KEY + 1 + Layout::NODE;
+    // The kind of a record with an evicted node, and the greatest kind.
+    pub const EVICTING_KIND: u8 = 1;
+
+    pub const LAST_KIND: u8 = 6;
 
     // A bucket: count, first connected place, the places, pending flag, pending node, deadline.
     pub const PLACES_AT: usize = 2;

@@ -10,7 +10,7 @@ use lib.Dec.{eqb, leb}
 use borrow.Author.Tests.{le-leb}
 use Rattle.model.specs.Base.{first}
 use Rattle.model.specs.Bytes.{Bytes, splice, number}
-use Rattle.model.specs.Node.{AppliedPending}
+use Rattle.model.specs.Node.{EndedPending}
 use Rattle.model.specs.Bucket.{maxNodesPerBucket}
 use Rattle.model.specs.Table.{Table, Answer, emptyTable, maxRecords, withQueue}
 use Rattle.model.specs.Sizes.{keySize, storageSize}
@@ -30,16 +30,16 @@ use Rattle.on_key.proofs.OneKey.{refused-bytes, acted-bytes}
 
 -- take_applied_pending
 
-oldest-answer : (t : Table) (q : List AppliedPending) → Answer.TakeAppliedPending (first (take 1 q)) ≡ takeOldest t q .answer
+oldest-answer : (t : Table) (q : List EndedPending) → Answer.TakeAppliedPending (first (take 1 q)) ≡ takeOldest t q .answer
 oldest-answer t [] = refl
 oldest-answer t (a ∷ q) = refl
 
-rest-header : (t : Table) (q : List AppliedPending) → t .queue ≡ q → headerBytes (withQueue (drop 1 q) t) ≡ headerBytes (takeOldest t q .table)
+rest-header : (t : Table) (q : List EndedPending) → t .queue ≡ q → headerBytes (withQueue (drop 1 q) t) ≡ headerBytes (takeOldest t q .table)
 unfolding headerBytes
 rest-header t [] e = rw e
 rest-header t (a ∷ q) e = refl
 
-rest-fits : (t : Table) (q : List AppliedPending) → t .queue ≡ q → length q ≤ maxRecords → length (takeOldest t q .table .queue) ≤ maxRecords
+rest-fits : (t : Table) (q : List EndedPending) → t .queue ≡ q → length q ≤ maxRecords → length (takeOldest t q .table .queue) ≤ maxRecords
 rest-fits t [] e h = rw e h
 rest-fits t (a ∷ q) e h = omega arith
 
@@ -51,14 +51,14 @@ module _ (s : List ℕ) where
   unfolding failedOfTwo keysFit codesInRange clockFits outputFits kindFits
   take-refused n e = refused-bytes Call.takeAppliedPending s n (front-fails (firstTwo s) ((8, queueFits Call.takeAppliedPending t) ∷ []) n e)
 
-  pub take-accepted : Bytes s → failedOfTwo s ≡ none → (rs : List AppliedPending) → rs ≡ take 1 (t .queue) → (s′ : List ℕ)
+  pub take-accepted : Bytes s → failedOfTwo s ≡ none → (rs : List EndedPending) → rs ≡ take 1 (t .queue) → (s′ : List ℕ)
       → s′ ≡ splice s 0 (headerBytes (withQueue (drop 1 (t .queue)) t)) → Answers (Answer.TakeAppliedPending (first rs)) s′ (stepBytes Call.takeAppliedPending s)
   unfolding failedOfTwo keysFit codesInRange clockFits outputFits kindFits queueFits act restore
   take-accepted b e rs r s′ w =
       let p = passed-two s e in
       let q : leb (length (takeOldest t (t .queue) .table .queue)) maxRecords ≡ true = le-leb _ _ (rest-fits t (t .queue) refl (fits-back s b (p .size) (p .formed) .queue)) in
       acted-bytes Call.takeAppliedPending s _ s′ (front-passes (firstTwo s) ((8, queueFits Call.takeAppliedPending t) ∷ []) e ∙ (rw q))
-      (ap (λ (l : List AppliedPending). Answer.TakeAppliedPending (first l)) r ∙ oldest-answer t (t .queue)) (w ∙ ap (splice s 0) (rest-header t (t .queue) refl))
+      (ap (λ (l : List EndedPending). Answer.TakeAppliedPending (first l)) r ∙ oldest-answer t (t .queue)) (w ∙ ap (splice s 0) (rest-header t (t .queue) refl))
 
 -- new
 

@@ -5,7 +5,7 @@ ghost use Rattle.model.specs.Call.{Call, KeyCall};
 ghost use Rattle.model.specs.StepBytes.{stepBytes};
 ghost use Rattle.on_key.specs.Answers.{Answers, updateAnswer};
 ghost use Rattle.table.specs.Calls.{removeAnswer, takeAnswer, takeCodes, newAnswer};
-use bucket::AppliedPending;
+use bucket::EndedPending;
 use bucket::NewAnswer;
 use bucket::RemoveAnswer;
 use bucket::UpdateAnswer;
@@ -13,10 +13,10 @@ use bucket::UpdateResult;
 use on_key::Start;
 use storage::Layout;
 
-// The oldest record of an applied pending, Nothing where the queue is empty.
+// The oldest record of an ended pending, Nothing where the queue is empty.
 pub enum TakeAnswer {
     Refused(u8),
-    Answered(AppliedPending),
+    Answered(EndedPending),
 }
 
 // Takes the node of the key out.
@@ -64,10 +64,13 @@ pub fn update_node_status(
             let a = on_key::apply_at(s, i, time);
             let applied = a.applied;
             let b = a.bucket;
+            let before = b.pending;
             let r = b.update_status_sound(k, state, direction);
             let left = r.bucket;
             let result = r.result;
-            if !on_key::finish(s, i, applied, left) {
+            let after = left.pending;
+            let record = on_key::record_of(applied, before, after, k);
+            if !on_key::finish(s, i, record, left) {
                 return UpdateAnswer::Refused(8);
             }
             UpdateAnswer::Answered(result)
@@ -75,7 +78,7 @@ pub fn update_node_status(
     }
 }
 
-// Takes the oldest record of an applied pending out of the queue.
+// Takes the oldest record of an ended pending out of the queue.
 pub fn take_applied_pending(s: &mut [u8]) -> TakeAnswer
     ensures { λ r. ⌜ Answers (takeAnswer r) (now (s .exit)) (stepBytes Call.takeAppliedPending (now (s .entry))) ⌝ }
     ensures { λ r. ⌜ takeCodes r ≡ true ⌝ }

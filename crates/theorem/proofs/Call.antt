@@ -8,10 +8,10 @@ use native.Mathlib.Omega.{arith}
 use Rattle.model.specs.Base.{same}
 use Rattle.model.specs.Bytes.{number}
 use Rattle.model.specs.Value.{Value}
-use Rattle.model.specs.Node.{Node, AppliedPending}
-use Rattle.model.specs.Result.{UpdateResult, InsertResult, isFailed}
-use Rattle.model.specs.Bucket.{Bucket, BucketSettings, emptyBucket, holds, applyPending, updateStatus, updateValue, remove}
-use Rattle.model.specs.Table.{Table, EntryKind, Answer, Effect, failsTableFilter, thenStatus, updateNodeIn, insertOrUpdateIn, kindOf, kindIn, write, indexIn}
+use Rattle.model.specs.Node.{Node, EndedPending}
+use Rattle.model.specs.Result.{FailureReason, UpdateResult, InsertResult, isFailed}
+use Rattle.model.specs.Bucket.{Bucket, BucketSettings, emptyBucket, holds, insert, applyPending, updateStatus, updateValue, remove}
+use Rattle.model.specs.Table.{Table, EntryKind, Answer, Effect, failsTableFilter, thenStatus, updateNodeIn, insertUpdates, insertOrUpdateIn, kindOf, kindIn, write, indexIn}
 use Rattle.model.specs.Call.{Call, KeyCall, isOne, optional, valueOf}
 use Rattle.model.specs.Listing.{applyAll, applies}
 use Rattle.model.specs.Question.{firstFailed, keyArguments, kindFits}
@@ -20,33 +20,13 @@ use Rattle.model.specs.Step.{Outcome, onKey, ownAnswer, effect, takeOldest, act
 use Rattle.laws.proofs.Tests.{same-true, clash, cases}
 use Rattle.laws.proofs.Questions.{accepted}
 use Rattle.log.specs.Log.{Log, Naming, naming, nodeOf, group, isRefused, role}
-use Rattle.theorem.proofs.Fold.{fresh, place, evict, enterRecords, gaveBy, enterRole, enter}
-use Rattle.theorem.proofs.Keys.{Distinct, distinct-without, distinct-placed}
+use Rattle.theorem.proofs.Fold.{fresh, enterRecords, gaveBy, enterRole, enter}
+use Rattle.theorem.proofs.Keys.{Distinct}
+use Rattle.theorem.proofs.Records.{records-distinct, records-settings, records-append, Quiet, nothing-quiet, status-quiet, insert-quiet, updateNode-quiet, insertOrUpdate-quiet, quiet}
 use Rattle.theorem.proofs.Agree.{Agree, Gives}
 use Rattle.theorem.proofs.Frame.{Frame-trans, agree-frame, agree-skip}
 use Rattle.theorem.proofs.Ops.{gives, Settled, Goes, apply-ok, apply-settled}
 use Rattle.theorem.proofs.Steps.{own, own-frame, own-only, own-distinct, own-settings, status-call, remove-call, updateNode-call, insertOrUpdate-call, pending-call, absent-call}
-
--- records enter neither a key twice nor settings
-records-distinct : (rs : List AppliedPending) (l : Log) → Distinct (l .held) → Distinct (enterRecords rs l .held)
-records-distinct [] l d = d
-records-distinct (r ∷ rs) l d = records-distinct rs (place (r .inserted) (evict (r .evicted) l)) (distinct-placed (r .inserted) (evict (r .evicted) l .held) (go (r .evicted)))
-  where
-    go : (o : Option Node) → Distinct (evict o l .held)
-    go none = d
-    go (some n) = distinct-without (n .key) (l .held) d
-
-records-settings : (rs : List AppliedPending) (l : Log) → enterRecords rs l .settings ≡ l .settings
-records-settings [] l = refl
-records-settings (r ∷ rs) l = records-settings rs (place (r .inserted) (evict (r .evicted) l)) ∙ go (r .evicted)
-  where
-    go : (o : Option Node) → evict o l .settings ≡ l .settings
-    go none = refl
-    go (some n) = refl
-
-records-append : (xs ys : List AppliedPending) (l : Log) → enterRecords (xs ++ ys) l ≡ enterRecords ys (enterRecords xs l)
-records-append [] ys l = refl
-records-append (x ∷ xs) ys l = records-append xs ys (place (x .inserted) (evict (x .evicted) l))
 
 -- the whole table agrees with the log
 pub record AllAgree (l : Log) (t : Table) : Type 0 where
@@ -54,7 +34,7 @@ pub record AllAgree (l : Log) (t : Table) : Type 0 where
   pub distinct : Distinct (l .held)
   pub each : (j : ℕ) → Agree (indexIn t) l j (t .buckets j)
 
-write-ok : (l l′ : Log) (t : Table) (i : ℕ) (b : Bucket) (rs : List AppliedPending) → AllAgree l t → Goes (indexIn t) i l l′ b → Distinct (l′ .held)
+write-ok : (l l′ : Log) (t : Table) (i : ℕ) (b : Bucket) (rs : List EndedPending) → AllAgree l t → Goes (indexIn t) i l l′ b → Distinct (l′ .held)
     → l′ .settings ≡ l .settings → AllAgree l′ (write t i b rs)
 write-ok l l′ t i b rs s g d e = record {
   settings-agree = e ∙ s .settings-agree;
@@ -99,26 +79,31 @@ module _ (k : ℕ) (n : Naming) where
             (own-settings k (n .statusStep) (e .answer) m (gaveBy k n m) refl ∙ records-settings (e .records) l),
       )
 
-  -- a due pending is applied first; then the call answers a and leaves b
-  applying-ok : (l : Log) (t : Table) (now i : ℕ) (a : Answer) (b : Bucket) → AllAgree l t → indexIn t k ≡ some i → isRefused a ≡ false
+  -- a due pending is applied first; then the call answers a, leaves b and may end the pending
+  applying-ok : (l : Log) (t : Table) (now i : ℕ) (a : Answer) (b : Bucket) (rs : List EndedPending) → Quiet rs → AllAgree l t → indexIn t k ≡ some i → isRefused a ≡ false
       → ((m : Log) → Agree (indexIn t) m i (applyPending (t .settings .bucket) now (t .buckets i) .0)
       → Settled now (applyPending (t .settings .bucket) now (t .buckets i) .0 .pending) → Agree (indexIn t) (Own a m) i b)
-      → EffectOk t l i (record { answer = a; bucket = b; records = applyPending (t .settings .bucket) now (t .buckets i) .1 })
-  applying-ok l t now i a b s h q g =
+      → EffectOk t l i (record { answer = a; bucket = b; records = applyPending (t .settings .bucket) now (t .buckets i) .1 ++ rs })
+  applying-ok l t now i a b rs w s h q g =
       let p = applyPending (t .settings .bucket) now (t .buckets i) in
       let m : Log = enterRecords (p .1) l in
       let z : Goes (indexIn t) i l m (p .0) = apply-ok (indexIn t) (t .settings .bucket) now l i (t .buckets i) (s .each i) (s .distinct) in (
         q,
-        record {
-          agree = g m (z .agree) (apply-settled (t .settings .bucket) now (t .buckets i));
-          frame = Frame-trans (indexIn t) i l m (Own a m) (z .frame) (own-frame (indexIn t) i k (n .statusStep) a m (gaveBy k n m) h (gives-by m));
-        },
+        subst⁻¹ (λ (x : Log). Goes (indexIn t) i l (Own a x) b) (quiet (p .1) rs l w)
+            (record {
+              agree = g m (z .agree) (apply-settled (t .settings .bucket) now (t .buckets i));
+              frame = Frame-trans (indexIn t) i l m (Own a m) (z .frame) (own-frame (indexIn t) i k (n .statusStep) a m (gaveBy k n m) h (gives-by m));
+            }),
       )
 
   -- an entry action applies no pending
-  stored-ok : (l : Log) (t : Table) (i : ℕ) (a : Answer) (b : Bucket) → indexIn t k ≡ some i → isRefused a ≡ false → Agree (indexIn t) (Own a l) i b
-      → EffectOk t l i (record { answer = a; bucket = b; records = [] })
-  stored-ok l t i a b h q z = (q, record { agree = z; frame = own-frame (indexIn t) i k (n .statusStep) a l (gaveBy k n l) h (gives-by l) })
+  stored-ok : (l : Log) (t : Table) (i : ℕ) (a : Answer) (b : Bucket) (rs : List EndedPending) → Quiet rs → indexIn t k ≡ some i → isRefused a ≡ false
+      → Agree (indexIn t) (Own a l) i b → EffectOk t l i (record { answer = a; bucket = b; records = rs })
+  stored-ok l t i a b rs w h q z = (
+    q,
+    subst⁻¹ (λ (x : Log). Goes (indexIn t) i l (Own a x) b) (w l)
+        (record { agree = z; frame = own-frame (indexIn t) i k (n .statusStep) a l (gaveBy k n l) h (gives-by l) }),
+  )
 
 -- a listing: a due pending is applied in each of the buckets named
 applyAll-ok : (now : ℕ) (is : List ℕ) (l : Log) (t : Table) → AllAgree l t → AllAgree (enterRecords (applyAll now is t .1) l) (applyAll now is t .0)
@@ -148,6 +133,24 @@ insertOrUpdate-answers P h s fails now n b =
     cases Q fails (λ _. h _)
     (λ _. cases Q (holds (n .key) b) (λ _. cases Q (isFailed (updateStatus s (n .key) (n .connected) (some (n .incoming)) b .0)) (λ _. h _) (λ _. h _)) (λ _. h _))
 
+-- on a held key insert_or_update answers neither Inserted nor Pending
+pub insertUpdates-answers : (P : InsertResult → Type 0) → ((p : Bool) → P (InsertResult.StatusUpdated p)) → P InsertResult.ValueUpdated
+    → ((p : Bool) → P (InsertResult.Updated p)) → P InsertResult.UpdatedPending → ((r : FailureReason) → P (InsertResult.Failed r))
+    → (v r : UpdateResult) → P (insertUpdates v r)
+insertUpdates-answers P s v u p f UpdateResult.Updated UpdateResult.Updated = u false
+insertUpdates-answers P s v u p f UpdateResult.Updated UpdateResult.UpdatedAndPromoted = u true
+insertUpdates-answers P s v u p f UpdateResult.Updated UpdateResult.UpdatedPending = v
+insertUpdates-answers P s v u p f UpdateResult.Updated UpdateResult.NotModified = v
+insertUpdates-answers P s v u p f UpdateResult.Updated (UpdateResult.Failed r) = f r
+insertUpdates-answers P s v u p f UpdateResult.NotModified UpdateResult.Updated = s false
+insertUpdates-answers P s v u p f UpdateResult.NotModified UpdateResult.UpdatedAndPromoted = s true
+insertUpdates-answers P s v u p f UpdateResult.NotModified UpdateResult.UpdatedPending = p
+insertUpdates-answers P s v u p f UpdateResult.NotModified UpdateResult.NotModified = u false
+insertUpdates-answers P s v u p f UpdateResult.NotModified (UpdateResult.Failed r) = f r
+insertUpdates-answers P s v u p f UpdateResult.UpdatedPending r = p
+insertUpdates-answers P s v u p f UpdateResult.UpdatedAndPromoted r = p
+insertUpdates-answers P s v u p f (UpdateResult.Failed x) r = f x
+
 empty-ok : (t : Table) (j : ℕ) → Agree (indexIn t) (fresh (t .settings)) j emptyBucket
 unfolding group
 empty-ok t j = record { disc = refl; conn = refl; pend = tt; room = omega arith }
@@ -163,7 +166,7 @@ entered : (c : Call) (l : Log) (r : Outcome) → isRefused (r .answer) ≡ false
 unfolding enter
 entered c l r e s = subst⁻¹ (λ (x : Bool). AllAgree (cond x l (enterRole (role c) (r .answer) (enterRecords (r .records) l))) (r .table)) e s
 
-oldest-ok : (l : Log) (t : Table) → AllAgree l t → (q : List AppliedPending) → StepAgrees Call.takeAppliedPending l (takeOldest t q)
+oldest-ok : (l : Log) (t : Table) → AllAgree l t → (q : List EndedPending) → StepAgrees Call.takeAppliedPending l (takeOldest t q)
 unfolding enter
 oldest-ok l t s [] = s
 oldest-ok l t s (a ∷ q) = record { settings-agree = s .settings-agree; distinct = s .distinct; each = s .each }
@@ -181,14 +184,14 @@ effect-ok : (c : KeyCall) (k : List ℕ) (l : Log) (t : Table) (i : ℕ) → All
     → keyArguments c .kind (kindOf (number k) (t .buckets i)) ≡ true → EffectOk (number k) (naming c) t l i (effect c k t i (t .buckets i))
 effect-ok (KeyCall.updateNodeStatus st dr now) k l t i z h f =
     let e = effect (KeyCall.updateNodeStatus st dr now) k t i (t .buckets i) in
-    applying-ok (number k) (naming (KeyCall.updateNodeStatus st dr now)) l t now i (e .answer) (e .bucket) z h refl
+    applying-ok (number k) (naming (KeyCall.updateNodeStatus st dr now)) l t now i (e .answer) (e .bucket) _ (status-quiet (number k) (isOne st) (applyPending (t .settings .bucket) now (t .buckets i) .0)) z h refl
     (λ m a q. status-call (indexIn t) (t .settings .bucket) m i (number k) (isOne st) (optional dr) _ a h)
 effect-ok (KeyCall.updateNode v st now) k l t i z h f =
     let e = effect (KeyCall.updateNode v st now) k t i (t .buckets i) in
     let s = t .settings .bucket in
     let b = applyPending s now (t .buckets i) .0 in
     let fails : Bool = failsTableFilter t i (number k) (valueOf v) in
-    applying-ok (number k) (naming (KeyCall.updateNode v st now)) l t now i (e .answer) (e .bucket) z h
+    applying-ok (number k) (naming (KeyCall.updateNode v st now)) l t now i (e .answer) (e .bucket) _ (updateNode-quiet s fails (number k) (valueOf v) (optional st) b) z h
     (updateNode-answers NotRefused (λ r. refl) s fails now (number k) (valueOf v) (optional st) b)
     (λ m a q. updateNode-call (indexIn t) s now m i (number k) (valueOf v) (optional st) b fails a h q)
 effect-ok (KeyCall.insertOrUpdate v st dr now) k l t i z h f =
@@ -197,27 +200,27 @@ effect-ok (KeyCall.insertOrUpdate v st dr now) k l t i z h f =
     let b = applyPending s now (t .buckets i) .0 in
     let n : Node = Step.nodeOf k v st dr in
     let fails : Bool = failsTableFilter t i (number k) (valueOf v) in
-    applying-ok (number k) (naming (KeyCall.insertOrUpdate v st dr now)) l t now i (e .answer) (e .bucket) z h
+    applying-ok (number k) (naming (KeyCall.insertOrUpdate v st dr now)) l t now i (e .answer) (e .bucket) _ (insertOrUpdate-quiet s fails now n b) z h
     (insertOrUpdate-answers NotRefused (λ r. refl) s fails now n b)
     (λ m a q. insertOrUpdate-call (indexIn t) s now m i n b fails a h q)
 effect-ok (KeyCall.remove now) k l t i z h f =
     let e = effect (KeyCall.remove now) k t i (t .buckets i) in
-    applying-ok (number k) (naming (KeyCall.remove now)) l t now i (e .answer) (e .bucket) z h refl
+    applying-ok (number k) (naming (KeyCall.remove now)) l t now i (e .answer) (e .bucket) _ nothing-quiet z h refl
     (λ m a q. remove-call (indexIn t) (t .settings .bucket) now m i (number k) _ a h q)
 effect-ok (KeyCall.entry now) k l t i z h f =
     let e = effect (KeyCall.entry now) k t i (t .buckets i) in
-    applying-ok (number k) (naming (KeyCall.entry now)) l t now i (e .answer) (e .bucket) z h refl (λ m a q. a)
+    applying-ok (number k) (naming (KeyCall.entry now)) l t now i (e .answer) (e .bucket) _ nothing-quiet z h refl (λ m a q. a)
 effect-ok (KeyCall.presentUpdate st dr) k l t i z h f =
     let e = effect (KeyCall.presentUpdate st dr) k t i (t .buckets i) in
-    stored-ok (number k) (naming (KeyCall.presentUpdate st dr)) l t i (e .answer) (e .bucket) h refl
+    stored-ok (number k) (naming (KeyCall.presentUpdate st dr)) l t i (e .answer) (e .bucket) (e .records) (status-quiet (number k) (isOne st) (t .buckets i)) h refl
     (status-call (indexIn t) (t .settings .bucket) l i (number k) (isOne st) (optional dr) (t .buckets i) (z .each i) h)
 effect-ok (KeyCall.pendingUpdate st dr) k l t i z h f =
     let e = effect (KeyCall.pendingUpdate st dr) k t i (t .buckets i) in
-    stored-ok (number k) (naming (KeyCall.pendingUpdate st dr)) l t i (e .answer) (e .bucket) h refl
+    stored-ok (number k) (naming (KeyCall.pendingUpdate st dr)) l t i (e .answer) (e .bucket) (e .records) nothing-quiet h refl
     (pending-call (indexIn t) l i (number k) (isOne st) (isOne dr) (t .buckets i) (z .each i) h f)
 effect-ok (KeyCall.absentInsert v st dr now) k l t i z h f =
     let e = effect (KeyCall.absentInsert v st dr now) k t i (t .buckets i) in
-    stored-ok (number k) (naming (KeyCall.absentInsert v st dr now)) l t i (e .answer) (e .bucket) h refl
+    stored-ok (number k) (naming (KeyCall.absentInsert v st dr now)) l t i (e .answer) (e .bucket) (e .records) (insert-quiet (Step.nodeOf k v st dr) (t .buckets i) (insert (t .settings .bucket) now (Step.nodeOf k v st dr) (t .buckets i) .0)) h refl
     (absent-call (indexIn t) (t .settings .bucket) now l i (Step.nodeOf k v st dr) (t .buckets i) (z .each i) h f)
 
 own-accepted : (c : KeyCall) → keyArguments c .kind EntryKind.SelfEntry ≡ true → isRefused (ownAnswer c) ≡ false

@@ -5,7 +5,7 @@ use mathlib.Core.List.{List, [], _∷_, _++_}
 use mathlib.Core.Option.{Option, none, some}
 use Rattle.model.specs.Base.{same, at}
 use Rattle.model.specs.Value.{Value}
-use Rattle.model.specs.Node.{Node, AppliedPending}
+use Rattle.model.specs.Node.{Node, Ending, EndedPending}
 use Rattle.model.specs.Table.{Settings, Answer}
 use Rattle.model.specs.Call.{Call}
 use Rattle.log.specs.Log.{Log, Entry, Naming, Role, role, isRefused, answersFailed, answersRemoved, answersInserted, without, noSettings, noValue}
@@ -31,9 +31,18 @@ abbrev pub evict : Option Node → Log → Log
 evict none l = l
 evict (some n) l = depart (n .key) l
 
-abbrev pub enterRecords : List AppliedPending → Log → Log
+-- only a placed record enters
+abbrev pub enterEnding : ℕ → Ending → Log → Log
+enterEnding k (Ending.Placed n) l = place k (evict n l)
+enterEnding k Ending.FirstConnected l = l
+enterEnding k Ending.BucketFilter l = l
+enterEnding k Ending.TooManyIncoming l = l
+enterEnding k Ending.Inserted l = l
+enterEnding k Ending.FirstConfirmed l = l
+
+abbrev pub enterRecords : List EndedPending → Log → Log
 enterRecords [] l = l
-enterRecords (r ∷ rs) l = enterRecords rs (place (r .inserted) (evict (r .evicted) l))
+enterRecords (r ∷ rs) l = enterRecords rs (enterEnding (r .key) (r .ending) l)
 
 -- what a call gives, each by itself
 abbrev pub atGiven : {A : Type 0} → ℕ → Option A → (ℕ → A) → ℕ → A
@@ -54,7 +63,7 @@ enterRole (Role.names k n) a l =
 enterRole (Role.empties s) a l = fresh s
 enterRole Role.silent a l = l
 
-unfoldable pub enter : Call → Answer → List AppliedPending → Log → Log
+unfoldable pub enter : Call → Answer → List EndedPending → Log → Log
 enter c a rs l = cond (isRefused a) l (enterRole (role c) a (enterRecords rs l))
 
 abbrev pub readFrom : Log → List Entry → Log

@@ -8,7 +8,7 @@ use native.Mathlib.Omega.{arith}
 use Rattle.model.specs.Base.{same}
 use Rattle.model.specs.Bytes.{number}
 use Rattle.model.specs.Value.{Value}
-use Rattle.model.specs.Node.{Node, AppliedPending}
+use Rattle.model.specs.Node.{Node, EndedPending}
 use Rattle.model.specs.Result.{UpdateResult, isFailed}
 use Rattle.model.specs.Bucket
 use Rattle.model.specs.Bucket.{Bucket, BucketSettings, emptyBucket, holds, applyPending, updateStatus, updateValue, updatePending}
@@ -36,7 +36,7 @@ abbrev pub Every : (BucketSettings → Bucket → Type 0) → Table → Type 0
 Every Q t = (j : ℕ) → Q (t .settings .bucket) (t .buckets j)
 
 module _ (Q : BucketSettings → Bucket → Type 0) (keeps : Keeps Q) where
-  write-keeps : (t : Table) (i : ℕ) (b : Bucket) (rs : List AppliedPending) → Every Q t → Q (t .settings .bucket) b → Every Q (write t i b rs)
+  write-keeps : (t : Table) (i : ℕ) (b : Bucket) (rs : List EndedPending) → Every Q t → Q (t .settings .bucket) b → Every Q (write t i b rs)
   write-keeps t i b rs f g = λ j. cases (Q (t .settings .bucket)) (same j i) (λ _. g) (λ _. f j)
 
   onKey-keeps : (t : Table) (self : Answer) (g : ℕ → Bucket → Effect) → Every Q t → ((i : ℕ) (b : Bucket) → Q (t .settings .bucket) b → Q (t .settings .bucket) (g i b .bucket))
@@ -69,7 +69,7 @@ module _ (Q : BucketSettings → Bucket → Type 0) (keeps : Keeps Q) where
       cases P fails (λ _. keeps .remove s now (n .key) b f)
       (λ _. cases P (holds (n .key) b) (λ _. cases P (isFailed (r .0)) (λ _. g) (λ _. keeps .value s (n .key) (n .value) (r .1) g)) (λ _. keeps .insert s now n b f))
 
-  oldest-keeps : (t : Table) → Every Q t → (q : List AppliedPending) → Every Q (takeOldest t q .table)
+  oldest-keeps : (t : Table) → Every Q t → (q : List EndedPending) → Every Q (takeOldest t q .table)
   oldest-keeps t f [] = f
   oldest-keeps t f (a ∷ q) = f
 
@@ -110,7 +110,7 @@ module _ (Q : BucketSettings → Bucket → Type 0) (keeps : Keeps Q) where
   new-unlessRefused k timeout m tf bf t (some n) e = let z : _≡_ {A = ℕ} 0 1 = cc in absurd (omega arith)
   new-unlessRefused k timeout m tf bf t none e = λ j. keeps .empty _
 
-  new-keeps : (k : List ℕ) (timeout m tf bf : ℕ) (t : Table) → step (Call.new k timeout m tf bf) t .answer ≡ Answer.New → Every Q (step (Call.new k timeout m tf bf) t .table)
+  pub new-keeps : (k : List ℕ) (timeout m tf bf : ℕ) (t : Table) → step (Call.new k timeout m tf bf) t .answer ≡ Answer.New → Every Q (step (Call.new k timeout m tf bf) t .table)
   unfolding step
   new-keeps k timeout m tf bf t e = new-unlessRefused k timeout m tf bf t (firstFailed (questions (Call.new k timeout m tf bf) t)) e
 

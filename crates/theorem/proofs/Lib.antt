@@ -7,6 +7,7 @@ pub mod Frame
 pub mod Ops
 pub mod Updates
 pub mod Steps
+pub mod Records
 pub mod Call
 pub mod Literal
 pub mod Run
@@ -14,4 +15,6 @@ pub mod Kept
 pub mod Net
 pub mod Limits
 pub mod Closest
+pub mod Due
+pub mod Balance
 pub mod Theorem

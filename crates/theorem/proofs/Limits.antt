@@ -19,10 +19,10 @@ use Rattle.log.specs.Claim.{tableAfter, entries}
 use Rattle.theorem.proofs.Kept.{Keeps, reached-keeps}
 use Rattle.theorem.proofs.Run.{settings}
 
-abbrev Within : BucketSettings → Bucket → Type 0
+abbrev pub Within : BucketSettings → Bucket → Type 0
 Within s b = Formed (s .maxIncoming) b
 
-within-kept : Keeps Within
+pub within-kept : Keeps Within
 within-kept = record {
   empty = λ s. empty-formed (s .maxIncoming);
   insert = λ s now n b w. insert-formed s now n b w;

@@ -8,11 +8,11 @@ use mathlib.Core.Option.{Option, none, some}
 use lib.ListN.{length}
 use Rattle.model.specs.Base.{same, given}
 use Rattle.model.specs.Value.{Value}
-use Rattle.model.specs.Node.{Node, AppliedPending}
+use Rattle.model.specs.Node.{Node, Ending, EndedPending}
 use Rattle.model.specs.Table.{Settings, Answer}
 use Rattle.laws.proofs.Tests.{same-self, same-true, same-sym, clash, cases, split, or-first, or-second, or-rest}
-use Rattle.log.specs.Log.{Entry, Log, Naming, Role, role, isRefused, answersFailed, answersRemoved, answersInserted, Event, heldNow, evictionEvents, recordEvents, ownEvents, events, nowGiven, nowSettings, heldOrder, lastPlacement, noValue, logOf, without}
-use Rattle.theorem.proofs.Fold.{mem, withHeld, depart, place, evict, enterRecords, atGiven, gaveBy, enterRole, enter, readFrom, foldOf}
+use Rattle.log.specs.Log.{Entry, Log, Naming, Role, role, isRefused, answersFailed, answersRemoved, answersInserted, Event, heldNow, endingEvents, recordEvents, ownEvents, events, nowGiven, nowSettings, heldOrder, lastPlacement, noValue, logOf, without}
+use Rattle.theorem.proofs.Fold.{mem, withHeld, depart, place, evict, enterEnding, enterRecords, atGiven, gaveBy, enterRole, enter, readFrom, foldOf}
 use Rattle.theorem.proofs.Keys.{Distinct, mem-append, mem-without, mem-without-other, distinct-without, distinct-placed}
 use Rattle.theorem.proofs.Steps.{own-settings}
 
@@ -108,26 +108,37 @@ both : {A B C : Type 0} (f : A → C) (g : B → C) (t : Bool) (x y : A) (x′ y
 both f g true x y x′ y′ p q = p
 both f g false x y x′ y′ p q = q
 
-records-held : (rs : List AppliedPending) (l : Log) (es : List Event) → l .held ≡ heldOrder es → enterRecords rs l .held ≡ heldOrder (recordEvents rs es)
+ending-held : (k : ℕ) (d : Ending) (l : Log) (es : List Event) → l .held ≡ heldOrder es → enterEnding k d l .held ≡ heldOrder (endingEvents k d es)
+ending-held k (Ending.Placed none) l es e = ap (λ (xs : List ℕ). without k xs ++ (k ∷ [])) e
+ending-held k (Ending.Placed (some n)) l es e = ap (λ (xs : List ℕ). without k (without (n .key) xs) ++ (k ∷ [])) e
+ending-held k Ending.FirstConnected l es e = e
+ending-held k Ending.BucketFilter l es e = e
+ending-held k Ending.TooManyIncoming l es e = e
+ending-held k Ending.Inserted l es e = e
+ending-held k Ending.FirstConfirmed l es e = e
+
+records-held : (rs : List EndedPending) (l : Log) (es : List Event) → l .held ≡ heldOrder es → enterRecords rs l .held ≡ heldOrder (recordEvents rs es)
 records-held [] l es e = e
 records-held (r ∷ rs) l es e =
-    records-held rs (place (r .inserted) (evict (r .evicted) l)) (Event.placement (r .inserted) ∷ evictionEvents (r .evicted) es)
-    (ap (λ (xs : List ℕ). without (r .inserted) xs ++ (r .inserted ∷ [])) (go (r .evicted)))
-  where
-    go : (o : Option Node) → evict o l .held ≡ heldOrder (evictionEvents o es)
-    go none = e
-    go (some n) = ap (without (n .key)) e
+    records-held rs (enterEnding (r .key) (r .ending) l) (endingEvents (r .key) (r .ending) es) (ending-held (r .key) (r .ending) l es e)
 
 -- records change the held keys and nothing else
-records-given : {A : Type 0} (f : Log → A) → ((l : Log) (ks : List ℕ) → f (withHeld ks l) ≡ f l) → (rs : List AppliedPending) (l : Log) → f (enterRecords rs l) ≡ f l
+records-given : {A : Type 0} (f : Log → A) → ((l : Log) (ks : List ℕ) → f (withHeld ks l) ≡ f l) → (rs : List EndedPending) (l : Log) → f (enterRecords rs l) ≡ f l
 records-given f h [] l = refl
 records-given f h (r ∷ rs) l =
-    records-given f h rs (place (r .inserted) (evict (r .evicted) l))
-    ∙ h (evict (r .evicted) l) (without (r .inserted) (evict (r .evicted) l .held) ++ (r .inserted ∷ [])) ∙ go (r .evicted)
+    records-given f h rs (enterEnding (r .key) (r .ending) l) ∙ go (r .ending)
   where
-    go : (o : Option Node) → f (evict o l) ≡ f l
-    go none = refl
-    go (some n) = h l (without (n .key) (l .held))
+    placed : (o : Option Node) → f (evict o l) ≡ f l
+    placed none = refl
+    placed (some n) = h l (without (n .key) (l .held))
+
+    go : (d : Ending) → f (enterEnding (r .key) d l) ≡ f l
+    go (Ending.Placed o) = h (evict o l) (without (r .key) (evict o l .held) ++ (r .key ∷ [])) ∙ placed o
+    go Ending.FirstConnected = refl
+    go Ending.BucketFilter = refl
+    go Ending.TooManyIncoming = refl
+    go Ending.Inserted = refl
+    go Ending.FirstConfirmed = refl
 
 cond-or : {A : Type 0} (f r : Bool) (x y : A) → cond (f || r) x y ≡ cond f x (cond r x y)
 cond-or true r x y = refl

@@ -1,7 +1,7 @@
 -- With the bucket filter on, a bucket holds at most two different values of a /24 (specs/Claim, TwoOfANet).
 use Prim.Native.Nat.{ℕ, _≤_, _<_}
 use mathlib.Core.Path.{_≡_, refl, sym, ap, _∙_, subst⁻¹}
-use mathlib.Core.Bool.{Bool, true, false, cond, not, _&&_, _||_}
+use mathlib.Core.Bool.{Bool, true, false, cond, not, _&&_}
 use mathlib.Core.List.{List, [], _∷_, _++_, reverse}
 use mathlib.Core.Option.{Option, none, some}
 use mathlib.Core.Logic.{_⊎_, inl, inr, ⊎-elim}
@@ -11,11 +11,11 @@ use lib.Dec.{leb}
 use borrow.Author.Tests.{leb-false}
 use Rattle.model.specs.Base.{same, isSome}
 use Rattle.model.specs.Value.{Address, Value, sameValue, sharesNet, hasAddress}
-use Rattle.model.specs.Node.{Node, PendingNode, AppliedPending, withStatus, withValue}
+use Rattle.model.specs.Node.{Node, PendingNode, EndedPending, withStatus, withValue}
 use Rattle.model.specs.Filter.{counts, counted, ipFilterFails, maxNodesPerSubnetBucket}
 use Rattle.model.specs.Result.{FailureReason, BucketInsertResult, UpdateResult, isInserted}
 use Rattle.model.specs.Bucket.{Bucket, BucketSettings, nodes, isFull, get, holds, failsBucketFilter, isMaxIncoming, withPending, only, put, omit, takeOut, insertFull, insert, applyFull, applyDue, applyIfDue, applyPending, reinsert, isFirst, updateIfPending, updateStatusOf, updateStatus, revalue, updateValueOf, updateValue, updatePending, remove}
-use Rattle.laws.proofs.Tests.{clash, cases, split, or-left}
+use Rattle.laws.proofs.Tests.{clash, cases, split}
 use Rattle.laws.proofs.Values.{sameValue-true, sameValue-self, sharesNet-sym, sharesNet-trans}
 use Rattle.model.specs.Table.{Settings, Table, Answer}
 use Rattle.model.specs.Call.{Call}
@@ -207,10 +207,12 @@ module _ (s : BucketSettings) where
   applyFull-spread : (n : Node) (b : Bucket) → Spread s b → (ds : List Node) → b .disconnected ≡ ds → Spread s (applyFull s n b ds .0)
   applyFull-spread n b f [] q = f
   applyFull-spread n b f (d ∷ ds) q =
-      cases (λ (r : Bucket × List AppliedPending). Spread s (r .0)) (failsBucketFilter s (n .value) b || isMaxIncoming s n b) (λ _. f)
-      (λ e on. two-fewer (nodes (put n b)) ((ds ++ only (not (n .connected)) n) ++ (b .connected ++ only (n .connected) n))
-      (put-spread n b f (or-left (failsBucketFilter s (n .value) b) _ e) on)
-      (λ v h. subst⁻¹ (λ (x : List Node). HasValue v ((x ++ only (not (n .connected)) n) ++ (b .connected ++ only (n .connected) n))) q (inr h)))
+      let P : Bucket × List EndedPending → Type 0 = λ r. Spread s (r .0) in
+      cases P (failsBucketFilter s (n .value) b) (λ _. f)
+      (λ e. cases P (isMaxIncoming s n b) (λ _. f)
+      (λ _ on. two-fewer (nodes (put n b)) ((ds ++ only (not (n .connected)) n) ++ (b .connected ++ only (n .connected) n))
+      (put-spread n b f e on)
+      (λ v h. subst⁻¹ (λ (x : List Node). HasValue v ((x ++ only (not (n .connected)) n) ++ (b .connected ++ only (n .connected) n))) q (inr h))))
 
   module _ (now : ℕ) where
     insertFull-spread : (n : Node) (b : Bucket) → Spread s b → (u : Bool) (ds : List Node) (p : Option PendingNode) → Spread s (insertFull s now n b u ds p .1)
@@ -231,13 +233,13 @@ module _ (s : BucketSettings) where
     applyDue-spread : (n : Node) (b : Bucket) → Spread s b → Spread s (applyDue s now n b .0)
     unfolding applyDue
     applyDue-spread n b f =
-        let P : Bucket × List AppliedPending → Type 0 = λ r. Spread s (r .0) in
-        cases P (isFull b) (λ _. applyFull-spread n b f (b .disconnected) refl) (λ _. cases P (isInserted (insert s now n b .0)) (λ _. insert-spread n b f) (λ _. f))
+        let P : Bucket × List EndedPending → Type 0 = λ r. Spread s (r .0) in
+        cases P (isFull b) (λ _. applyFull-spread n b f (b .disconnected) refl) (λ _. cases (Spread s) (isInserted (insert s now n b .0)) (λ _. insert-spread n b f) (λ _. f))
 
     applyIfDue-spread : (b : Bucket) → Spread s b → (p : Option PendingNode) → Spread s (applyIfDue s now b p .0)
     applyIfDue-spread b f none = f
     applyIfDue-spread b f (some p) =
-        cases (λ (r : Bucket × List AppliedPending). Spread s (r .0)) (leb (p .deadline) now) (λ _. applyDue-spread (p .node) (withPending none b) f) (λ _. f)
+        cases (λ (r : Bucket × List EndedPending). Spread s (r .0)) (leb (p .deadline) now) (λ _. applyDue-spread (p .node) (withPending none b) f) (λ _. f)
 
     pub apply-spread : (b : Bucket) → Spread s b → Spread s (applyPending s now b .0)
     unfolding applyPending

@@ -1,7 +1,7 @@
 -- Insert, apply pending and remove keep a bucket in agreement with the log.
 use Prim.Native.Nat.{ℕ, suc, _+_, _<_}
 use mathlib.Core.Path.{_≡_, refl, sym, ap, _∙_}
-use mathlib.Core.Bool.{Bool, true, false, cond, _||_, Bool·beq}
+use mathlib.Core.Bool.{Bool, true, false, cond, Bool·beq}
 use mathlib.Core.List.{List, [], _∷_}
 use mathlib.Core.Option.{Option, none, some}
 use native.Mathlib.Omega.{arith}
@@ -9,9 +9,9 @@ use lib.ListN.{length}
 use lib.Dec.{leb}
 use Rattle.model.specs.Base.{same, given, isSome}
 use Rattle.model.specs.Value.{Value}
-use Rattle.model.specs.Node.{Node, PendingNode, AppliedPending}
+use Rattle.model.specs.Node.{Node, PendingNode, EndedPending, ended}
 use Rattle.model.specs.Result.{BucketInsertResult, isInserted}
-use Rattle.model.specs.Bucket.{Bucket, BucketSettings, maxNodesPerBucket, numEntries, isFull, holds, failsBucketFilter, isMaxIncoming, withPending, cleared, placed, takeOut, insertFull, insert, applyFull, applyDue, applyIfDue, applyPending, remove}
+use Rattle.model.specs.Bucket.{Bucket, BucketSettings, maxNodesPerBucket, numEntries, isFull, holds, failsBucketFilter, isMaxIncoming, withPending, cleared, placed, takeOut, insertFull, insert, insertEnding, applyFull, applyDue, applyIfDue, applyPending, remove}
 use Rattle.model.specs.Formed.{isAt}
 use Rattle.laws.proofs.Tests.{same-self, clash, cases, and-left, and-right}
 use Rattle.log.specs.Log.{Log, nodeOf, group}
@@ -88,14 +88,15 @@ module _ (ix : ℕ → Option ℕ) (s : BucketSettings) (now : ℕ) where
       (λ _. cases P (isFull b) (λ _. insertFull-ok l i n b a h m (n .connected) (b .disconnected) (b .pending))
       (λ f l′ o e. agree-placed ix l l′ i n b a h m (free-count b f) o e))))
 
-  abbrev AppliedOk : Log → ℕ → Bucket × List AppliedPending → Type 0
+  abbrev AppliedOk : Log → ℕ → Bucket × List EndedPending → Type 0
   AppliedOk l i r = Goes ix i l (enterRecords (r .1) l) (r .0)
 
-  dropped-ok : (l : Log) (i : ℕ) (b : Bucket) → Agree ix l i b → AppliedOk l i (b, [])
+  -- nothing is due, or the pending is dropped: its record enters nothing
+  dropped-ok : (l : Log) (i : ℕ) (b : Bucket) → Agree ix l i b → Goes ix i l l b
   dropped-ok l i b a = record { agree = a; frame = Frame-refl ix i l }
 
   applyFree-ok : (l : Log) (i : ℕ) (n : Node) (b : Bucket) → Agree ix l i b → ix (n .key) ≡ some i → n ≡ nodeOf l (n .key)
-      → (r : BucketInsertResult) (b′ : Bucket) → InsertOk ix l i n b r b′ → AppliedOk l i (cond (isInserted r) (b′, record { inserted = n .key; evicted = none } ∷ []) (b, []))
+      → (r : BucketInsertResult) (b′ : Bucket) → InsertOk ix l i n b r b′ → AppliedOk l i (cond (isInserted r) b′ b, ended n (insertEnding r))
   applyFree-ok l i n b a h e BucketInsertResult.Inserted b′ ok = record { agree = ok l (Only-refl (n .key) l) (sym e); frame = Frame-place ix i (n .key) l h }
   applyFree-ok l i n b a h e (BucketInsertResult.Pending d) b′ ok = dropped-ok l i b a
   applyFree-ok l i n b a h e BucketInsertResult.FailedFilter b′ ok = dropped-ok l i b a
@@ -128,12 +129,13 @@ module _ (ix : ℕ → Option ℕ) (s : BucketSettings) (now : ℕ) where
       → n ≡ nodeOf l (n .key) → (ds : List Node) → b .disconnected ≡ ds → AppliedOk l i (applyFull s n b ds)
   applyFull-ok l i n b a u h m e [] q = dropped-ok l i b a
   applyFull-ok l i n b a u h m e (d ∷ ds) q =
-      cases (AppliedOk l i) (failsBucketFilter s (n .value) b || isMaxIncoming s n b) (λ _. dropped-ok l i b a)
+      cases (AppliedOk l i) (failsBucketFilter s (n .value) b) (λ _. dropped-ok l i b a)
+      (λ _. cases (AppliedOk l i) (isMaxIncoming s n b) (λ _. dropped-ok l i b a)
       (λ _. let v = evicted-ok l i b d ds a u q in record {
         agree = agree-add ix (depart (d .key) l) (depart (d .key) l) i (n .key) n (record { disconnected = ds; connected = b .connected; pending = none })
             (v .1) (Only-refl (n .key) (depart (d .key) l)) tt h (mem-false-without (d .key) (n .key) (l .held) m) (sym e) (v .2);
         frame = Frame-trans ix i l (depart (d .key) l) (place (n .key) (depart (d .key) l)) (Frame-depart ix i (d .key) l (v .0)) (Frame-place ix i (n .key) (depart (d .key) l) h);
-      })
+      }))
 
   applyDue-ok : (l : Log) (i : ℕ) (n : Node) (b : Bucket) → Agree ix l i b → Distinct (l .held) → ix (n .key) ≡ some i → mem (n .key) (l .held) ≡ false
       → n ≡ nodeOf l (n .key) → AppliedOk l i (applyDue s now n b)
@@ -159,11 +161,11 @@ Settled now none = Unit {0}
 Settled now (some p) = leb (p .deadline) now ≡ false
 
 module _ (s : BucketSettings) (now : ℕ) where
-  abbrev AppliedSettled : Bucket × List AppliedPending → Type 0
+  abbrev AppliedSettled : Bucket × List EndedPending → Type 0
   AppliedSettled r = Settled now (r .0 .pending)
 
   abbrev InsertSettled : Bucket → BucketInsertResult × Bucket → Type 0
-  InsertSettled b r = (rs : List AppliedPending) → b .pending ≡ none → AppliedSettled (cond (isInserted (r .0)) (r .1, rs) (b, []))
+  InsertSettled b r = b .pending ≡ none → Settled now (cond (isInserted (r .0)) (r .1) b .pending)
 
   none-settled : (b : Bucket) → b .pending ≡ none → Settled now (b .pending)
   none-settled b e = rw e tt
@@ -172,27 +174,29 @@ module _ (s : BucketSettings) (now : ℕ) where
   cleared-none k p e = rw e
 
   insertFull-settled : (n : Node) (b : Bucket) (u : Bool) (ds : List Node) (p : Option PendingNode) → InsertSettled b (insertFull s now n b u ds p)
-  insertFull-settled n b false ds p rs e = none-settled b e
-  insertFull-settled n b true [] p rs e = none-settled b e
-  insertFull-settled n b true (d ∷ ds) none rs e = none-settled b e
-  insertFull-settled n b true (d ∷ ds) (some p) rs e = none-settled b e
+  insertFull-settled n b false ds p e = none-settled b e
+  insertFull-settled n b true [] p e = none-settled b e
+  insertFull-settled n b true (d ∷ ds) none e = none-settled b e
+  insertFull-settled n b true (d ∷ ds) (some p) e = none-settled b e
 
   insert-settled : (n : Node) (b : Bucket) → InsertSettled b (insert s now n b)
   unfolding insert
   insert-settled n b =
-      cases (InsertSettled b) (holds (n .key) b) (λ _ rs e. none-settled b e)
-      (λ _. cases (InsertSettled b) (failsBucketFilter s (n .value) b) (λ _ rs e. none-settled b e)
-      (λ _. cases (InsertSettled b) (isMaxIncoming s n b) (λ _ rs e. none-settled b e)
+      cases (InsertSettled b) (holds (n .key) b) (λ _ e. none-settled b e)
+      (λ _. cases (InsertSettled b) (failsBucketFilter s (n .value) b) (λ _ e. none-settled b e)
+      (λ _. cases (InsertSettled b) (isMaxIncoming s n b) (λ _ e. none-settled b e)
       (λ _. cases (InsertSettled b) (isFull b) (λ _. insertFull-settled n b (n .connected) (b .disconnected) (b .pending))
-      (λ _ rs e. rw (cleared-none (n .key) (b .pending) e) tt))))
+      (λ _ e. rw (cleared-none (n .key) (b .pending) e) tt))))
 
   applyFull-settled : (n : Node) (b : Bucket) (ds : List Node) → b .pending ≡ none → AppliedSettled (applyFull s n b ds)
   applyFull-settled n b [] e = none-settled b e
-  applyFull-settled n b (d ∷ ds) e = cases AppliedSettled (failsBucketFilter s (n .value) b || isMaxIncoming s n b) (λ _. none-settled b e) (λ _. tt)
+  applyFull-settled n b (d ∷ ds) e =
+      cases AppliedSettled (failsBucketFilter s (n .value) b) (λ _. none-settled b e)
+      (λ _. cases AppliedSettled (isMaxIncoming s n b) (λ _. none-settled b e) (λ _. tt))
 
   applyDue-settled : (n : Node) (b : Bucket) → b .pending ≡ none → AppliedSettled (applyDue s now n b)
   unfolding applyDue
-  applyDue-settled n b e = cases AppliedSettled (isFull b) (λ _. applyFull-settled n b (b .disconnected) e) (λ _. insert-settled n b _ e)
+  applyDue-settled n b e = cases AppliedSettled (isFull b) (λ _. applyFull-settled n b (b .disconnected) e) (λ _. insert-settled n b e)
 
   applyIfDue-settled : (b : Bucket) (p : Option PendingNode) → b .pending ≡ p → AppliedSettled (applyIfDue s now b p)
   applyIfDue-settled b none e = none-settled b e

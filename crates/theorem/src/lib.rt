@@ -1,1 +1,1 @@
-// The proof that every bucket is what the log says, in proofs/; Theorem has the statements. Nothing here runs.
+// The proof that every bucket is what the log says, and of what became of pendings, in proofs/; Theorem has the statements. Nothing here runs.

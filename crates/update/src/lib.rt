@@ -37,10 +37,13 @@ pub fn update_node(s: &mut [u8], key: &[u8], value: Value, state: u8, time: u64)
             let a = on_key::apply_at(s, i, time);
             let applied = a.applied;
             let b = a.bucket;
+            let before = b.pending;
             let updated = bucket_update::update_node_in(b, fails, k, value, state, time);
             let left = updated.bucket;
             let result = updated.result;
-            if !on_key::finish(s, i, applied, left) {
+            let after = left.pending;
+            let record = on_key::record_of(applied, before, after, k);
+            if !on_key::finish(s, i, record, left) {
                 return UpdateAnswer::Refused(8);
             }
             UpdateAnswer::Answered(result)
@@ -72,6 +75,7 @@ pub fn insert_or_update(
             let a = on_key::apply_at(s, i, time);
             let applied = a.applied;
             let b = a.bucket;
+            let before = b.pending;
             let status = NodeStatus { state, direction };
             let node = Node {
                 key: k,
@@ -81,7 +85,9 @@ pub fn insert_or_update(
             let placed = bucket_update::insert_or_update_in(b, fails, node, time);
             let filled = placed.bucket;
             let result = placed.result;
-            if !on_key::finish(s, i, applied, filled) {
+            let after = filled.pending;
+            let record = on_key::record_of(applied, before, after, k);
+            if !on_key::finish(s, i, record, filled) {
                 return InsertOrUpdateAnswer::Refused(8);
             }
             InsertOrUpdateAnswer::Answered(result)

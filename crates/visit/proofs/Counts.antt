@@ -8,7 +8,7 @@ use lib.Dec.{eqb}
 use lib.ListN.{length, length-append}
 use borrow.Author.Tests.{eqb-true, eq-eqb, ne-eqb}
 use Rattle.model.specs.Base.{same}
-use Rattle.model.specs.Node.{AppliedPending}
+use Rattle.model.specs.Node.{EndedPending}
 use Rattle.model.specs.Bucket.{Bucket, applyPending}
 use Rattle.model.specs.Table.{Table, numBuckets}
 use Rattle.model.specs.Listing.{applied, applyAll, visited}
@@ -43,7 +43,7 @@ module _ (now : ℕ) (f : ℕ → ℕ) where
       let e : j ≡ i = same-true j i h in
       let k : i ≡ 0 = o e in
       ap (λ (c : Bool). length (applyPending (t .settings .bucket) now (cond c (applied now t i) (t .buckets j)) .1)) h
-      ∙ ap (λ (r : Bucket × List AppliedPending). length (r .1)) (apply-again (t .settings .bucket) now (t .buckets i))
+      ∙ ap (λ (r : Bucket × List EndedPending). length (r .1)) (apply-again (t .settings .bucket) now (t .buckets i))
       ∙ again z (eqb i 0) (eqb j 0) (f j) (eq-eqb i 0 k) (eq-eqb j 0 (e ∙ k)))
       (λ h.
       ap (λ (c : Bool). length (applyPending (t .settings .bucket) now (cond c (applied now t i) (t .buckets j)) .1)) h ∙ g

@@ -8,7 +8,7 @@ use lib.ListN.{length, length-append}
 use borrow.Author.Tests.{le-leb}
 use Rattle.model.specs.Base.{same, at}
 use Rattle.model.specs.Bytes.{Bytes}
-use Rattle.model.specs.Node.{AppliedPending}
+use Rattle.model.specs.Node.{EndedPending}
 use Rattle.model.specs.Bucket.{Bucket, numEntries, applyPending}
 use Rattle.model.specs.Table.{Table, numBuckets, maxRecords, write}
 use Rattle.model.specs.Sizes.{storageSize}
@@ -77,14 +77,14 @@ module _ (now : ℕ) where
   pub visit-same : (i : ℕ) (t : Table) → isDue now (t .buckets i .pending) ≡ false → visitOne now i t ≡ t
   visit-same i t e =
       let a : applyPending (t .settings .bucket) now (t .buckets i) ≡ (t .buckets i, []) = not-due (t .settings .bucket) now (t .buckets i) e in
-      ap (λ (r : Bucket × List AppliedPending). write t i (r .0) (r .1)) a
+      ap (λ (r : Bucket × List EndedPending). write t i (r .0) (r .1)) a
       ∙ (λ k. record { settings = t .settings; buckets = fun-ext same-bucket k; queue = append-nil (t .queue) k })
     where
       same-bucket : (j : ℕ) → at i (t .buckets i) (t .buckets) j ≡ t .buckets j
       same-bucket j = split (same j i) (λ h. rw h (ap (t .buckets) (sym (same-true j i h)))) (λ h. rw h)
 
 -- question 8 of one bucket
-pub visit-room : (s : List ℕ) (now i : ℕ) (rs : List AppliedPending) → rs ≡ applyPending (tableOf s .settings .bucket) now (tableOf s .buckets i) .1
+pub visit-room : (s : List ℕ) (now i : ℕ) (rs : List EndedPending) → rs ≡ applyPending (tableOf s .settings .bucket) now (tableOf s .buckets i) .1
     → length (visitOne now i (tableOf s) .queue) ≤ maxRecords → roomFor s rs ≡ true
 unfolding roomFor
 visit-room s now i rs e q =

@@ -6,7 +6,7 @@ use mathlib.Core.List.{List, [], _∷_}
 use mathlib.Core.Option.{Option, none, some}
 use lib.ListN.{length}
 use lib.Dec.{eqb, leb}
-use Rattle.model.specs.Node.{PendingNode, AppliedPending}
+use Rattle.model.specs.Node.{PendingNode, EndedPending, placedOf}
 use Rattle.model.specs.Bucket.{Bucket, numEntries, applyPending}
 use Rattle.model.specs.Table.{Table, numBuckets, write}
 use Rattle.model.specs.Listing.{applied, applyAll, visited}
@@ -21,9 +21,14 @@ held now t i = numEntries (applied now t i)
 abbrev pub records : ℕ → Table → ℕ → ℕ
 records now t i = length (applyPending (t .settings .bucket) now (t .buckets i) .1)
 
+-- 02, slip 4: those of a placed pending
+abbrev pub placed : ℕ → Table → ℕ → ℕ
+placed now t i = length (placedOf (applyPending (t .settings .bucket) now (t .buckets i) .1))
+
 pub record GivenAt (now : ℕ) (t : Table) (i : ℕ) (g : Given) : Type 0 where
   pub count : g .count ≡ held now t i
   pub records : g .records ≡ records now t i
+  pub placed : g .placed ≡ placed now t i
   pub one : g .records ≤ 1
 
 -- the records that the buckets give, each by itself; bucket 0 gives none the second time
@@ -43,7 +48,7 @@ abbrev pub visitOne : ℕ → ℕ → Table → Table
 visitOne now i t = let a = applyPending (t .settings .bucket) now (t .buckets i) in write t i (a .0) (a .1)
 
 -- the table and the records once the buckets that yield n nodes have been visited
-unfoldable pub visitAll : ℕ → ℕ → List ℕ → Table → Table × List AppliedPending
+unfoldable pub visitAll : ℕ → ℕ → List ℕ → Table → Table × List EndedPending
 visitAll now n is t = applyAll now (visited (held now t) n is) t
 
 -- no bucket but bucket 0 stands twice

@@ -19,10 +19,11 @@ use key::ClosestBucketsIterState;
 use key::Key;
 use storage::Layout;
 
-// What a bucket holds once its due pending is applied, and how many records it gives.
+// What a bucket holds once its due pending is applied, how many records it gives, and how many of them tell of a placed pending.
 pub struct Given {
     pub count: usize,
     pub records: usize,
+    pub placed: usize,
 }
 
 // What the dry run has counted: the items that are left to find, whether bucket 0 was visited, and the records.
@@ -66,14 +67,17 @@ pub fn given_at(s: &[u8], i: usize, time: u64) -> Given
         return Given {
             count: held_at(s, i),
             records: 0,
+            placed: 0,
         };
     }
     let a = on_key::apply_at(s, i, time);
     let b = a.bucket;
     let applied = a.applied;
+    let placed = bucket::only_placed(applied);
     Given {
         count: b.count,
-        records: on_key::count_of(applied),
+        records: bucket::count_of(applied),
+        placed: bucket::count_of(placed),
     }
 }
 

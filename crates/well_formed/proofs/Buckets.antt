@@ -13,7 +13,7 @@ use Rattle.model.specs.Bytes.{part, zeros}
 use Rattle.model.specs.Bucket.{maxNodesPerBucket, incomingNodes, emptyBucket}
 use Rattle.model.specs.Table.{numBuckets, maxRecords}
 use Rattle.model.specs.Sizes.{keySize, nodeSize, recordSize, placeAt, bucketSize, maxIncomingAt, tableFilterAt, bucketFilterAt, recordCountAt, paddingAt, paddingSize, recordAt}
-use Rattle.model.specs.Layout.{bucketBytes, nodesIn, placeIn}
+use Rattle.model.specs.Layout.{evictingKind, lastKind, bucketBytes, nodesIn, placeIn}
 use Rattle.model.specs.Formed as model
 use Rattle.model.specs.Formed.{areZero, keyIn, stateAt, pendingFormed, bucketFormed, recordFormed, headerFormed, formed}
 use Rattle.laws.proofs.Parts.{part-part, getD-part}
@@ -82,17 +82,23 @@ module _ (p : ℕ → Bool) (m : ℕ) (s : List ℕ) (at : ℕ) where
 -- a record
 
 module _ (s : List ℕ) (at : ℕ) where
-  pub record-none : getD s (at + keySize) 0 ≡ 0 → recordFormed (part s at recordSize) ≡ areZero s (at + (keySize + 1)) nodeSize
+  pub record-plain : (getD s (at + keySize) 0 ≡ evictingKind → ⊥)
+      → recordFormed (part s at recordSize) ≡ (leb (getD s (at + keySize) 0) lastKind && areZero s (at + (keySize + 1)) nodeSize)
   unfolding recordFormed
-  record-none e = rw (getD-part s at recordSize keySize (omega arith), e) (areZero-within s at recordSize (keySize + 1) nodeSize (omega arith))
-
-  pub record-some : (getD s (at + keySize) 0 ≡ 0 → ⊥) → (n : declared.Node) → n ≡ readNode (part s (at + (keySize + 1)) nodeSize)
-      → recordFormed (part s at recordSize) ≡ (eqb (getD s (at + keySize) 0) 1 && nodeCodes n)
-  unfolding recordFormed
-  record-some e n q =
+  record-plain e =
       rw (
         getD-part s at recordSize keySize (omega arith),
-        ne-eqb (getD s (at + keySize) 0) 0 e,
+        ne-eqb (getD s (at + keySize) 0) evictingKind e,
+        areZero-within s at recordSize (keySize + 1) nodeSize (omega arith),
+      )
+
+  pub record-evicting : getD s (at + keySize) 0 ≡ evictingKind → (n : declared.Node) → n ≡ readNode (part s (at + (keySize + 1)) nodeSize)
+      → recordFormed (part s at recordSize) ≡ nodeCodes n
+  unfolding recordFormed
+  record-evicting e n q =
+      rw (
+        getD-part s at recordSize keySize (omega arith),
+        e,
         part-part s at recordSize (keySize + 1) nodeSize (omega arith),
         q,
         codes-read,

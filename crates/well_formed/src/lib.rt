@@ -215,12 +215,13 @@ fn record_formed(s: &[u8], at: usize) -> bool
     requires { ⌜ at + recordSize ≤ length (now s) ⌝ }
     ensures { λ r. ⌜ r ≡ recordFormed (part (now (s .entry)) at recordSize) ⌝ }
 {
-    let flag = s[at + Layout::KEY];
-    if flag == 0 {
-        return words::all_zero(s, at + (Layout::KEY + 1), Layout::NODE);
+    let kind = s[at + Layout::KEY];
+    if kind == Layout::EVICTING_KIND {
+        let n = storage::load_node(s, at + (Layout::KEY + 1));
+        return n.in_range();
     }
-    let n = storage::load_node(s, at + (Layout::KEY + 1));
-    (flag == 1) & n.in_range()
+    let unused = words::all_zero(s, at + (Layout::KEY + 1), Layout::NODE);
+    (kind <= Layout::LAST_KIND) & unused
 }
 
 // The first count records of the queue.

@@ -1,4 +1,4 @@
-use mathlib.Core.Path.{refl}
+use mathlib.Core.Path.{refl, ap, _∙_}
 use mathlib.Core.Bool.{true}
 use mathlib.Core.Option.{some}
 use Prim.Native.Nat.{ℕ}
@@ -11,9 +11,8 @@ use Rattle.bucket_calls.specs.Lent.{lentSettings, lentBucket}
 use Rattle.bucket_calls.proofs.Questions.{passed-lent, timely}
 use Rattle.bucket_calls.specs.Calls.{BucketCall}
 use Rattle.bucket_calls.proofs.Outcome.{apply-is, refused-by, done, early, short, roomy}
-use mathlib.Core.Path.{ap}
 use mathlib.Core.List.{List}
-use Rattle.model.specs.Node.{AppliedPending}
+use Rattle.model.specs.Node.{EndedPending, placedOf}
 use Rattle.codes.specs.Codes.{appliedCode, appliedBytes}
 use borrow.Author.Needs.{needs}
 use Rattle.bucket_calls.proofs.apply_pending.Statement.{statement}
@@ -76,16 +75,19 @@ apply-pending-sound-requires c κs =
     let same = ap (λ (u : rules.BucketSettings). u .pendingTimeout) (c .load .ensures .settings) in
     (c .load .ensures .sound, omega (arith, t, same))
 
+only-placed-requires : tie.Need-only-placed-requires
+only-placed-requires c κs = c .before .apply-pending-sound .ensures .1 .1
+
 store-at-requires : tie.Need-store-at-requires
 store-at-requires c κs =
-    let e = c .before .before .before .before .before .before in
+    let e = c .before .before .before .before .before .before .before in
     let i = e .before in
     let o = i .before .before .before .before in
     let s = o .args .s .now in
     let answer = o .args .answer .now in
     let n = refusal-none _ (i .asked-at .ensures) (e .if1 .left) in
     let p = passed-lent s true true (some (o .args .time)) n in
-    (omega (arith, p .size), c .before .before .apply-pending-sound .ensures .1 .0 .sound)
+    (omega (arith, p .size), c .before .before .before .apply-pending-sound .ensures .1 .0 .sound)
 
 put-applied-requires : tie.Need-put-applied-requires
 put-applied-requires c κs = search needs
@@ -98,7 +100,7 @@ same-length-4 c = search needs
 
 returns-3 : tie.Need-returns-3
 returns-3 c =
-    let e = c .before .before .before .before .before .before .before .before .before .before .before .before .before in
+    let e = c .before .before .before .before .before .before .before .before .before .before .before .before .before .before in
     let i = e .before in
     let o = i .before .before .before .before in
     let s = o .args .s .now in
@@ -106,10 +108,11 @@ returns-3 c =
     let n = refusal-none _ (i .asked-at .ensures) (e .if1 .left) in
     let w = c .before .before in
     let x = c .before .before .before .before .before .before in
-    let m = x .before .before .before in
+    let q = x .before .before in
+    let m = q .before .before in
     let y = m .before in
-    let z = stepped {k = 0} (y .load .ensures) (λ (u : rules.BucketSettings) (k : ℕ) (b : rules.Bucket). let x = rules.applyPending u (o .args .time) b in (x .1, x .0)) refl (m .apply-pending-sound .ensures .0) (m .apply-pending-sound .ensures .1 .0) in
-    done (BucketCall.applyPending (o .args .time)) answer s (λ (r : List AppliedPending). appliedCode (first r)) (λ (r : List AppliedPending). appliedBytes (first r)) (let x = rules.applyPending (lentSettings s) (o .args .time) (lentBucket s) in (x .1, x .0)) (apply-is s (o .args .time)) (roomy s true true (some (o .args .time)) answer n (c .before .before .before .before .before .before .before .before .before .before .before .before .if2 .left)) z (w .put-applied .ensures .0) (x .store-at .ensures) (w .put-applied .ensures .1)
+    let z = stepped {k = 0} (y .load .ensures) (λ (u : rules.BucketSettings) (k : ℕ) (b : rules.Bucket). let x = rules.applyPending u (o .args .time) b in (placedOf (x .1), x .0)) refl (q .only-placed .ensures .0 ∙ ap placedOf (m .apply-pending-sound .ensures .0)) (m .apply-pending-sound .ensures .1 .0) in
+    done (BucketCall.applyPending (o .args .time)) answer s (λ (r : List EndedPending). appliedCode (first r)) (λ (r : List EndedPending). appliedBytes (first r)) (let x = rules.applyPending (lentSettings s) (o .args .time) (lentBucket s) in (placedOf (x .1), x .0)) (apply-is s (o .args .time)) (roomy s true true (some (o .args .time)) answer n (c .before .before .before .before .before .before .before .before .before .before .before .before .before .if2 .left)) z (w .put-applied .ensures .0) (x .store-at .ensures) (w .put-applied .ensures .1)
 
 pub apply-pending-spec : {M : Type 1} → statement M
 apply-pending-spec =
@@ -124,6 +127,7 @@ apply-pending-spec =
     returns-2
     load-requires
     apply-pending-sound-requires
+    only-placed-requires
     store-at-requires
     put-applied-requires
     same-length-3

@@ -1,8 +1,8 @@
 use Prim.Native.Nat.{ℕ}
 use native.Mathlib.Omega.{arith}
 use mathlib.Core.Path.{_≡_, refl, sym, ap, _∙_}
-use mathlib.Core.Bool.{Bool, _&&_}
-use mathlib.Core.List.{List}
+use mathlib.Core.Bool.{Bool, true, _&&_}
+use mathlib.Core.List.{List, []}
 use mathlib.Core.Option.{some}
 use lib.Dec.{leb}
 use borrow.Author.Tests.{not-true, not-false}
@@ -11,12 +11,14 @@ use Rattle.model.specs.Table.{Answer}
 use Rattle.model.specs.Call.{KeyCall, ValueArgument, isOne}
 use Rattle.model.specs.Question.{isAbsent, kindOfKey}
 use Rattle.model.specs.Layout.{tableOf}
+use Rattle.model.specs.Step.{nodeOf, effect}
 use Rattle.node.specs.Node.{valueOf, argumentOf}
 use Rattle.on_key.specs.Start.{AtBucket}
 use Rattle.on_key.proofs.OneKey.{refused-early, refused-kind}
 use Rattle.on_key.proofs.Steps.{timely, begun, stepped}
 use Rattle.on_key.proofs.Ended.{ends-full, ends}
-use Rattle.entry.proofs.Kind.{kind-self, kind-told, insertCodes, node-codes}
+use Rattle.on_key.proofs.Endings.{absent-ends-none}
+use Rattle.entry.proofs.Kind.{kind-self, kind-at, kind-told, insertCodes, node-codes}
 use borrow.Author.Needs.{needs}
 use Rattle.entry.proofs.absent_insert.Statement.{statement}
 use Rattle.entry.proofs.absent_insert.Tie as tie
@@ -101,6 +103,19 @@ returns c =
     let b = began k in
     refused-kind (s b) (key b) (KeyCall.absentInsert (value b) (state b) (direction b) (time b)) (at k .passed) (tested h ∙ not-true _ (c .if1 .taken))
 
+-- the key is not pending, and so the insert ends none
+none-ended : (h : tie.After-is-absent) → isAbsent (kindOfKey (key (began (h .before .before .before .before .before))) (tableOf (s (began (h .before .before .before .before .before))))) ≡ true
+    → let k = h .before .before .before .before .before in
+    let b = began k in
+    [] ≡ effect (KeyCall.absentInsert (value b) (state b) (direction b) (time b)) (key b) (tableOf (s b)) (k .start2 .given .0 .1 .0) (tableOf (s b) .buckets (k .start2 .given .0 .1 .0)) .records
+none-ended h e =
+    let k = h .before .before .before .before .before in
+    let b = began k in
+    let n = nodeOf (key b) (value b) (state b) (direction b) in
+    let m = tableOf (s b) .buckets (k .start2 .given .0 .1 .0) in
+    sym (absent-ends-none n m (rules.insert (tableOf (s b) .settings .bucket) (time b) n m .0)
+    (sym (ap isAbsent (kind-at (s b) (key b) _ (at k .index))) ∙ e))
+
 insert-sound-requires : tie.Need-insert-sound-requires
 insert-sound-requires c κs =
     let l = c .before .before .before in
@@ -125,7 +140,7 @@ returns-2 c =
     let h = e .before in
     let k = h .before .before .before .before .before in
     let b = began k in
-    ends-full (s b) (key b) (KeyCall.absentInsert (value b) (state b) (direction b) (time b)) (at k) (tested h ∙ not-false _ (e .if1 .left)) _ (f .finish .ensures) refl (c .if2 .taken)
+    ends-full (s b) (key b) (KeyCall.absentInsert (value b) (state b) (direction b) (time b)) (at k) (tested h ∙ not-false _ (e .if1 .left)) _ (f .finish .ensures) (none-ended h (tested h ∙ not-false _ (e .if1 .left))) (c .if2 .taken)
 
 same-length-3 : tie.Need-same-length-3
 same-length-3 c = search needs
@@ -157,7 +172,7 @@ returns-5 c =
     let k = l .before .before .before in
     let b = began k in
     let z = stepped (l .load-bucket .ensures) (λ (u : rules.BucketSettings) (n : ℕ) (x : rules.Bucket). rules.insert u (time b) (record { key = n; value = valueOf (o b .args .value); connected = isOne (state b); incoming = isOne (direction b) }) x) (at k .key-is) (m .insert-sound .ensures .0) (m .insert-sound .ensures .1) in
-    ends (s b) (key b) (KeyCall.absentInsert (value b) (state b) (direction b) (time b)) (at k) (tested h ∙ not-false _ (e .if1 .left)) _ (f .finish .ensures) refl (c .if2 .left) (ap Answer.Insert (z .answer)) (z .bucket)
+    ends (s b) (key b) (KeyCall.absentInsert (value b) (state b) (direction b) (time b)) (at k) (tested h ∙ not-false _ (e .if1 .left)) _ (f .finish .ensures) (none-ended h (tested h ∙ not-false _ (e .if1 .left))) (c .if2 .left) (ap Answer.Insert (z .answer)) (z .bucket)
 
 pub absent-insert-spec : {M : Type 1} → statement M
 absent-insert-spec =

@@ -5,17 +5,21 @@ use mathlib.Core.List.{List}
 use mathlib.Core.Option.{none}
 use lib.Dec.{leb}
 use borrow.Author.Tests.{leb-true, not-true, not-false}
+use Rattle.model.specs.Bytes.{number}
+use Rattle.model.specs.Result.{UpdateResult}
 use Rattle.model.specs.Bucket as rules
 use Rattle.model.specs.Table.{Answer}
 use Rattle.model.specs.Call.{KeyCall, isOne, optional}
 use Rattle.model.specs.Question.{isPresent, kindOfKey}
 use Rattle.model.specs.Layout.{tableOf}
 use Rattle.laws.proofs.Tests.{and-left, and-right}
+use Rattle.bucket.specs.Calls.{recordsOf, updateResultOf}
 use Rattle.on_key.specs.Start.{AtBucket}
 use Rattle.on_key.proofs.Questions.{passed-five}
 use Rattle.on_key.proofs.OneKey.{refused-early, refused-kind}
-use Rattle.on_key.proofs.Steps.{begun, stepped}
+use Rattle.on_key.proofs.Steps.{Stepped, begun, stepped}
 use Rattle.on_key.proofs.Ended.{ends-full, ends}
+use Rattle.on_key.proofs.Endings.{stored-status-records}
 use Rattle.entry.proofs.Kind.{kind-self, kind-told}
 use borrow.Author.Needs.{needs}
 use Rattle.entry.proofs.present_update.Statement.{statement}
@@ -96,10 +100,47 @@ update-status-sound-requires c κs =
     let p = passed-five (s b) (key b) (codes b) none (at k .passed) .in-range in
     (l .load-bucket .ensures .sound, (leb-true (state b) 1 (and-left (leb (state b) 1) (leb (direction b) 2) p), leb-true (direction b) 2 (and-right (leb (state b) 1) (leb (direction b) 2) p)))
 
+record-of-requires : tie.Need-record-of-requires
+record-of-requires c κs = refl
+
+-- the bucket that the status step leaves, and the call's records
+module _ (r : tie.After-record-of) where
+  abbrev did : tie.After-update-status-sound
+  did = r .before .before
+
+  abbrev asked : tie.After-is-present
+  asked = did .before .before
+
+  abbrev loaded : tie.After-load-bucket
+  loaded = asked .before .before
+
+  abbrev here : tie.After-start2
+  here = loaded .before .before .before
+
+  abbrev b : tie.After-begin
+  b = began here
+
+  abbrev call : KeyCall
+  call = KeyCall.presentUpdate (state b) (direction b)
+
+  abbrev found : rules.Bucket
+  found = tableOf (s b) .buckets (here .start2 .given .0 .1 .0)
+
+  step : Stepped UpdateResult (rules.updateStatus (tableOf (s b) .settings .bucket) (number (key b)) (isOne (state b)) (optional (direction b)) found)
+      (updateResultOf (did .update-status-sound .result .result)) (did .update-status-sound .result .bucket)
+  step =
+      stepped (loaded .load-bucket .ensures) (λ (u : rules.BucketSettings) (n : ℕ) (x : rules.Bucket). rules.updateStatus u n (isOne (state b)) (optional (direction b)) x)
+      (at here .key-is) (did .update-status-sound .ensures .0) (did .update-status-sound .ensures .1)
+
+  records : recordsOf (r .record-of .result) ≡ rules.statusEndings (number (key b)) (isOne (state b)) found
+  records =
+      stored-status-records _ _ _ (did .update-status-sound .result .bucket) (loaded .load-bucket .ensures) (at here .key-is) (r .record-of .ensures .0)
+      (isOne (state b)) (optional (direction b)) (step .bucket)
+
 finish-requires : tie.Need-finish-requires
 finish-requires c κs =
-    let m = c .before .before in
-    (at (m .before .before .before .before .before .before .before) .ready, (refl, search (m .update-status-sound .ensures .1)))
+    let r = c .before in
+    (at (here r) .ready, (r .record-of .ensures .1, step r .sound))
 
 same-length-2 : tie.Need-same-length-2
 same-length-2 c = search needs
@@ -107,11 +148,8 @@ same-length-2 c = search needs
 returns-2 : tie.Need-returns-2
 returns-2 c =
     let f = c .before .before .before in
-    let e = f .before .before .before .before in
-    let h = e .before in
-    let k = h .before .before .before .before .before in
-    let b = began k in
-    ends-full (s b) (key b) (KeyCall.presentUpdate (state b) (direction b)) (at k) (tested h ∙ not-false _ (e .if1 .left)) _ (f .finish .ensures) refl (c .if2 .taken)
+    let r = f .before .before in
+    ends-full (s (b r)) (key (b r)) (call r) (at (here r)) (tested (asked r) ∙ not-false _ (did r .before .if1 .left)) _ (f .finish .ensures) (records r) (c .if2 .taken)
 
 same-length-3 : tie.Need-same-length-3
 same-length-3 c = search needs
@@ -136,14 +174,9 @@ same-length-5 c = search needs
 returns-5 : tie.Need-returns-5
 returns-5 c =
     let f = c .before .before .before in
-    let m = f .before .before .before in
-    let e = m .before in
-    let h = e .before in
-    let l = h .before .before in
-    let k = l .before .before .before in
-    let b = began k in
-    let z = stepped (l .load-bucket .ensures) (λ (u : rules.BucketSettings) (n : ℕ) (x : rules.Bucket). rules.updateStatus u n (isOne (state b)) (optional (direction b)) x) (at k .key-is) (m .update-status-sound .ensures .0) (m .update-status-sound .ensures .1) in
-    ends (s b) (key b) (KeyCall.presentUpdate (state b) (direction b)) (at k) (tested h ∙ not-false _ (e .if1 .left)) _ (f .finish .ensures) refl (c .if2 .left) (ap Answer.Update (z .answer)) (z .bucket)
+    let r = f .before .before in
+    ends (s (b r)) (key (b r)) (call r) (at (here r)) (tested (asked r) ∙ not-false _ (did r .before .if1 .left)) _ (f .finish .ensures) (records r) (c .if2 .left)
+    (ap Answer.Update (step r .answer)) (step r .bucket)
 
 pub present-update-spec : {M : Type 1} → statement M
 present-update-spec =
@@ -159,6 +192,7 @@ present-update-spec =
     same-length
     returns
     update-status-sound-requires
+    record-of-requires
     finish-requires
     same-length-2
     returns-2

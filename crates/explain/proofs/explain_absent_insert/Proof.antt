@@ -9,6 +9,7 @@ use Rattle.model.specs.Bytes.{number}
 use Rattle.model.specs.Bucket as rules
 use Rattle.model.specs.Table.{indexIn}
 use Rattle.model.specs.Layout.{tableOf}
+use Rattle.model.specs.Step.{nodeOf}
 use Rattle.model.specs.Call.{ValueArgument, KeyCall, valueOf, isOne}
 use Rattle.model.specs.Question.{valueInRange, isAbsent}
 use Rattle.model.specs.Explain.{toldInsert, insertReason}
@@ -19,6 +20,7 @@ use Rattle.on_key.specs.Start.{AtBucket}
 use Rattle.on_key.proofs.Questions.{passed-five}
 use Rattle.on_key.proofs.Steps.{timely, begun, stepped}
 use Rattle.entry.proofs.Kind.{kind-self, kind-told}
+use Rattle.on_key.proofs.Endings.{stored-insert-records}
 use Rattle.explain.proofs.Ends.{refused-early, ends-local, ends-at, reason-told}
 use borrow.Author.Needs.{needs}
 use Rattle.explain.proofs.explain_absent_insert.Statement.{statement}
@@ -120,16 +122,21 @@ insert-sound-requires c κs =
     let z = l .load-bucket .ensures in
     (z .sound, (and-turned (valueInRange (value b)) (leb (state b) 1) (leb (direction b) 1) (in-range k), omega (arith, ap (λ (u : rules.BucketSettings). u .pendingTimeout) (z .settings), timely (s b) (key b) (codes b) (time b) (at k .passed))))
 
+record-of-requires : tie.Need-record-of-requires
+record-of-requires c κs = refl
+
 told-insert-requires : tie.Need-told-insert-requires
 told-insert-requires c κs = search needs
 
 insert-reason-requires : tie.Need-insert-reason-requires
-insert-reason-requires c κs = c .before .before .before .before .load-bucket .ensures .sound
+insert-reason-requires c κs = c .before .before .before .before .before .before .load-bucket .ensures .sound
 
 ended-requires : tie.Need-ended-requires
 ended-requires c κs =
     let w = c .before in
-    let h = w .before .before .before in
+    let r = w .before .before in
+    let m = r .before .before in
+    let h = m .before in
     let l = h .before .before in
     let k = l .before .before in
     let b = began k in
@@ -158,13 +165,15 @@ returns-3 : tie.Need-returns-3
 returns-3 c =
     let x = c .before .before in
     let w = x .before .before in
-    let h = w .before .before .before in
+    let r = w .before .before in
+    let m = r .before .before in
+    let h = m .before in
     let l = h .before .before in
     let k = l .before .before in
     let b = began k in
-    let m = w .before .before in
     let z = stepped (l .load-bucket .ensures) (λ (u : rules.BucketSettings) (n : ℕ) (y : rules.Bucket). rules.insert u (time b) (record { key = n; value = valueOf (value b); connected = isOne (state b); incoming = isOne (direction b) }) y) (at k .key-is) (m .insert-sound .ensures .0) (m .insert-sound .ensures .1) in
-    ends-at (s b) (key b) (call b) (out b) (at k .passed) (h .is-absent .ensures ∙ sym (ap isAbsent (kind-told (at k) (l .load-bucket .ensures) (h .before .kind-of .ensures .0)))) (at k .index) refl
+    ends-at (s b) (key b) (call b) (out b) (at k .passed) (h .is-absent .ensures ∙ sym (ap isAbsent (kind-told (at k) (l .load-bucket .ensures) (h .before .kind-of .ensures .0)))) (at k .index)
+    (stored-insert-records _ _ _ (m .insert-sound .result .bucket) (l .load-bucket .ensures) (at k .key-is) (r .record-of .ensures .0) (time b) (nodeOf (key b) (value b) (state b) (direction b)) refl (z .bucket))
     (w .before .told-insert .ensures ∙ ap toldInsert (z .answer)) (reason-told (l .load-bucket .ensures) (λ (bs : ℕ → rules.Bucket) (u : rules.BucketSettings) (n : ℕ) (y : rules.Bucket). insertReason u (record { key = n; value = valueOf (value b); connected = isOne (state b); incoming = isOne (direction b) }) y) (at k .key-is) (w .insert-reason .ensures) _) (x .ended .ensures)
 
 pub explain-absent-insert-spec : {M : Type 1} → statement M
@@ -181,6 +190,7 @@ explain-absent-insert-spec =
     kind-of-requires
     is-absent-requires
     insert-sound-requires
+    record-of-requires
     told-insert-requires
     insert-reason-requires
     ended-requires

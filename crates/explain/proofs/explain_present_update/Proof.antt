@@ -19,6 +19,7 @@ use Rattle.on_key.specs.Start.{AtBucket}
 use Rattle.on_key.proofs.Questions.{passed-five}
 use Rattle.on_key.proofs.Steps.{begun, stepped}
 use Rattle.entry.proofs.Kind.{kind-self, kind-told}
+use Rattle.on_key.proofs.Endings.{stored-status-records}
 use Rattle.explain.proofs.Ends.{refused-early, ends-local, ends-at, reason-told}
 use borrow.Author.Needs.{needs}
 use Rattle.explain.proofs.explain_present_update.Statement.{statement}
@@ -112,12 +113,15 @@ update-status-sound-requires c κs =
     let z = l .load-bucket .ensures in
     (z .sound, (omega (arith, low-state k), omega (arith, low-direction k)))
 
+record-of-requires : tie.Need-record-of-requires
+record-of-requires c κs = refl
+
 told-update-requires : tie.Need-told-update-requires
 told-update-requires c κs = search needs
 
 status-reason-requires : tie.Need-status-reason-requires
 status-reason-requires c κs =
-    let l = c .before .before .before .before in
+    let l = c .before .before .before .before .before .before in
     let k = l .before .before in
     let z = l .load-bucket .ensures in
     (z .sound, (omega (arith, low-state k), omega (arith, low-direction k)))
@@ -125,7 +129,9 @@ status-reason-requires c κs =
 ended-requires : tie.Need-ended-requires
 ended-requires c κs =
     let w = c .before in
-    let h = w .before .before .before in
+    let r = w .before .before in
+    let m = r .before .before in
+    let h = m .before in
     let l = h .before .before in
     let k = l .before .before in
     let b = began k in
@@ -154,13 +160,15 @@ returns-3 : tie.Need-returns-3
 returns-3 c =
     let x = c .before .before in
     let w = x .before .before in
-    let h = w .before .before .before in
+    let r = w .before .before in
+    let m = r .before .before in
+    let h = m .before in
     let l = h .before .before in
     let k = l .before .before in
     let b = began k in
-    let m = w .before .before in
     let z = stepped (l .load-bucket .ensures) (λ (u : rules.BucketSettings) (n : ℕ) (y : rules.Bucket). rules.updateStatus u n (isOne (state b)) (optional (direction b)) y) (at k .key-is) (m .update-status-sound .ensures .0) (m .update-status-sound .ensures .1) in
-    ends-at (s b) (key b) (call b) (out b) (at k .passed) (h .is-present .ensures ∙ sym (ap isPresent (kind-told (at k) (l .load-bucket .ensures) (h .before .kind-of .ensures .0)))) (at k .index) refl
+    ends-at (s b) (key b) (call b) (out b) (at k .passed) (h .is-present .ensures ∙ sym (ap isPresent (kind-told (at k) (l .load-bucket .ensures) (h .before .kind-of .ensures .0)))) (at k .index)
+    (stored-status-records _ _ _ (m .update-status-sound .result .bucket) (l .load-bucket .ensures) (at k .key-is) (r .record-of .ensures .0) (isOne (state b)) (optional (direction b)) (z .bucket))
     (w .before .told-update .ensures ∙ ap toldUpdate (z .answer)) (reason-told (l .load-bucket .ensures) (λ (bs : ℕ → rules.Bucket) (u : rules.BucketSettings) (n : ℕ) (y : rules.Bucket). statusReason u n (isOne (state b)) (optional (direction b)) y) (at k .key-is) (w .status-reason .ensures) _) (x .ended .ensures)
 
 pub explain-present-update-spec : {M : Type 1} → statement M
@@ -176,6 +184,7 @@ explain-present-update-spec =
     kind-of-requires
     is-present-requires
     update-status-sound-requires
+    record-of-requires
     told-update-requires
     status-reason-requires
     ended-requires

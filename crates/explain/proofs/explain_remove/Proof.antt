@@ -15,6 +15,7 @@ use Rattle.on_key.specs.Answers.{failedOfFive}
 use Rattle.on_key.specs.Start.{AtBucket}
 use Rattle.on_key.proofs.Questions.{passed-five}
 use Rattle.on_key.proofs.Steps.{timely, begun, stepped}
+use Rattle.on_key.proofs.Endings.{no-own}
 use Rattle.explain.proofs.Ends.{refused-early, ends-local, ends-at, reason-told}
 use borrow.Author.Needs.{needs}
 use Rattle.explain.proofs.explain_remove.Statement.{statement}
@@ -131,7 +132,7 @@ returns-3 c =
     let b = began k in
     let m = w .before in
     let z = stepped (a .apply-at .ensures .bucket) (λ (u : rules.BucketSettings) (n : ℕ) (y : rules.Bucket). rules.remove u (time b) n y) (at k .key-is) (m .remove-sound .ensures .0) (m .remove-sound .ensures .1) in
-    ends-at (s b) (key b) (call b) (out b) (at k .passed) refl (at k .index) (a .apply-at .ensures .records)
+    ends-at (s b) (key b) (call b) (out b) (at k .passed) refl (at k .index) (no-own (a .apply-at .ensures .records))
     (ap model.Told.Removed (z .answer)) (reason-told (a .apply-at .ensures .bucket) (λ (bs : ℕ → rules.Bucket) (u : rules.BucketSettings) (n : ℕ) (y : rules.Bucket). removeReason n y) (at k .key-is) (w .remove-reason .ensures) _) (x .ended .ensures)
 
 pub explain-remove-spec : {M : Type 1} → statement M

@@ -20,6 +20,7 @@ use Rattle.on_key.specs.Answers.{failedOfFive}
 use Rattle.on_key.specs.Start.{AtBucket}
 use Rattle.on_key.proofs.Questions.{passed-five}
 use Rattle.on_key.proofs.Steps.{timely, begun, stepped}
+use Rattle.on_key.proofs.Endings.{update-records}
 use Rattle.explain.proofs.Ends.{refused-early, ends-local, ends-at, reason-told}
 use borrow.Author.Needs.{needs}
 use Rattle.explain.proofs.explain_update_node.Statement.{statement}
@@ -126,12 +127,15 @@ update-node-in-requires c κs =
     let z = a .apply-at .ensures .bucket in
     (z .sound, (and-left (valueInRange (value b)) (leb (state b) 2) (in-range k), (leb-true (state b) 2 (and-right (valueInRange (value b)) (leb (state b) 2) (in-range k)), omega (arith, ap (λ (u : rules.BucketSettings). u .pendingTimeout) (z .settings), timely (s b) (key b) (codes b) (time b) (at k .passed)))))
 
+record-of-requires : tie.Need-record-of-requires
+record-of-requires c κs = c .before .before .before .apply-at .ensures .codes
+
 told-update-requires : tie.Need-told-update-requires
 told-update-requires c κs = search needs
 
 update-node-why-requires : tie.Need-update-node-why-requires
 update-node-why-requires c κs =
-    let a = c .before .before .before in
+    let a = c .before .before .before .before .before in
     let k = a .before .before .before in
     let b = began k in
     let z = a .apply-at .ensures .bucket in
@@ -140,7 +144,9 @@ update-node-why-requires c κs =
 ended-requires : tie.Need-ended-requires
 ended-requires c κs =
     let w = c .before in
-    let a = w .before .before .before .before in
+    let r = w .before .before in
+    let m = r .before .before in
+    let a = m .before .before in
     let k = a .before .before .before in
     let b = began k in
     let p = passed-five (s b) (key b) (codes b) (some (time b)) (at k .passed) in
@@ -168,10 +174,11 @@ returns-3 : tie.Need-returns-3
 returns-3 c =
     let x = c .before .before in
     let w = x .before .before in
-    let a = w .before .before .before .before in
+    let r = w .before .before in
+    let m = r .before .before in
+    let a = m .before .before in
     let k = a .before .before .before in
     let b = began k in
-    let m = w .before .before in
     let g = a .before in
     let t = tableOf (s b) in
     let i = k .start2 .given .0 .1 .0 in
@@ -179,7 +186,8 @@ returns-3 c =
     let y = rules.applyPending u (time b) (t .buckets i) .0 in
     let f = g .table-filter-fails .ensures ∙ ap (λ (n : ℕ). failsTableFilter t i n (valueOf (value b))) (at k .key-is) in
     let z = stepped (a .apply-at .ensures .bucket) (does b (g .table-filter-fails .result)) (at k .key-is) (m .update-node-in .ensures .0) (m .update-node-in .ensures .1) in
-    ends-at (s b) (key b) (call b) (out b) (at k .passed) refl (at k .index) (a .apply-at .ensures .records)
+    ends-at (s b) (key b) (call b) (out b) (at k .passed) refl (at k .index)
+    (update-records _ (time b) _ _ (m .update-node-in .result .bucket) (a .apply-at .ensures .bucket) (a .apply-at .ensures .records) (at k .key-is) (r .record-of .ensures .0) (failsTableFilter t i (number (key b)) (valueOf (value b))) (valueOf (value b)) (optional (state b)) (z .bucket ∙ ap (λ (q : Bool). does b q u (number (key b)) y .1) f))
     (w .before .told-update .ensures ∙ ap told (z .answer ∙ ap (λ (q : Bool). does b q u (number (key b)) y .0) f))
     (reason-told (a .apply-at .ensures .bucket) (why b (g .table-filter-fails .result)) (at k .key-is) (w .update-node-why .ensures) _ ∙ ap (λ (q : Bool). why b q (t .buckets) u (number (key b)) y) f) (x .ended .ensures)
 
@@ -196,6 +204,7 @@ explain-update-node-spec =
     table-filter-fails-requires
     apply-at-requires
     update-node-in-requires
+    record-of-requires
     told-update-requires
     update-node-why-requires
     ended-requires

@@ -17,6 +17,7 @@ use Rattle.on_key.specs.Answers.{failedOfFive}
 use Rattle.on_key.specs.Start.{AtBucket}
 use Rattle.on_key.proofs.Questions.{passed-five}
 use Rattle.on_key.proofs.Steps.{timely, begun, stepped}
+use Rattle.on_key.proofs.Endings.{status-records}
 use Rattle.explain.proofs.Ends.{refused-early, ends-local, ends-at, reason-told}
 use borrow.Author.Needs.{needs}
 use Rattle.explain.proofs.explain_update_node_status.Statement.{statement}
@@ -108,12 +109,15 @@ update-status-sound-requires c κs =
     let z = a .apply-at .ensures .bucket in
     (z .sound, (omega (arith, low-state k), omega (arith, low-direction k)))
 
+record-of-requires : tie.Need-record-of-requires
+record-of-requires c κs = c .before .before .before .apply-at .ensures .codes
+
 told-update-requires : tie.Need-told-update-requires
 told-update-requires c κs = search needs
 
 status-reason-requires : tie.Need-status-reason-requires
 status-reason-requires c κs =
-    let a = c .before .before .before in
+    let a = c .before .before .before .before .before in
     let k = a .before .before in
     let z = a .apply-at .ensures .bucket in
     (z .sound, (omega (arith, low-state k), omega (arith, low-direction k)))
@@ -121,7 +125,9 @@ status-reason-requires c κs =
 ended-requires : tie.Need-ended-requires
 ended-requires c κs =
     let w = c .before in
-    let a = w .before .before .before .before in
+    let r = w .before .before in
+    let m = r .before .before in
+    let a = m .before .before in
     let k = a .before .before in
     let b = began k in
     let p = passed-five (s b) (key b) (codes b) (some (time b)) (at k .passed) in
@@ -149,12 +155,14 @@ returns-3 : tie.Need-returns-3
 returns-3 c =
     let x = c .before .before in
     let w = x .before .before in
-    let a = w .before .before .before .before in
+    let r = w .before .before in
+    let m = r .before .before in
+    let a = m .before .before in
     let k = a .before .before in
     let b = began k in
-    let m = w .before .before in
     let z = stepped (a .apply-at .ensures .bucket) (λ (u : rules.BucketSettings) (n : ℕ) (y : rules.Bucket). rules.updateStatus u n (isOne (state b)) (optional (direction b)) y) (at k .key-is) (m .update-status-sound .ensures .0) (m .update-status-sound .ensures .1) in
-    ends-at (s b) (key b) (call b) (out b) (at k .passed) refl (at k .index) (a .apply-at .ensures .records)
+    ends-at (s b) (key b) (call b) (out b) (at k .passed) refl (at k .index)
+    (status-records _ (time b) _ _ (m .update-status-sound .result .bucket) (a .apply-at .ensures .bucket) (a .apply-at .ensures .records) (at k .key-is) (r .record-of .ensures .0) (isOne (state b)) (optional (direction b)) (z .bucket))
     (w .before .told-update .ensures ∙ ap toldUpdate (z .answer)) (reason-told (a .apply-at .ensures .bucket) (λ (bs : ℕ → rules.Bucket) (u : rules.BucketSettings) (n : ℕ) (y : rules.Bucket). statusReason u n (isOne (state b)) (optional (direction b)) y) (at k .key-is) (w .status-reason .ensures) _) (x .ended .ensures)
 
 pub explain-update-node-status-spec : {M : Type 1} → statement M
@@ -168,6 +176,7 @@ explain-update-node-status-spec =
     enum-known-start-2
     apply-at-requires
     update-status-sound-requires
+    record-of-requires
     told-update-requires
     status-reason-requires
     ended-requires

@@ -1,60 +1,75 @@
+use mathlib.Core.Path.{sym, _∙_}
 use native.Mathlib.Omega.{arith}
-use Rattle.header.proofs.Queue.{pushed-none}
+use Rattle.bucket.specs.Calls.{recordsOf}
+use Rattle.header.proofs.Queue.{pushed-records, pushed-nothing}
 use borrow.Author.Needs.{needs}
 use Rattle.header.proofs.push_record.Statement.{statement}
 use Rattle.header.proofs.push_record.Tie as tie
 
-enum-told : tie.Need-enum-told
-enum-told c = search needs
-
-enum-known-applied : tie.Need-enum-known-applied
-enum-known-applied c = search needs
-
-push-inserted-requires : tie.Need-push-inserted-requires
-push-inserted-requires c κs =
-    let st = c .before .before .before .before .before in
-    let room = rw (c .before .before .applied .given .1) at (st .pre .1 .1 .0) in
-    (st .pre .0, (st .pre .1 .0, omega arith))
-
-enum-known-applied-2 : tie.Need-enum-known-applied-2
-enum-known-applied-2 c = search needs
-
-push-replaced-requires : tie.Need-push-replaced-requires
-push-replaced-requires c κs =
-    let st = c .before .before .before .before .before in
-    let e = c .before .before .applied2 .given .1 in
-    let room = rw e at (st .pre .1 .1 .0) in
-    (st .pre .0, (st .pre .1 .0, (omega arith, rw e at (st .pre .1 .1 .1))))
+count-of-requires : tie.Need-count-of-requires
+count-of-requires c κs = search needs
 
 returns : tie.Need-returns
 returns c =
-    let known = c .before .before in
+    let n = c .before in
+    let known = n .before in
     let st = known .before in
-    rw (c .enum-told .given .1) (pushed-none (st .args .s .now) (st .pre .0) (λ i. known .slice-known .given i .fits) (st .pre .1 .0))
+    let a = st .args in
+    pushed-nothing (a .s .now) (st .pre .0) (λ i. known .slice-known .given i .fits) (st .pre .1 .0) (recordsOf (a .ended)) (sym (n .count-of .ensures .0) ∙ c .if1 .taken)
+
+record-count-requires : tie.Need-record-count-requires
+record-count-requires c κs = search needs
+
+mul-store-record : tie.Need-mul-store-record
+mul-store-record c = search needs
+
+add-store-record : tie.Need-add-store-record
+add-store-record c = search needs
+
+store-record-requires : tie.Need-store-record-requires
+store-record-requires c κs =
+    let r = c .before in
+    let st = r .before .before .before .before .before in
+    let count = r .record-count .ensures in
+    let room = st .pre .1 .1 .0 in
+    (omega (arith, st .pre .0), st .pre .1 .1 .1)
+
+add-put-byte : tie.Need-add-put-byte
+add-put-byte c = search needs
+
+cast-put-byte : tie.Need-cast-put-byte
+cast-put-byte c = search needs
+
+put-byte-requires : tie.Need-put-byte-requires
+put-byte-requires c κs = search needs
 
 same-length : tie.Need-same-length
 same-length c = search needs
 
 returns-2 : tie.Need-returns-2
-returns-2 c = rw (c .before .before .before .before .before .applied .given .1) (c .before .before .push-inserted .ensures)
-
-same-length-2 : tie.Need-same-length-2
-same-length-2 c = search needs
-
-returns-3 : tie.Need-returns-3
-returns-3 c = rw (c .before .before .before .before .before .applied2 .given .1) (c .before .before .push-replaced .ensures)
+returns-2 c =
+    let r = c .before .before .before .before .before .before .before .before in
+    let e = r .before .before in
+    let n = e .before in
+    let known = n .before in
+    let st = known .before in
+    let a = st .args in
+    let room = st .pre .1 .1 .0 in
+    cc (pushed-records (a .s .now) (st .pre .0) (λ i. known .slice-known .given i .fits) (st .pre .1 .0) (recordsOf (a .ended)) (r .record-count .result) (r .record-count .ensures)
+    (omega (arith, r .record-count .ensures)) (omega (arith, n .count-of .ensures .0, n .count-of .ensures .1)) (λ z. e .if1 .left (n .count-of .ensures .0 ∙ z)))
 
 pub push-record-spec : {M : Type 1} → statement M
 push-record-spec =
     tie.close
     (tie.spec
-    enum-told
-    enum-known-applied
-    push-inserted-requires
-    enum-known-applied-2
-    push-replaced-requires
+    count-of-requires
     returns
+    record-count-requires
+    mul-store-record
+    add-store-record
+    store-record-requires
+    add-put-byte
+    cast-put-byte
+    put-byte-requires
     same-length
-    returns-2
-    same-length-2
-    returns-3)
+    returns-2)

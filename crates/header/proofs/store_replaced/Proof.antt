@@ -1,3 +1,5 @@
+use Rattle.model.specs.Layout.{evictingKind, nodeBytes}
+use Rattle.laws.proofs.NodeBytes.{length-node}
 use Rattle.key.specs.Key.{num}
 use Rattle.node.specs.Node.{nodeOf}
 use Rattle.header.proofs.Queue.{record-put}
@@ -30,7 +32,7 @@ returns : tie.Need-returns
 returns c =
     let st = c .before .before .before .before .before .before .before .before .before .before .before .before .before in
     let a = st .args in
-    cc (record-put (a .s .now) (a .at) (num (a .key)) (nodeOf (a .node)) (st .pre .0))
+    cc (record-put (a .s .now) (a .at) (num (a .key)) evictingKind (nodeBytes (nodeOf (a .node))) (length-node (nodeOf (a .node))) (st .pre .0))
 
 pub store-replaced-spec : {M : Type 1} → statement M
 store-replaced-spec =

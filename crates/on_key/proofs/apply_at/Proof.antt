@@ -1,7 +1,7 @@
 use mathlib.Core.Path.{_≡_, refl, sym, ap, _∙_, subst⁻¹}
 use mathlib.Core.List.{List, []}
 use native.Mathlib.Omega.{arith}
-use Rattle.model.specs.Node.{AppliedPending}
+use Rattle.model.specs.Node.{EndedPending}
 use Rattle.model.specs.Bucket as rules
 use Rattle.model.specs.Table.{Table}
 use Rattle.model.specs.Layout.{tableOf}
@@ -48,8 +48,8 @@ returns-2 c =
     not-due (t .settings .bucket) (a .time) (t .buckets (a .i)) (sym (d .is-due .ensures) ∙ c .if1 .left)
     in
     record {
-      bucket = subst⁻¹ (λ (p : rules.Bucket × List AppliedPending). Becomes (t .settings .bucket) (p .0) (i .load-bucket .result)) e (i .load-bucket .ensures);
-      records = sym (ap (λ (p : rules.Bucket × List AppliedPending). p .1) e);
+      bucket = subst⁻¹ (λ (p : rules.Bucket × List EndedPending). Becomes (t .settings .bucket) (p .0) (i .load-bucket .result)) e (i .load-bucket .ensures);
+      records = sym (ap (λ (p : rules.Bucket × List EndedPending). p .1) e);
       codes = refl;
     }
 

@@ -1,20 +1,26 @@
 use Prim.Native.Nat.{ℕ}
 use native.Mathlib.Omega.{arith}
-use mathlib.Core.Path.{refl, ap}
+use mathlib.Core.Path.{_≡_, refl, ap}
 use mathlib.Core.Bool.{Bool, _&&_}
 use mathlib.Core.List.{List}
 use mathlib.Core.Option.{some}
 use lib.Dec.{leb}
 use borrow.Author.Tests.{leb-true}
+use Rattle.model.specs.Bytes.{number}
+use Rattle.model.specs.Result.{UpdateResult}
 use Rattle.model.specs.Bucket as rules
-use Rattle.model.specs.Table.{Answer}
+use Rattle.model.specs.Table.{Answer, Effect}
+use Rattle.model.specs.Layout.{tableOf}
+use Rattle.model.specs.Step.{effect}
 use Rattle.model.specs.Call.{KeyCall, isOne, optional}
 use Rattle.laws.proofs.Tests.{and-left, and-right}
+use Rattle.bucket.specs.Calls.{recordsOf, updateResultOf}
 use Rattle.on_key.specs.Start.{AtBucket}
 use Rattle.on_key.proofs.Questions.{passed-five}
 use Rattle.on_key.proofs.OneKey.{refused-early, answers-self}
-use Rattle.on_key.proofs.Steps.{timely, begun, stepped}
+use Rattle.on_key.proofs.Steps.{Stepped, timely, begun, stepped}
 use Rattle.on_key.proofs.Ended.{ends-full, ends}
+use Rattle.on_key.proofs.Endings.{status-records}
 use borrow.Author.Needs.{needs}
 use Rattle.table.proofs.update_node_status.Statement.{statement}
 use Rattle.table.proofs.update_node_status.Tie as tie
@@ -76,11 +82,39 @@ update-status-sound-requires c κs =
     let p = passed-five (s b) (key b) (codes b) (some (time b)) (at k .passed) .in-range in
     (a .apply-at .ensures .bucket .sound, (leb-true (state b) 1 (and-left (leb (state b) 1) (leb (direction b) 2) p), leb-true (direction b) 2 (and-right (leb (state b) 1) (leb (direction b) 2) p)))
 
+record-of-requires : tie.Need-record-of-requires
+record-of-requires c κs = c .before .before .before .apply-at .ensures .codes
+
+-- the bucket that the status step leaves, and the call's records
+module _ (r : tie.After-record-of) where
+  abbrev did : tie.After-update-status-sound
+  did = r .before .before
+
+  abbrev applied : tie.After-apply-at
+  applied = did .before .before
+
+  abbrev here : tie.After-start2
+  here = applied .before .before .before
+
+  abbrev b : tie.After-begin-at
+  b = began here
+
+  abbrev call : KeyCall
+  call = KeyCall.updateNodeStatus (state b) (direction b) (time b)
+
+  abbrev does : Effect
+  does = effect call (key b) (tableOf (s b)) (here .start2 .given .0 .1 .0) (tableOf (s b) .buckets (here .start2 .given .0 .1 .0))
+
+  step : Stepped UpdateResult (rules.updateStatus (tableOf (s b) .settings .bucket) (number (key b)) (isOne (state b)) (optional (direction b)) (rules.applyPending (tableOf (s b) .settings .bucket) (time b) (tableOf (s b) .buckets (here .start2 .given .0 .1 .0)) .0)) (updateResultOf (did .update-status-sound .result .result)) (did .update-status-sound .result .bucket)
+  step = stepped (applied .apply-at .ensures .bucket) (λ (u : rules.BucketSettings) (n : ℕ) (x : rules.Bucket). rules.updateStatus u n (isOne (state b)) (optional (direction b)) x) (at here .key-is) (did .update-status-sound .ensures .0) (did .update-status-sound .ensures .1)
+
+  records : recordsOf (r .record-of .result) ≡ does .records
+  records = status-records _ (time b) _ _ (did .update-status-sound .result .bucket) (applied .apply-at .ensures .bucket) (applied .apply-at .ensures .records) (at here .key-is) (r .record-of .ensures .0) (isOne (state b)) (optional (direction b)) (step .bucket)
+
 finish-requires : tie.Need-finish-requires
 finish-requires c κs =
-    let m = c .before .before in
-    let a = m .before .before in
-    (at (a .before .before .before) .ready, (a .apply-at .ensures .codes, m .update-status-sound .ensures .1 .sound))
+    let r = c .before in
+    (at (here r) .ready, (r .record-of .ensures .1, did r .update-status-sound .ensures .1 .sound))
 
 same-length : tie.Need-same-length
 same-length c = search needs
@@ -88,10 +122,8 @@ same-length c = search needs
 returns : tie.Need-returns
 returns c =
     let f = c .before .before .before in
-    let a = f .before .before .before .before .before in
-    let k = a .before .before .before in
-    let b = began k in
-    ends-full (s b) (key b) (KeyCall.updateNodeStatus (state b) (direction b) (time b)) (at k) refl _ (f .finish .ensures) (a .apply-at .ensures .records) (c .if1 .taken)
+    let r = f .before .before in
+    ends-full (s (b r)) (key (b r)) (call r) (at (here r)) refl _ (f .finish .ensures) (records r) (c .if1 .taken)
 
 same-length-2 : tie.Need-same-length-2
 same-length-2 c = search needs
@@ -116,12 +148,8 @@ same-length-4 c = search needs
 returns-4 : tie.Need-returns-4
 returns-4 c =
     let f = c .before .before .before in
-    let m = f .before .before .before in
-    let a = m .before .before in
-    let k = a .before .before .before in
-    let b = began k in
-    let z = stepped (a .apply-at .ensures .bucket) (λ (u : rules.BucketSettings) (n : ℕ) (x : rules.Bucket). rules.updateStatus u n (isOne (state b)) (optional (direction b)) x) (at k .key-is) (m .update-status-sound .ensures .0) (m .update-status-sound .ensures .1) in
-    ends (s b) (key b) (KeyCall.updateNodeStatus (state b) (direction b) (time b)) (at k) refl _ (f .finish .ensures) (a .apply-at .ensures .records) (c .if1 .left) (ap Answer.Update (z .answer)) (z .bucket)
+    let r = f .before .before in
+    ends (s (b r)) (key (b r)) (call r) (at (here r)) refl _ (f .finish .ensures) (records r) (c .if1 .left) (ap Answer.Update (step r .answer)) (step r .bucket)
 
 pub update-node-status-spec : {M : Type 1} → statement M
 update-node-status-spec =
@@ -133,6 +161,7 @@ update-node-status-spec =
     enum-known-start-2
     apply-at-requires
     update-status-sound-requires
+    record-of-requires
     finish-requires
     same-length
     returns

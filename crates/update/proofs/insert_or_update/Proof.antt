@@ -1,23 +1,27 @@
 use Prim.Native.Nat.{ℕ}
 use native.Mathlib.Omega.{arith}
-use mathlib.Core.Path.{_≡_, refl, ap, _∙_}
+use mathlib.Core.Path.{_≡_, refl, ap, _∙_, subst}
 use mathlib.Core.Bool.{Bool, true, _&&_}
 use mathlib.Core.List.{List}
 use mathlib.Core.Option.{some}
 use lib.Dec.{leb}
 use Rattle.model.specs.Bytes.{number}
 use Rattle.model.specs.Bucket as rules
-use Rattle.model.specs.Table.{Answer, failsTableFilter, insertOrUpdateIn}
+use Rattle.model.specs.Table.{Table, Answer, failsTableFilter, insertOrUpdateIn}
+use Rattle.model.specs.Step.{nodeOf, effect}
 use Rattle.model.specs.Layout.{tableOf}
 use Rattle.model.specs.Call.{ValueArgument, KeyCall, valueOf, isOne}
 use Rattle.model.specs.Question.{valueInRange}
 use Rattle.laws.proofs.Tests.{and-turned}
 use Rattle.node.specs.Node.{argumentOf}
+use Rattle.bucket.specs.Calls.{recordsOf}
+use Rattle.bucket_update.specs.Results.{tableInsertResultOf}
 use Rattle.on_key.specs.Start.{AtBucket}
 use Rattle.on_key.proofs.Questions.{passed-five}
 use Rattle.on_key.proofs.OneKey.{refused-early, answers-self}
-use Rattle.on_key.proofs.Steps.{timely, begun, stepped}
+use Rattle.on_key.proofs.Steps.{Stepped, timely, begun, stepped}
 use Rattle.on_key.proofs.Ended.{ends-full, ends}
+use Rattle.on_key.proofs.Endings.{insert-or-update-records}
 use borrow.Author.Needs.{needs}
 use Rattle.update.proofs.insert_or_update.Statement.{statement}
 use Rattle.update.proofs.insert_or_update.Tie as tie
@@ -104,10 +108,58 @@ insert-or-update-in-requires c κs =
     let z = a .apply-at .ensures .bucket in
     (z .sound, (known-codes k, omega (arith, ap (λ (u : rules.BucketSettings). u .pendingTimeout) (z .settings), timely (s b) (key b) (codes b) (time b) (at k .passed))))
 
+record-of-requires : tie.Need-record-of-requires
+record-of-requires c κs = c .before .before .before .apply-at .ensures .codes
+
+-- the bucket that the call's steps leave, and the call's records
+module _ (r : tie.After-record-of) where
+  abbrev did : tie.After-insert-or-update-in
+  did = r .before .before
+
+  abbrev applied : tie.After-apply-at
+  applied = did .before .before
+
+  abbrev filtered : tie.After-table-filter-fails
+  filtered = applied .before .before
+
+  abbrev here : tie.After-start2
+  here = filtered .before .before .before
+
+  abbrev b : tie.After-begin-at
+  b = began here
+
+  abbrev call : KeyCall
+  call = KeyCall.insertOrUpdate (value b) (state b) (direction b) (time b)
+
+  abbrev t : Table
+  t = tableOf (s b)
+
+  abbrev i : ℕ
+  i = here .start2 .given .0 .1 .0
+
+  abbrev fails : Bool
+  fails = failsTableFilter t i (number (key b)) (valueOf (value b))
+
+  abbrev found : rules.Bucket
+  found = rules.applyPending (t .settings .bucket) (time b) (t .buckets i) .0
+
+  filter-told : filtered .table-filter-fails .result ≡ fails
+  filter-told = filtered .table-filter-fails .ensures ∙ ap (λ (n : ℕ). failsTableFilter t i n (valueOf (value b))) (at here .key-is)
+
+  step : Stepped Answer (does b fails (t .settings .bucket) (number (key b)) found) (Answer.InsertOrUpdate (tableInsertResultOf (did .insert-or-update-in .result .result))) (did .insert-or-update-in .result .bucket)
+  step =
+      subst (λ (q : Bool). Stepped Answer (does b q (t .settings .bucket) (number (key b)) found) (Answer.InsertOrUpdate (tableInsertResultOf (did .insert-or-update-in .result .result))) (did .insert-or-update-in .result .bucket)) filter-told
+      (stepped (applied .apply-at .ensures .bucket) (does b (filtered .table-filter-fails .result)) (at here .key-is) (did .insert-or-update-in .ensures .0) (did .insert-or-update-in .ensures .1))
+
+  records : recordsOf (r .record-of .result) ≡ effect call (key b) t i (t .buckets i) .records
+  records =
+      insert-or-update-records _ (time b) _ _ (did .insert-or-update-in .result .bucket) (applied .apply-at .ensures .bucket) (applied .apply-at .ensures .records) (at here .key-is) (r .record-of .ensures .0)
+      fails (nodeOf (key b) (value b) (state b) (direction b)) refl (step .bucket)
+
 finish-requires : tie.Need-finish-requires
 finish-requires c κs =
-    let a = c .before .before .before .before in
-    (at (a .before .before .before .before .before) .ready, (a .apply-at .ensures .codes, search needs))
+    let r = c .before in
+    (at (here r) .ready, (r .record-of .ensures .1, step r .sound))
 
 same-length : tie.Need-same-length
 same-length c = search needs
@@ -115,10 +167,8 @@ same-length c = search needs
 returns : tie.Need-returns
 returns c =
     let f = c .before .before .before in
-    let a = f .before .before .before .before .before in
-    let k = a .before .before .before .before .before in
-    let b = began k in
-    ends-full (s b) (key b) (KeyCall.insertOrUpdate (value b) (state b) (direction b) (time b)) (at k) refl _ (f .finish .ensures) (a .apply-at .ensures .records) (c .if1 .taken)
+    let r = f .before .before in
+    ends-full (s (b r)) (key (b r)) (call r) (at (here r)) refl _ (f .finish .ensures) (records r) (c .if1 .taken)
 
 same-length-2 : tie.Need-same-length-2
 same-length-2 c = search needs
@@ -143,19 +193,8 @@ same-length-4 c = search needs
 returns-4 : tie.Need-returns-4
 returns-4 c =
     let f = c .before .before .before in
-    let m = f .before .before .before in
-    let a = m .before .before in
-    let g = a .before .before in
-    let k = g .before .before .before in
-    let b = began k in
-    let t = tableOf (s b) in
-    let i = k .start2 .given .0 .1 .0 in
-    let x = rules.applyPending (t .settings .bucket) (time b) (t .buckets i) .0 in
-    let z = stepped (a .apply-at .ensures .bucket) (does b (g .table-filter-fails .result)) (at k .key-is) (m .insert-or-update-in .ensures .0) (m .insert-or-update-in .ensures .1) in
-    let d = g .table-filter-fails .ensures ∙ ap (λ (n : ℕ). failsTableFilter t i n (valueOf (value b))) (at k .key-is) in
-    ends (s b) (key b) (KeyCall.insertOrUpdate (value b) (state b) (direction b) (time b)) (at k) refl _ (f .finish .ensures) (a .apply-at .ensures .records) (c .if1 .left)
-    (z .answer ∙ ap (λ (q : Bool). does b q (t .settings .bucket) (number (key b)) x .0) d)
-    (z .bucket ∙ ap (λ (q : Bool). does b q (t .settings .bucket) (number (key b)) x .1) d)
+    let r = f .before .before in
+    ends (s (b r)) (key (b r)) (call r) (at (here r)) refl _ (f .finish .ensures) (records r) (c .if1 .left) (step r .answer) (step r .bucket)
 
 pub insert-or-update-spec : {M : Type 1} → statement M
 insert-or-update-spec =
@@ -169,6 +208,7 @@ insert-or-update-spec =
     table-filter-fails-requires
     apply-at-requires
     insert-or-update-in-requires
+    record-of-requires
     finish-requires
     same-length
     returns

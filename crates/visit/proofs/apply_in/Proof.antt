@@ -1,6 +1,6 @@
 use mathlib.Core.Path.{sym, ap₂, _∙_}
 use mathlib.Core.List.{List}
-use Rattle.model.specs.Node.{AppliedPending}
+use Rattle.model.specs.Node.{EndedPending}
 use Rattle.model.specs.Bucket.{Bucket}
 use Rattle.bucket.specs.Calls.{recordsOf}
 use Rattle.on_key.specs.Answers.{rewritten}
@@ -34,7 +34,7 @@ returns c =
     let o = k .before in
     let a = o .args in
     let x = p .apply-at .ensures in
-    w .write-back .ensures ∙ ap₂ (λ (b : Bucket) (rs : List AppliedPending). rewritten (a .s .now) (a .i) b rs) (x .bucket .bucket) (x .records)
+    w .write-back .ensures ∙ ap₂ (λ (b : Bucket) (rs : List EndedPending). rewritten (a .s .now) (a .i) b rs) (x .bucket .bucket) (x .records)
     ∙ visit-written (a .s .now) (λ j. k .slice-known .given j .fits) (o .pre .0 .size) (o .pre .1 .1 .1) (a .time) (a .i) (o .pre .0 .below) (o .pre .1 .1 .0)
 
 same-length-2 : tie.Need-same-length-2

@@ -3,7 +3,7 @@ use mathlib.Core.Bool.{false}
 use mathlib.Core.List.{List, []}
 use native.Mathlib.Omega.{arith}
 use lib.ListN.{length}
-use Rattle.model.specs.Node.{AppliedPending}
+use Rattle.model.specs.Node.{EndedPending, placedOf}
 use Rattle.model.specs.Bucket.{Bucket, numEntries, applyPending}
 use Rattle.model.specs.Layout.{tableOf}
 use Rattle.on_key.proofs.Due.{not-due}
@@ -27,22 +27,37 @@ returns c =
     let no : w .before .is-due .result ≡ false = not-true _ (w .if1 .taken) in
     let e : applyPending (t .settings .bucket) (a .time) (t .buckets (a .i)) ≡ (t .buckets (a .i), []) = not-due (t .settings .bucket) (a .time) (t .buckets (a .i)) (sym (w .before .is-due .ensures) ∙ no) in
     record {
-      count = c .held-at .ensures ∙ ap (λ (r : Bucket × List AppliedPending). numEntries (r .0)) (sym e);
-      records = ap (λ (r : Bucket × List AppliedPending). length (r .1)) (sym e);
+      count = c .held-at .ensures ∙ ap (λ (r : Bucket × List EndedPending). numEntries (r .0)) (sym e);
+      records = ap (λ (r : Bucket × List EndedPending). length (r .1)) (sym e);
+      placed = ap (λ (r : Bucket × List EndedPending). length (placedOf (r .1))) (sym e);
       one = omega arith;
     }
 
 apply-at-requires : tie.Need-apply-at-requires
 apply-at-requires c κs = search needs
 
+only-placed-requires : tie.Need-only-placed-requires
+only-placed-requires c κs = c .before .apply-at .ensures .codes
+
 count-of-requires : tie.Need-count-of-requires
 count-of-requires c κs = search needs
 
+count-of-requires-2 : tie.Need-count-of-requires-2
+count-of-requires-2 c κs = search needs
+
 returns-2 : tie.Need-returns-2
 returns-2 c =
-    let x = c .before .before .apply-at .ensures in
-    let b = c .before .before .apply-at .result .bucket in
-    record { count = count-of b (x .bucket .sound) ∙ ap numEntries (x .bucket .bucket); records = c .count-of .ensures .0 ∙ ap length (x .records); one = c .count-of .ensures .1 }
+    let n = c .before in
+    let p = n .before in
+    let a = p .before .before in
+    let x = a .apply-at .ensures in
+    let b = a .apply-at .result .bucket in
+    record {
+      count = count-of b (x .bucket .sound) ∙ ap numEntries (x .bucket .bucket);
+      records = n .count-of .ensures .0 ∙ ap length (x .records);
+      placed = c .count-of2 .ensures .0 ∙ ap length (p .only-placed .ensures .0) ∙ ap (λ (rs : List EndedPending). length (placedOf rs)) (x .records);
+      one = n .count-of .ensures .1;
+    }
 
 pub given-at-spec : {M : Type 1} → statement M
 given-at-spec =
@@ -52,5 +67,7 @@ given-at-spec =
     held-at-requires
     returns
     apply-at-requires
+    only-placed-requires
     count-of-requires
+    count-of-requires-2
     returns-2)

@@ -38,8 +38,7 @@ The table (before the first 'new': local key 0, timeout 0, MAX_INCOMING 0, filte
 {}
 One bucket by itself, with keys of any index:
 {}
-Set-up that writes the bytes without asking (I is a bucket's index, or b for the bucket by itself; EVICTED is - or KEY VALUE STATE
-DIRECTION):
+Set-up that writes the bytes without asking (I is a bucket's index, or b for the bucket by itself):
 {}
   KEY LOCAL TARGET   64 hexadecimal digits, or ':' and fewer, filled with zeros in front: ':4' is the key 4
   VALUE              flag:a.b.c.d:slot, as 1:10.0.0.1:7, or 0:0.0.0.0:7 for no address; a slot is a number up to 2^64 - 1
@@ -51,6 +50,8 @@ DIRECTION):
   DISTANCES          log2 distances joined by commas, '-' for none; distance D, 1 to 256, is bucket D - 1, others are dropped
   PREDICATE          0 always, 1 has an address, 2:a.b.c address in that /24, 3:SLOT slot equals
   PLACE              the first connected place, '-' for none
+  ENDING             what became of a pending: '-' where it was placed, KEY VALUE STATE DIRECTION of the node that it evicted, or
+                     dropped_place_0, dropped_bucket_filter, dropped_incoming_limit, cleared_inserted, cleared_confirmed
   CALL               {}
   out=K              after a listing: its output has room for K entries, and not for K + 1; after an explanation: it has K bytes
   ! CALL             the call gets its storage, or bucket, one byte short
@@ -197,7 +198,7 @@ fn table_call(storage: &mut [u8], call: &TableCall, output: &mut Output, out: &m
         TableCall::List { now, listing, n, room } => list(storage, *now, listing, *n, *room, output, out)?,
         TableCall::TakeAppliedPending => {
             let record = lent::take_applied_pending(storage, answer(output))?;
-            applied(record, output, out)?;
+            taken(record, output, out)?;
         }
         TableCall::Explain { call, room } => explain(storage, call, *room, output, out)?,
     }
@@ -217,7 +218,7 @@ fn bucket_call(bucket: &mut [u8], call: &BucketCall, output: &mut Output, out: &
         }
         BucketCall::ApplyPending { now } => {
             let record = lent::b_apply_pending(bucket, *now, answer(output))?;
-            applied(record, output, out)?;
+            taken(record, output, out)?;
         }
         BucketCall::UpdateStatus { key, state, direction } => {
             update_result(lent::b_update_status(bucket, key, *state, *direction)?, out);
@@ -358,7 +359,7 @@ fn yes_or_no(answer: bool, out: &mut Vec<u8>) {
 }
 
 /// All bytes of a record are determined, also where it has no evicted node.
-fn applied(record: Option<RecordCodes>, output: &mut Output, out: &mut Vec<u8>) -> Result<(), Unanswered> {
+fn taken(record: Option<RecordCodes>, output: &mut Output, out: &mut Vec<u8>) -> Result<(), Unanswered> {
     let Some(record) = record else {
         out.text("None");
         return Ok(());
@@ -447,6 +448,7 @@ fn promoted(name: &str, promoted: bool, out: &mut Vec<u8>) {
 #[cfg(test)]
 mod tests {
     use super::*;
+    use calls::text::{EndingCodes, Unplaced};
 
     /// Runs a call on four bytes; what it does is the test's.
     fn called(
@@ -537,16 +539,17 @@ mod tests {
     /// Where a record has no evicted node, the bytes for it are zero.
     #[test]
     fn a_record_has_all_its_bytes() {
-        let record = RecordCodes { inserted: [7; KEY], evicted: None };
-        let taken = |zeros: usize| {
-            called(false, |_, output| {
-                let answer = answer(output);
-                answer[..KEY].fill(7);
-                answer[KEY..][..zeros].fill(0);
-                applied(Some(record), output, &mut Vec::new())
-            })
-        };
-        assert_eq!(taken(ANSWER_BYTES - KEY), Ok(()));
-        assert_eq!(taken(1), broken("the answer's bytes are no record's"));
+        for ending in [EndingCodes::Placed(None), Unplaced::FirstConnected.into(), Unplaced::FirstConfirmed.into()] {
+            let record = RecordCodes { key: [7; KEY], ending };
+            let bytes = layout::record_bytes(&record);
+            let answered = |count: usize| {
+                called(false, |_, output| {
+                    answer(output)[..count].copy_from_slice(&bytes[..count]);
+                    taken(Some(record), output, &mut Vec::new())
+                })
+            };
+            assert_eq!(answered(ANSWER_BYTES), Ok(()));
+            assert_eq!(answered(KEY + 2), broken("the answer's bytes are no record's"));
+        }
     }
 }

@@ -1,5 +1,5 @@
 use borrow.Author.Needs.{needs}
-use mathlib.Core.Path.{refl}
+use mathlib.Core.Path.{refl, ap, _∙_}
 use mathlib.Core.Bool.{true}
 use mathlib.Core.List.{List}
 use Rattle.model.specs.Node as model
@@ -24,7 +24,7 @@ returns c =
     let b = o .args .self in
     let s = settingsOf b in
     let m = bucketOf b in
-    let x : List model.AppliedPending × rules.Bucket = (rules.applyPending s (o .args .now) m .1, rules.applyPending s (o .args .now) m .0) in
+    let x : List model.EndedPending × rules.Bucket = (model.placedOf (rules.applyPending s (o .args .now) m .1), rules.applyPending s (o .args .now) m .0) in
     (refused b (firstFailed (questions b true (timely b (o .args .now)))) _ x (q .asked-at .ensures .0) (c .if1 .taken), refl)
 
 -- src/lib.rt:793:13
@@ -35,21 +35,27 @@ apply-pending-sound-requires c κs =
     let k = q .asked-at .ensures .1 (c .if1 .left) in
     (k .0, k .2)
 
+-- src/lib.rt:836:13
+only-placed-requires : tie.Need-only-placed-requires
+only-placed-requires c κs = c .before .apply-pending-sound .ensures .1 .1
+
 -- src/lib.rt:783:5
 returns-2 : tie.Need-returns-2
 unfolding applyPendingCall
 returns-2 c =
-    let q = c .before .before .before in
+    let a = c .before .before in
+    let q = a .before .before in
     let o = q .before in
     let b = o .args .self in
     let s = settingsOf b in
     let m = bucketOf b in
-    let x : List model.AppliedPending × rules.Bucket = (rules.applyPending s (o .args .now) m .1, rules.applyPending s (o .args .now) m .0) in
-    let k = q .asked-at .ensures .1 (c .before .before .if1 .left) in (
-      accepted b (firstFailed (questions b true (timely b (o .args .now)))) x _ (c .before .apply-pending-sound .result .bucket) (k .3) (c .before .apply-pending-sound .ensures .0) (c .before .apply-pending-sound .ensures .1 .0),
-      c .before .apply-pending-sound .ensures .1 .1,
+    let x : List model.EndedPending × rules.Bucket = (model.placedOf (rules.applyPending s (o .args .now) m .1), rules.applyPending s (o .args .now) m .0) in
+    let k = q .asked-at .ensures .1 (a .before .if1 .left) in (
+      accepted b (firstFailed (questions b true (timely b (o .args .now)))) x _ (a .apply-pending-sound .result .bucket) (k .3)
+          (c .only-placed .ensures .0 ∙ ap model.placedOf (a .apply-pending-sound .ensures .0)) (a .apply-pending-sound .ensures .1 .0),
+      c .only-placed .ensures .1,
     )
 
 pub apply-pending-spec : {M : Type 1} → statement M
 apply-pending-spec =
-    tie.close (tie.spec asked-at-requires returns apply-pending-sound-requires returns-2)
+    tie.close (tie.spec asked-at-requires returns apply-pending-sound-requires only-placed-requires returns-2)

@@ -94,9 +94,9 @@ returns-3 c =
     let x = free w in
     let a = apply-due s now (bucketOf b) _ (ap pendingOf (q .p .given .1)) (omega (arith, w .before .if1 .left)) in (
       c .apply-due .ensures .0 ∙ told x (λ (s' : rules.BucketSettings) (m' : rules.Bucket). rules.applyDue s' now (nodeOf n) m' .1)
-          ∙ ap (λ (y : rules.Bucket × List model.AppliedPending). y .1) (sym a),
+          ∙ ap (λ (y : rules.Bucket × List model.EndedPending). y .1) (sym a),
       (
-        subst (λ (y : rules.Bucket × List model.AppliedPending). Becomes s (y .0) (c .apply-due .result .bucket)) (sym a)
+        subst (λ (y : rules.Bucket × List model.EndedPending). Becomes s (y .0) (c .apply-due .result .bucket)) (sym a)
             (then-becomes x (λ (s' : rules.BucketSettings) (m' : rules.Bucket). rules.applyDue s' now (nodeOf n) m' .0) (c .apply-due .ensures .1 .0)),
         c .apply-due .ensures .1 .1,
       ),

@@ -34,7 +34,7 @@ returns : tie.Need-returns
 returns c =
     let st = c .before .before .before .before in
     let a = st .args in
-    one-nothing (a .s .now) (a .time) (a .d) (λ j. c .before .before .before .slice-known .given j .fits) (st .pre .0) (index-told (a .d) (c .before .before .index-at .ensures) (c .enum-told .given .1)) refl refl
+    one-nothing (a .s .now) (a .time) (a .d) (λ j. c .before .before .before .slice-known .given j .fits) (st .pre .0) (index-told (a .d) (c .before .before .index-at .ensures) (c .enum-told .given .1)) refl refl refl
 
 same-length : tie.Need-same-length
 same-length c = search needs

@@ -45,11 +45,11 @@ returns-2 c =
     let a = st .args in
     let e = index-told _ (c .before .before .before .before .before .before .before .before .index-at .ensures) (c .before .before .before .before .before .before .index .given .1) in
     yields-by e
-    (yields-again (a .time) (a .distances .now) (tableOf (a .s .now)) _ _ (a .p) e (omega (arith, st .pre .1 .1)) (record { count = 0; records = 0 }) refl refl
+    (yields-again (a .time) (a .distances .now) (tableOf (a .s .now)) _ _ (a .p) e (omega (arith, st .pre .1 .1)) (record { count = 0; records = 0; placed = 0 }) refl refl refl
     (sym (c .before .stands-before .ensures) ∙ c .if2 .taken))
 
 returns-3 : tie.Need-returns-3
-returns-3 c = yields-none _ _ _ (record { count = 0; records = 0 }) refl refl (index-told _ (c .before .before .index-at .ensures) (c .enum-told .given .1))
+returns-3 c = yields-none _ _ _ (record { count = 0; records = 0; placed = 0 }) refl refl refl (index-told _ (c .before .before .index-at .ensures) (c .enum-told .given .1))
 
 returns-4 : tie.Need-returns-4
 returns-4 c =
