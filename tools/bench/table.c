@@ -164,8 +164,24 @@ static double measure(const char *name, int first, int most) {
     return question_2;
 }
 
+// For a count of instructions (tools/bench/instructions): CALLS calls of closest_keys and as many of question 2, on a table as `fill` makes it.
+static int counted(int first, int most) {
+    fill(first, most);
+    for (int i = 0; i < CALLS; i++) {
+        if (held_count == 0) random_key(message, 255);
+        else take_key(i);
+        run_closest(i);
+        run_question_2(i);
+    }
+    return held_count;
+}
+
 int main(int count, char **words) {
     double sum[2] = {1e18, 1e18};
+    if (count == 4 && strcmp(words[1], "count") == 0) {
+        printf("%d nodes, %d calls\n", counted(atoi(words[2]), atoi(words[3])), CALLS);
+        return 0;
+    }
     from_list = count > 1 && strcmp(words[1], "list") == 0;
     fill(0, 16);
     printf("plain sum of %zu bytes, ns\n  %-10s %12s %12s\n", sizeof storage, "", "64-bit", "32-bit");

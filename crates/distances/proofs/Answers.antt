@@ -1,6 +1,6 @@
 -- What nodes_by_distances answers and leaves, by its questions and its passes.
-use mathlib.Core.Path.{_≡_, refl, sym, ap, _∙_, subst, fun-ext}
-use mathlib.Core.Bool.{Bool, true, false, cond, _&&_}
+use mathlib.Core.Path.{_≡_, refl, sym, ap, _∙_, subst}
+use mathlib.Core.Bool.{Bool, true, cond, _&&_}
 use mathlib.Core.List.{List, [], _∷_, _++_, map}
 use mathlib.Core.Option.{Option, none, some}
 use Prim.Native.Nat.{ℕ, zero, suc, _+_, _-_, _*_, _≤_, _<_}
@@ -11,29 +11,27 @@ use borrow.Author.Tests.{leb-true, le-leb, lt-leb, eqb-true}
 use Rattle.model.specs.Base.{joined}
 use Rattle.model.specs.Bytes.{Bytes, splice}
 use Rattle.model.specs.Node.{Node}
+use Rattle.model.specs.Bucket.{nodes}
 use Rattle.model.specs.Table.{Table, Answer, maxRecords}
 use Rattle.model.specs.Sizes.{nodeSize, storageSize}
 use Rattle.model.specs.Call.{Call, Listing}
-use Rattle.model.specs.Listing.{Item, item, applyAll, appliedPass, bucketsAt, atLeastOne, shown, found}
+use Rattle.model.specs.Listing.{item, applyAll, appliedPass, bucketsAt, atLeastOne, found}
 use Rattle.model.specs.Question.{firstFailed, deadlineFits, maxCount, keysFit, codesInRange, clockFits, outputFits, kindFits}
 use Rattle.model.specs.Step.{Outcome, act, questions, queueFits, step}
-use Rattle.model.specs.Layout.{itemBytes, bytesOf, tableOf}
+use Rattle.model.specs.Layout.{nodeBytes, itemBytes, bytesOf, tableOf}
 use Rattle.model.specs.Formed.{formed}
 use Rattle.model.specs.StepBytes.{allQuestions, unlessRefusedBytes, stepBytes}
 use Rattle.model.specs.Fits.{Fits}
 use Rattle.laws.proofs.Tests.{and-left, and-right}
 use Rattle.laws.proofs.Applied.{apply-all-queue}
-use Rattle.laws.proofs.Join.{joined-same}
+use Rattle.laws.proofs.Lists.{joined-map}
 use Rattle.laws.proofs.KeepStep.{step-accepted, step-fits}
 use Rattle.laws.proofs.TableBytes.{length-bytesOf, table-there, formed-there, table-back, fits-back}
 use Rattle.laws.proofs.TableStep.{step-bytes}
 use Rattle.laws.proofs.Listing.{most-few}
-use Rattle.on_key.specs.Answers.{firstTwo, failedOfTwo, Timely}
+use Rattle.on_key.specs.Answers.{firstThree, failedOfThree, Timely}
 use Rattle.laws.proofs.Questions.{passed, front-fails, front-passes, accepted-bytes}
-use Rattle.items.specs.declared.Shape.{Shape}
-use Rattle.items.specs.Shape.{itemBy, itemsBy, sizeBy, shownBy}
 use Rattle.items.specs.Lists.{Lists}
-use Rattle.items.proofs.Items.{size-entry}
 use Rattle.distances.specs.Passes.{distancePass, Holds, listedNodes}
 use Rattle.distances.specs.Early.{early, failedEarly}
 
@@ -54,28 +52,24 @@ module _ (now n room : ℕ) (s : List ℕ) where
   abbrev fits : Bool
   fits = leb n maxCount && leb (atLeastOne n * nodeSize) room
 
-  pub early-two : (q : ℕ) → failedOfTwo s ≡ some q → failedEarly now n room s ≡ some q
-  unfolding failedOfTwo failedEarly
-  early-two q e = front-fails (firstTwo s) ((5, clock) ∷ (6, fits) ∷ []) q e
+  pub early-three : (q : ℕ) → failedOfThree now s ≡ some q → failedEarly now n room s ≡ some q
+  unfolding failedOfThree failedEarly
+  early-three q e = front-fails (firstThree now s) ((6, fits) ∷ []) q e
 
-  module _ (e : failedOfTwo s ≡ none) where
-    after-two : failedEarly now n room s ≡ firstFailed ((5, clock) ∷ (6, fits) ∷ [])
-    unfolding failedOfTwo failedEarly
-    after-two = front-passes (firstTwo s) ((5, clock) ∷ (6, fits) ∷ []) e
+  module _ (e : failedOfThree now s ≡ none) where
+    after-three : failedEarly now n room s ≡ cond fits none (some 6)
+    unfolding failedOfThree failedEarly
+    after-three = front-passes (firstThree now s) ((6, fits) ∷ []) e
 
-    pub early-clock : clock ≡ false → failedEarly now n room s ≡ some 5
-    early-clock f = after-two ∙ rw f
+    pub early-count : maxCount < n → failedEarly now n room s ≡ some 6
+    early-count h = after-three ∙ rw (lt-leb n maxCount h)
 
-    module _ (f : clock ≡ true) where
-      pub early-count : maxCount < n → failedEarly now n room s ≡ some 6
-      early-count h = after-two ∙ rw (f, lt-leb n maxCount h)
+    module _ (h : n ≤ maxCount) where
+      pub early-room : room < atLeastOne n * nodeSize → failedEarly now n room s ≡ some 6
+      early-room g = after-three ∙ rw (le-leb n maxCount h, lt-leb (atLeastOne n * nodeSize) room g)
 
-      module _ (h : n ≤ maxCount) where
-        pub early-room : room < atLeastOne n * nodeSize → failedEarly now n room s ≡ some 6
-        early-room g = after-two ∙ rw (f, le-leb n maxCount h, lt-leb (atLeastOne n * nodeSize) room g)
-
-        pub early-none : atLeastOne n * nodeSize ≤ room → failedEarly now n room s ≡ none
-        early-none g = after-two ∙ rw (f, le-leb n maxCount h, le-leb (atLeastOne n * nodeSize) room g)
+      pub early-none : atLeastOne n * nodeSize ≤ room → failedEarly now n room s ≡ none
+      early-none g = after-three ∙ rw (le-leb n maxCount h, le-leb (atLeastOne n * nodeSize) room g)
 
   pub record Passed : Type 0 where
     pub size : length s ≡ storageSize
@@ -193,31 +187,25 @@ module _ (s : List ℕ) (ds : List ℕ) (n now : ℕ) (out : List ℕ) where
         there : tableOf s′ ≡ left
         there = ap tableOf w ∙ table-there left left-fits
 
-        module _ (x : Shape) (f : x .form ≡ 0) where
-          pub room-left : atLeastOne n * sizeBy x ≤ length out
-          room-left = rw (size-entry x f) (p .fit)
+        found-is : listedNodes (tableOf s′) (atLeastOne n) ds ≡ found l n now t
+        unfolding listedNodes found distancePass
+        found-is = ap (λ (u : Table). take (atLeastOne n) (joined (λ i. nodes (u .buckets i)) (bucketsAt ds))) there
 
-          found-is : listedNodes x (tableOf s′) (atLeastOne n) ds ≡ found l n now t
-          unfolding listedNodes found distancePass shownBy
-          found-is =
-              ap (λ (u : Table). take (atLeastOne n) (joined (λ i. shownBy x (u .buckets i)) (bucketsAt ds))) there
-              ∙ ap (take (atLeastOne n)) (joined-same (λ i. shownBy x (left .buckets i)) (shown l n now t) (λ i. rw f) (bucketsAt ds))
+        items-are : (ns : List Node) → joined nodeBytes ns ≡ joined itemBytes (map (item l) ns)
+        unfolding itemBytes
+        items-are ns = sym (joined-map itemBytes (item l) ns)
 
-          items-are : (ns : List Node) → itemsBy x ns ≡ joined itemBytes (map (item l) ns)
-          unfolding itemBy
-          items-are ns = ap (λ (g : Node → Item). joined itemBytes (map g ns)) (fun-ext (λ m. rw f))
-
-          pub lists-found : {k : ℕ} {out′ : List ℕ} → k ≡ length (listedNodes x (tableOf s′) (atLeastOne n) ds)
-              → out′ ≡ splice out 0 (itemsBy x (listedNodes x (tableOf s′) (atLeastOne n) ds)) → Lists (Answer.Found k) s′ out′ (stepBytes c s)
-          unfolding stepBytes act
-          lists-found {k} {out′} g o =
-              let back : bytesOf t ≡ s = table-back s b (p .size) (p .formed) in
-              let z = step-bytes c t tt fits-here in
-              let a : k ≡ length (found l n now t) = g ∙ ap length found-is in
-              record {
-                answer = ap Answer.Found a ∙ ap (λ (q : Option ℕ). unlessRefusedBytes q c s .answer) (sym accepted);
-                storage = w ∙ ap bytesOf (sym table-is) ∙ sym (z .storage) ∙ ap (λ (r : List ℕ). stepBytes c r .storage) back;
-                output =
-                    o ∙ ap (λ (ns : List Node). splice out 0 (itemsBy x ns)) found-is
-                    ∙ ap (splice out 0) (items-are (found l n now t)) ∙ ap (λ (q : Option ℕ). unlessRefusedBytes q c s .output) (sym accepted);
-              }
+        pub lists-found : {k : ℕ} {out′ : List ℕ} → k ≡ length (listedNodes (tableOf s′) (atLeastOne n) ds)
+            → out′ ≡ splice out 0 (joined nodeBytes (listedNodes (tableOf s′) (atLeastOne n) ds)) → Lists (Answer.Found k) s′ out′ (stepBytes c s)
+        unfolding stepBytes act
+        lists-found {k} {out′} g o =
+            let back : bytesOf t ≡ s = table-back s b (p .size) (p .formed) in
+            let z = step-bytes c t tt fits-here in
+            let a : k ≡ length (found l n now t) = g ∙ ap length found-is in
+            record {
+              answer = ap Answer.Found a ∙ ap (λ (q : Option ℕ). unlessRefusedBytes q c s .answer) (sym accepted);
+              storage = w ∙ ap bytesOf (sym table-is) ∙ sym (z .storage) ∙ ap (λ (r : List ℕ). stepBytes c r .storage) back;
+              output =
+                  o ∙ ap (λ (ns : List Node). splice out 0 (joined nodeBytes ns)) found-is
+                  ∙ ap (splice out 0) (items-are (found l n now t)) ∙ ap (λ (q : Option ℕ). unlessRefusedBytes q c s .output) (sym accepted);
+            }

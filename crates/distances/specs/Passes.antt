@@ -8,15 +8,13 @@ use lib.ListN.{length, getD, take}
 use lib.Dec.{eqb}
 use Rattle.model.specs.Base.{joined, allBelow}
 use Rattle.model.specs.Node.{Node, EndedPending, placedOf}
-use Rattle.model.specs.Bucket.{maxNodesPerBucket, numEntries, applyPending}
+use Rattle.model.specs.Bucket.{maxNodesPerBucket, nodes, numEntries, applyPending}
 use Rattle.model.specs.Table.{Table}
 use Rattle.model.specs.Sizes.{storageSize}
 use Rattle.model.specs.Formed.{formed}
 use Rattle.model.specs.Listing.{applyAll, applied, appliedPass, bucketsAt}
 use Rattle.visit.specs.declared.Given.{Given}
 use Rattle.visit.specs.Passes.{visitOne}
-use Rattle.items.specs.declared.Shape.{Shape}
-use Rattle.items.specs.Shape.{shownBy}
 
 -- the distance d stands among the first p
 unfoldable pub standsBefore : List ℕ → ℕ → ℕ → Bool
@@ -61,5 +59,5 @@ pub record Holds (s : List ℕ) : Type 0 where
   pub formed : formed s ≡ Bool.true
 
 -- the first n nodes of the buckets named
-unfoldable pub listedNodes : Shape → Table → ℕ → List ℕ → List Node
-listedNodes x t n ds = take n (joined (λ i. shownBy x (t .buckets i)) (bucketsAt ds))
+unfoldable pub listedNodes : Table → ℕ → List ℕ → List Node
+listedNodes t n ds = take n (joined (λ i. nodes (t .buckets i)) (bucketsAt ds))

@@ -10,8 +10,6 @@ ghost use Rattle.distances.specs.Early.{failedEarly};
 pub mod pass;
 
 use items::ListAnswer;
-use items::Shape;
-use key::Key;
 use storage::Layout;
 
 // n, or 1 where it is 0.
@@ -24,37 +22,13 @@ fn at_least_one(n: usize) -> usize
     n
 }
 
-// The shape of whole nodes.
-fn node_shape() -> Shape
-    ensures { λ r. ⌜ r .form ≡ 0 ⌝ }
-{
-    let target = Key {
-        w0: 0,
-        w1: 0,
-        w2: 0,
-        w3: 0,
-    };
-    Shape {
-        form: 0,
-        target,
-        predicate: 0,
-        a: 0,
-        b: 0,
-        c: 0,
-        slot: 0,
-    }
-}
-
 // The first failed question of 1, 2, 5 and 6, or 0. room: the bytes of output.
-fn asked_early(s: &[u8], time: u64, n: usize, room: usize) -> u8
+fn asked_early(s: &[u8], n: usize, time: u64, room: usize) -> u8
     ensures { λ r. ⌜ failedEarly time n room (now (s .entry)) ≡ refusal r ⌝ }
 {
-    let q = on_key::asked_storage(s);
+    let q = on_key::asked_time(s, time);
     if q != 0 {
         return q;
-    }
-    if 0xFFFF_FFFF_FFFF_FFFF - header::pending_timeout(s) < time {
-        return 5;
     }
     if items::MAX_COUNT < n {
         return 6;
@@ -71,24 +45,23 @@ fn asked_early(s: &[u8], time: u64, n: usize, room: usize) -> u8
 pub fn nodes_by_distances(
     s: &mut [u8],
     distances: &[u64],
-    time: u64,
     n: usize,
+    time: u64,
     out: &mut [u8],
 ) -> ListAnswer
     ensures { λ r. ⌜ Lists (listAnswer r) (now (s .exit)) (now (out .exit)) (stepBytes (Call.list (Listing.nodesByDistances (now (distances .entry))) n time (now (out .entry))) (now (s .entry))) ⌝ }
 {
     let room = out.len();
-    let q = asked_early(s, time, n, room);
+    let q = asked_early(s, n, time, room);
     if q != 0 {
         return ListAnswer::Refused(q);
     }
-    let records = crate::pass::count_records(s, distances, time, n);
+    let records = crate::pass::count_records(s, distances, n, time);
     if Layout::MAX_RECORDS - header::record_count(s) < records {
         return ListAnswer::Refused(8);
     }
-    crate::pass::apply_pass(s, distances, time, n);
-    let shape = node_shape();
+    crate::pass::apply_pass(s, distances, n, time);
     let most = at_least_one(n);
-    let count = crate::pass::put_all(s, distances, shape, out, most);
+    let count = crate::pass::put_all(s, distances, out, most);
     ListAnswer::Found(count)
 }

@@ -5,14 +5,15 @@ ghost use mathlib.Core.List.{[], _∷_};
 ghost use mathlib.Core.Option.{some};
 ghost use Prim.Native.Nat.{_+_, _-_, _*_, _≤_, _<_};
 ghost use lib.ListN.{length, getD};
+ghost use Rattle.model.specs.Base.{joined};
 ghost use Rattle.model.specs.Bytes.{splice};
 ghost use Rattle.model.specs.Table.{maxRecords};
 ghost use Rattle.model.specs.Listing.{indexAt};
 ghost use Rattle.model.specs.Question.{maxCount};
-ghost use Rattle.model.specs.Layout.{tableOf, bytesOf};
+ghost use Rattle.model.specs.Sizes.{nodeSize};
+ghost use Rattle.model.specs.Layout.{nodeBytes, tableOf, bytesOf};
 ghost use Rattle.key.specs.Answers.{bucketIndexOf};
 ghost use Rattle.on_key.specs.Answers.{Ready, Timely};
-ghost use Rattle.items.specs.Shape.{itemsBy, sizeBy};
 ghost use Rattle.distances.specs.Passes.{standsBefore, Yields, nextTable, tableAt, distancePass, Holds, listedNodes};
 use items::Shape;
 use key::BucketIndex;
@@ -99,7 +100,7 @@ fn given_at(s: &[u8], distances: &[u64], p: usize, time: u64) -> Given
 }
 
 // Internal: how many records the applying pass would give. Nothing is written.
-pub fn count_records(s: &[u8], distances: &[u64], time: u64, n: usize) -> usize
+pub fn count_records(s: &[u8], distances: &[u64], n: usize, time: u64) -> usize
     requires { ⌜ Holds (now s) ⌝ }
     requires { ⌜ Timely (now s) time ⌝ }
     requires { ⌜ n ≤ maxCount ⌝ }
@@ -144,7 +145,7 @@ fn apply_one(s: &mut [u8], d: u64, time: u64) -> Given
 }
 
 // Internal: the applying pass over the storage.
-pub fn apply_pass(s: &mut [u8], distances: &[u64], time: u64, n: usize)
+pub fn apply_pass(s: &mut [u8], distances: &[u64], n: usize, time: u64)
     requires { ⌜ Holds (now s) ⌝ }
     requires { ⌜ Timely (now s) time ⌝ }
     requires { ⌜ n ≤ maxCount ⌝ }
@@ -164,35 +165,33 @@ pub fn apply_pass(s: &mut [u8], distances: &[u64], time: u64, n: usize)
 }
 
 // Writes the nodes of the bucket at distance d behind the k that are there, up to n; answers how many are there then.
-fn put_one(s: &[u8], d: u64, shape: Shape, out: &mut [u8], k: usize, n: usize) -> usize
+fn put_one(s: &[u8], d: u64, out: &mut [u8], k: usize, n: usize) -> usize
     requires { ⌜ Holds (now s) ⌝ }
-    requires { ⌜ shape .form ≤ 3 ⌝ }
     requires { ⌜ k ≤ n ⌝ }
     requires { ⌜ n ≤ maxCount ⌝ }
-    requires { ⌜ n * sizeBy shape ≤ length (now out) ⌝ }
-    ensures { λ r. ⌜ r ≡ k + length (listedNodes shape (tableOf (now (s .entry))) (n - k) (d ∷ [])) ⌝ }
-    ensures { λ _. ⌜ now (out .exit) ≡ splice (now (out .entry)) (k * sizeBy shape) (itemsBy shape (listedNodes shape (tableOf (now (s .entry))) (n - k) (d ∷ []))) ⌝ }
+    requires { ⌜ n * nodeSize ≤ length (now out) ⌝ }
+    ensures { λ r. ⌜ r ≡ k + length (listedNodes (tableOf (now (s .entry))) (n - k) (d ∷ [])) ⌝ }
+    ensures { λ _. ⌜ now (out .exit) ≡ splice (now (out .entry)) (k * nodeSize) (joined nodeBytes (listedNodes (tableOf (now (s .entry))) (n - k) (d ∷ []))) ⌝ }
 {
     let index = index_at(d);
     match index {
         BucketIndex::Nothing => k,
-        BucketIndex::At(i) => items::put_bucket(s, i, shape, out, k, n),
+        BucketIndex::At(i) => items::put_bucket(s, i, Shape::Nodes, out, k, n),
     }
 }
 
 // Internal: writes the first n nodes of the buckets at the distances; answers how many there are.
-pub fn put_all(s: &[u8], distances: &[u64], shape: Shape, out: &mut [u8], n: usize) -> usize
+pub fn put_all(s: &[u8], distances: &[u64], out: &mut [u8], n: usize) -> usize
     requires { ⌜ Holds (now s) ⌝ }
-    requires { ⌜ shape .form ≤ 3 ⌝ }
     requires { ⌜ n ≤ maxCount ⌝ }
-    requires { ⌜ n * sizeBy shape ≤ length (now out) ⌝ }
-    ensures { λ r. ⌜ r ≡ length (listedNodes shape (tableOf (now (s .entry))) n (now (distances .entry))) ⌝ }
-    ensures { λ _. ⌜ now (out .exit) ≡ splice (now (out .entry)) 0 (itemsBy shape (listedNodes shape (tableOf (now (s .entry))) n (now (distances .entry)))) ⌝ }
+    requires { ⌜ n * nodeSize ≤ length (now out) ⌝ }
+    ensures { λ r. ⌜ r ≡ length (listedNodes (tableOf (now (s .entry))) n (now (distances .entry))) ⌝ }
+    ensures { λ _. ⌜ now (out .exit) ≡ splice (now (out .entry)) 0 (joined nodeBytes (listedNodes (tableOf (now (s .entry))) n (now (distances .entry)))) ⌝ }
 {
     let mut k: usize = 0;
     let mut p: usize = 0;
     while p < distances.len() {
-        k = put_one(s, distances[p], shape, out, k, n);
+        k = put_one(s, distances[p], out, k, n);
         p += 1;
     }
     k

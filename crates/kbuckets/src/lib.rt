@@ -195,7 +195,7 @@ pub extern "C" fn kbuckets_absent_insert(
 pub extern "C" fn kbuckets_iter(storage: &mut [u8], n: usize, time: u64, output: &mut [u8]) -> u32
     ensures { λ r. ⌜ Writes r (now (storage .exit)) (now (output .exit)) (exported (Call.list Listing.iter n time (now (output .entry))) (now (storage .entry))) ⌝ }
 {
-    let answer = listing::iter(storage, time, n, output);
+    let answer = listing::iter(storage, n, time, output);
     codes::answers::list_code(answer)
 }
 
@@ -209,7 +209,7 @@ pub extern "C" fn kbuckets_nodes_by_distances(
 ) -> u32
     ensures { λ r. ⌜ Writes r (now (storage .exit)) (now (output .exit)) (exported (Call.list (Listing.nodesByDistances (now (distances .entry))) n time (now (output .entry))) (now (storage .entry))) ⌝ }
 {
-    let answer = distances::nodes_by_distances(storage, distances, time, n, output);
+    let answer = distances::nodes_by_distances(storage, distances, n, time, output);
     codes::answers::list_code(answer)
 }
 
@@ -223,7 +223,7 @@ pub extern "C" fn kbuckets_closest_keys(
 ) -> u32
     ensures { λ r. ⌜ Writes r (now (storage .exit)) (now (output .exit)) (exported (Call.list (Listing.closestKeys (now (target .entry))) n time (now (output .entry))) (now (storage .entry))) ⌝ }
 {
-    let answer = listing::closest_keys(storage, target, time, n, output);
+    let answer = listing::closest_keys(storage, target, n, time, output);
     codes::answers::list_code(answer)
 }
 
@@ -237,7 +237,7 @@ pub extern "C" fn kbuckets_closest_values(
 ) -> u32
     ensures { λ r. ⌜ Writes r (now (storage .exit)) (now (output .exit)) (exported (Call.list (Listing.closestValues (now (target .entry))) n time (now (output .entry))) (now (storage .entry))) ⌝ }
 {
-    let answer = listing::closest_values(storage, target, time, n, output);
+    let answer = listing::closest_values(storage, target, n, time, output);
     codes::answers::list_code(answer)
 }
 
@@ -264,8 +264,8 @@ pub extern "C" fn kbuckets_closest_values_predicate(
         b,
         c,
         slot,
-        time,
         n,
+        time,
         output,
     );
     codes::answers::list_code(answer)

@@ -1,7 +1,7 @@
 -- Keys as numbers: the four words decide equality, order, XOR and bits. `omega` stops at numbers of more than 38 digits, so each law is
 -- proved for one word and used three times.
-use mathlib.Core.Path.{_≡_, sym, ap, ap₂, _∙_}
-use mathlib.Core.Bool.{Bool, false, _&&_, _||_, and-comm}
+use mathlib.Core.Path.{_≡_, refl, sym, ap, ap₂, _∙_}
+use mathlib.Core.Bool.{Bool, true, false, _&&_, _||_, and-comm}
 use Prim.Native.Nat.{ℕ, _+_, _*_, _/_, _%_, _^_, _<_, _≤_}
 use native.Mathlib.Nat.{div-eq-of-lt, lt-of-lt-of-le, mod-lt}
 use native.Mathlib.Omega.{arith}
@@ -114,10 +114,22 @@ module _ (a b : Key) (ha : Words a) (hb : Words b) where
   less-2 : ltb ((a .w0 * 2 ^ 64 + a .w1) * 2 ^ 64 + a .w2) ((b .w0 * 2 ^ 64 + b .w1) * 2 ^ 64 + b .w2) ≡ less2
   less-2 = lt-word _ _ (a .w2) (b .w2) (ha .word2) (hb .word2) ∙ ap₂ (λ l e. l || (e && ltb (a .w2) (b .w2))) less-1 equal-1
 
-  pub less-words : (less2 || ((equal1 && eqb (a .w2) (b .w2)) && ltb (a .w3) (b .w3))) ≡ ltb (num a) (num b)
+  less-words : (less2 || ((equal1 && eqb (a .w2) (b .w2)) && ltb (a .w3) (b .w3))) ≡ ltb (num a) (num b)
   unfolding num
   less-words =
       sym (lt-word _ _ (a .w3) (b .w3) (ha .word3) (hb .word3) ∙ ap₂ (λ l e. l || (e && ltb (a .w3) (b .w3))) less-2 equal-2)
+
+  -- the highest word decides where it differs, and else the others
+  pub less-first : (a .w0 ≡ b .w0 → ⊥) → ltb (a .w0) (b .w0) ≡ ltb (num a) (num b)
+  less-first n = alone (ltb (a .w0) (b .w0)) ∙ (rw (ne-eqb (a .w0) (b .w0) n) at less-words)
+    where
+      alone : (t : Bool) → t ≡ (((t || false) || false) || false)
+      alone true = refl
+      alone false = refl
+
+  pub less-rest : a .w0 ≡ b .w0
+      → ((ltb (a .w1) (b .w1) || (eqb (a .w1) (b .w1) && ltb (a .w2) (b .w2))) || ((eqb (a .w1) (b .w1) && eqb (a .w2) (b .w2)) && ltb (a .w3) (b .w3))) ≡ ltb (num a) (num b)
+  less-rest e = rw (le-ltb (a .w0) (b .w0) (omega arith), eq-eqb (a .w0) (b .w0) e) at less-words
 
 -- the XOR of two keys, word by word
 abbrev pub xorKey : Key → Key → Key

@@ -89,13 +89,15 @@ impl Key {
             & ((self.w2 == other.w2) & ((self.w1 == other.w1) & (self.w0 == other.w0)))
     }
 
-    // The number of the key is less than that of the other: of two distances, the nearer.
+    // The number of the key is less than that of the other: of two distances, the nearer. The highest word decides where it differs.
     pub fn less(self, other: Key) -> bool
         ensures { λ r. ⌜ r ≡ ltb (num self) (num other) ⌝ }
     {
-        let equal1 = (self.w0 == other.w0) & (self.w1 == other.w1);
-        let less1 = (self.w0 < other.w0) | ((self.w0 == other.w0) & (self.w1 < other.w1));
-        let less2 = less1 | (equal1 & (self.w2 < other.w2));
+        if self.w0 != other.w0 {
+            return self.w0 < other.w0;
+        }
+        let equal1 = self.w1 == other.w1;
+        let less2 = (self.w1 < other.w1) | (equal1 & (self.w2 < other.w2));
         less2 | (equal1 & (self.w2 == other.w2) & (self.w3 < other.w3))
     }
 

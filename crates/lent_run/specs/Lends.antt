@@ -1,6 +1,9 @@
--- The nodes and buckets that the program lends, and the number that a refused answer has.
+-- The nodes, buckets and found nodes that the program lends, and the number that a refused answer has.
 use Prim.Native.Nat.{ℕ}
+use mathlib.Core.List.{List, _∷_}
+use lib.ListN.{replicate}
 use Rattle.key.specs.declared.Key.{Key}
+use Rattle.order.specs.declared.FoundNode.{FoundNode}
 use Rattle.node.specs.declared.Node.{Node}
 use Rattle.bucket.specs.declared.KBucket.{KBucket}
 use Rattle.model.specs.Result.{Reply}
@@ -42,3 +45,11 @@ malformed b = record {
 abbrev pub question : {A : Type 0} → Reply A → ℕ
 question (Reply.Refused q) = q
 question (Reply.Answered r) = 0
+
+-- a node found at distance d, in place j
+abbrev pub foundAt : ℕ → ℕ → FoundNode
+foundAt d j = record { distance = keyFrom d; place = j }
+
+-- distances 3, 1, 2 of places 0, 1, 2 in order, and thirteen that stay
+abbrev pub nearestFirst : List FoundNode
+nearestFirst = foundAt 1 1 ∷ foundAt 2 2 ∷ foundAt 3 0 ∷ replicate 13 (foundAt 0 0)

@@ -1,9 +1,9 @@
-// Buckets that are lent, and what the calls on them answer and leave.
+// Buckets and a run of found nodes that are lent, and what the calls on them answer and leave.
 ghost use mathlib.Core.Path.{_≡_};
 ghost use Rattle.model.specs.Result.{BucketInsertResult, UpdateResult, Reply};
 ghost use Rattle.bucket.specs.Bucket.{keyAt};
 ghost use Rattle.bucket.specs.Calls.{insertAnswerOf, updateAnswerOf};
-ghost use Rattle.lent_run.specs.Lends.{keyFrom, nodeFrom, emptied, two, malformed, question};
+ghost use Rattle.lent_run.specs.Lends.{keyFrom, nodeFrom, emptied, two, malformed, question, foundAt, nearestFirst};
 use bucket::InsertAnswer;
 use bucket::InsertReply;
 use bucket::KBucket;
@@ -13,6 +13,7 @@ use key::Key;
 use node::Node;
 use node::NodeStatus;
 use node::Value;
+use order::FoundNode;
 
 // The key of a number.
 pub(crate) fn key_from(k: u64) -> Key
@@ -110,6 +111,26 @@ pub(crate) fn moved() -> UpdateReply
     let both = inserted();
     let b = both.bucket;
     lent::update_status_by(b, key_from(32), 1, 2)
+}
+
+// A node found at this distance, in this place.
+pub(crate) fn found(distance: u64, place: usize) -> FoundNode
+    ensures { λ r. ⌜ r ≡ foundAt distance place ⌝ }
+{
+    let d = key_from(distance);
+    FoundNode { distance: d, place }
+}
+
+// Three found nodes are put in the order of their distance; the rest of the array stays.
+pub(crate) fn ordered() -> [FoundNode; 16]
+    ensures { λ r. ⌜ r ≡ nearestFirst ⌝ }
+{
+    let z = found(0, 0);
+    let mut run = [z; 16];
+    run[0] = found(3, 0);
+    run[1] = found(1, 1);
+    run[2] = found(2, 2);
+    order::order_by(run, 3)
 }
 
 // The question that failed, or 0.

@@ -1,5 +1,5 @@
-// Lends buckets to `insert` and `update_status` through the functions beside them that take a bucket by value, checks what they answer and leave, and writes it. Every
-// check is proved.
+// Lends buckets to `insert` and `update_status`, and a run of found nodes to `order`, through the functions beside them that take a bucket or an
+// array by value, checks what they answer and leave, and writes it. Every check is proved.
 use bucket::KBucket;
 use check::expect;
 
@@ -72,9 +72,33 @@ fn moved() {
     say_keys(b);
 }
 
+// Writes a place, and what stands behind it.
+fn say_place(place: usize, end: &[u8]) {
+    io::print_decimal(1, place as u64);
+    io::write_all(1, end);
+}
+
+fn ordered() {
+    let run = lends::ordered();
+    let first = run[0];
+    let second = run[1];
+    let third = run[2];
+    expect(first.place == 1);
+    expect(second.place == 2);
+    expect(third.place == 0);
+    io::write_all(
+        1,
+        b"distances 3, 1, 2 at places 0, 1, 2, put in order: places ",
+    );
+    say_place(first.place, b", ");
+    say_place(second.place, b", ");
+    say_place(third.place, b"\n");
+}
+
 fn main() {
     refused_insert();
     refused_status();
     inserted();
     moved();
+    ordered();
 }

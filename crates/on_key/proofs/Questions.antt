@@ -1,5 +1,5 @@
 -- The questions, one behind the other.
-use Prim.Native.Nat.{ℕ, _-_}
+use Prim.Native.Nat.{ℕ, _+_, _-_}
 use native.Mathlib.Omega.{arith}
 use mathlib.Core.Path.{_≡_, refl, sym, ap, _∙_}
 use mathlib.Core.Bool.{Bool, true, false, cond}
@@ -7,13 +7,13 @@ use mathlib.Core.List.{List, [], _∷_}
 use mathlib.Core.Option.{Option, none, some}
 use lib.ListN.{length}
 use lib.Dec.{eqb}
-use borrow.Author.Tests.{eqb-true, ne-eqb}
+use borrow.Author.Tests.{eqb-true, ne-eqb, leb-true}
 use Rattle.model.specs.Sizes.{keySize, storageSize}
 use Rattle.model.specs.Layout.{tableOf}
 use Rattle.model.specs.Formed.{formed}
 use Rattle.model.specs.Question.{firstFailed, deadlineFits}
 use Rattle.laws.proofs.Questions.{passed, front-fails, front-passes, back-passes}
-use Rattle.on_key.specs.Answers.{refusal, firstTwo, failedOfTwo, failedOfFive}
+use Rattle.on_key.specs.Answers.{refusal, firstTwo, failedOfTwo, failedOfThree, failedOfFive, Timely}
 
 -- the questions that a call on one key is asked first, in turn
 
@@ -40,6 +40,32 @@ module _ (s : List ℕ) where
   passed-two e =
       let p = passed 1 (eqb (length s) storageSize) ((2, formed s) ∷ []) e in
       record { size = eqb-true _ _ (p .0); formed = passed 2 (formed s) [] (p .1) .0 }
+
+  -- the same with question 5 behind them
+  module _ (now : ℕ) where
+    abbrev inTime : Bool
+    inTime = deadlineFits (tableOf s .settings .bucket .pendingTimeout) (some now)
+
+    pub three-two : (n : ℕ) → failedOfTwo s ≡ some n → failedOfThree now s ≡ some n
+    unfolding failedOfTwo failedOfThree
+    three-two n e = front-fails (firstTwo s) ((5, inTime) ∷ []) n e
+
+    pub three-clock : failedOfTwo s ≡ none → failedOfThree now s ≡ cond inTime none (some 5)
+    unfolding failedOfTwo failedOfThree
+    three-clock e = front-passes (firstTwo s) ((5, inTime) ∷ []) e
+
+    pub record PassedThree : Type 0 where
+      pub size : length s ≡ storageSize
+      pub formed : formed s ≡ true
+      pub timely : Timely s now
+
+    pub passed-three : failedOfThree now s ≡ none → PassedThree
+    unfolding failedOfThree
+    passed-three e =
+        let p = passed 1 (eqb (length s) storageSize) ((2, formed s) ∷ (5, inTime) ∷ []) e in
+        let q = passed 2 (formed s) ((5, inTime) ∷ []) (p .1) in
+        let c = leb-true (now + tableOf s .settings .bucket .pendingTimeout) 18446744073709551615 (passed 5 inTime [] (q .1) .0) in
+        record { size = eqb-true _ _ (p .0); formed = q .0; timely = omega (arith, c) }
 
   module _ (key : List ℕ) (codes : Bool) (now : Option ℕ) where
     abbrev clock : Bool

@@ -40,6 +40,11 @@ refusal n = cond (eqb n 0) none (some n)
 abbrev pub firstTwo : List ℕ → List (ℕ × Bool)
 firstTwo s = (1, eqb (length s) storageSize) ∷ (2, formed s) ∷ []
 
+-- 01, questions 1, 2 and 5 of a call that names no key
+abbrev pub firstThree : ℕ → List ℕ → List (ℕ × Bool)
+firstThree now s =
+    (1, eqb (length s) storageSize) ∷ (2, formed s) ∷ (5, deadlineFits (tableOf s .settings .bucket .pendingTimeout) (some now)) ∷ []
+
 -- 01, questions 1 to 5 of a call on one key
 abbrev pub firstFive : List ℕ → Bool → Option ℕ → List ℕ → List (ℕ × Bool)
 firstFive key codes now s =
@@ -52,6 +57,9 @@ firstFive key codes now s =
 
 unfoldable pub failedOfTwo : List ℕ → Option ℕ
 failedOfTwo s = firstFailed (firstTwo s)
+
+unfoldable pub failedOfThree : ℕ → List ℕ → Option ℕ
+failedOfThree now s = firstFailed (firstThree now s)
 
 unfoldable pub failedOfFive : List ℕ → Bool → Option ℕ → List ℕ → Option ℕ
 failedOfFive key codes now s = firstFailed (firstFive key codes now s)

@@ -13,7 +13,7 @@ ghost use Rattle.key.specs.Key.{num};
 ghost use Rattle.key.specs.Answers.{bucketIndexOf};
 ghost use Rattle.bucket.specs.Bucket.{pendingOf, bucketOf, Sound};
 ghost use Rattle.bucket.specs.Calls.{recordsOf, appliedCodes};
-ghost use Rattle.on_key.specs.Answers.{refusal, failedOfTwo, failedOfFive, Ready, Timely, isDue, AppliedAt, eitherOf, gone, roomFor, rewritten};
+ghost use Rattle.on_key.specs.Answers.{refusal, failedOfTwo, failedOfThree, failedOfFive, Ready, Timely, isDue, AppliedAt, eitherOf, gone, roomFor, rewritten};
 ghost use Rattle.on_key.specs.Start.{Begun};
 use bucket::Applied;
 use bucket::EndedPending;
@@ -33,6 +33,20 @@ pub fn asked_storage(s: &[u8]) -> u8
     }
     if !well_formed::formed(s) {
         return 2;
+    }
+    0
+}
+
+// Internal: the first failed question of 1, 2 and 5, or 0, where no key is given.
+pub fn asked_time(s: &[u8], time: u64) -> u8
+    ensures { λ r. ⌜ failedOfThree time (now (s .entry)) ≡ refusal r ⌝ }
+{
+    let q = asked_storage(s);
+    if q != 0 {
+        return q;
+    }
+    if 0xFFFF_FFFF_FFFF_FFFF - header::pending_timeout(s) < time {
+        return 5;
     }
     0
 }

@@ -1,2 +1,3 @@
 -- Laws of `order`.
 pub mod Exchange
+pub mod Rank

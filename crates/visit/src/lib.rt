@@ -122,7 +122,7 @@ fn count_at(s: &[u8], i: usize, time: u64, c: Counted) -> Counted
 }
 
 // Internal: how many records the visit of the buckets that yield n items would give. Nothing is written.
-pub fn count_records(s: &[u8], visit: ClosestBucketsIter, time: u64, n: usize) -> usize
+pub fn count_records(s: &[u8], visit: ClosestBucketsIter, n: usize, time: u64) -> usize
     requires { ⌜ (length (now s) ≡ storageSize) × (formed (now s) ≡ true) ⌝ }
     requires { ⌜ Timely (now s) time ⌝ }
     requires { ⌜ Visitable (remaining visit) ⌝ }
@@ -167,7 +167,7 @@ pub fn apply_in(s: &mut [u8], i: usize, time: u64)
 }
 
 // Internal: visits the buckets that yield n items and applies their due pendings in the storage.
-pub fn apply_all(s: &mut [u8], visit: ClosestBucketsIter, time: u64, n: usize)
+pub fn apply_all(s: &mut [u8], visit: ClosestBucketsIter, n: usize, time: u64)
     requires { ⌜ (length (now s) ≡ storageSize) × (formed (now s) ≡ true) ⌝ }
     requires { ⌜ Timely (now s) time ⌝ }
     requires { ⌜ Visitable (remaining visit) ⌝ }

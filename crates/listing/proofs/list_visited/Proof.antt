@@ -35,8 +35,8 @@ returns c =
     let d = p .before .before in
     let o = d .before .before .before .before in
     let a = o .args in
-    listed-refused (a .shape) (a .time) (a .n) (remaining (a .visit)) (a .out .now) (a .s .now)
-    (omega (arith, queue-length (a .shape) (a .time) (a .n) (remaining (a .visit)) (a .out .now) (a .s .now), c .if1 .taken, d .record-count .ensures, p .count-records .ensures))
+    listed-refused (a .shape) (a .n) (a .time) (remaining (a .visit)) (a .out .now) (a .s .now)
+    (omega (arith, queue-length (a .shape) (a .n) (a .time) (remaining (a .visit)) (a .out .now) (a .s .now), c .if1 .taken, d .record-count .ensures, p .count-records .ensures))
 
 apply-all-requires : tie.Need-apply-all-requires
 apply-all-requires c κs =
@@ -51,7 +51,7 @@ apply-all-requires c κs =
         o .pre .1 .0,
         (
           o .pre .1 .1 .0,
-          room-left (a .shape) (a .time) (a .n) (remaining (a .visit)) (a .out .now) (a .s .now) (λ j. k .slice-known .given j .fits) (o .pre .0 .0) (o .pre .0 .1) _ _ (d .record-count .ensures) (p .count-records .ensures) (e .if1 .left),
+          room-left (a .shape) (a .n) (a .time) (remaining (a .visit)) (a .out .now) (a .s .now) (λ j. k .slice-known .given j .fits) (o .pre .0 .0) (o .pre .0 .1) _ _ (d .record-count .ensures) (p .count-records .ensures) (e .if1 .left),
         ),
       ),
     )
@@ -65,9 +65,9 @@ put-all-requires c κs =
     let k = d .before .before .before in
     let o = k .before in
     let a = o .args in
-    let q = room-left (a .shape) (a .time) (a .n) (remaining (a .visit)) (a .out .now) (a .s .now) (λ j. k .slice-known .given j .fits) (o .pre .0 .0) (o .pre .0 .1) _ _ (d .record-count .ensures) (p .count-records .ensures) (e .if1 .left) in
-    let l = left-length (a .shape) (a .time) (a .n) (remaining (a .visit)) (a .out .now) (a .s .now) (λ j. k .slice-known .given j .fits) (o .pre .0 .0) (o .pre .0 .1) q in
-    let f = left-formed (a .shape) (a .time) (a .n) (remaining (a .visit)) (a .out .now) (a .s .now) (λ j. k .slice-known .given j .fits) (o .pre .0 .0) (o .pre .0 .1) q in
+    let q = room-left (a .shape) (a .n) (a .time) (remaining (a .visit)) (a .out .now) (a .s .now) (λ j. k .slice-known .given j .fits) (o .pre .0 .0) (o .pre .0 .1) _ _ (d .record-count .ensures) (p .count-records .ensures) (e .if1 .left) in
+    let l = left-length (a .shape) (a .n) (a .time) (remaining (a .visit)) (a .out .now) (a .s .now) (λ j. k .slice-known .given j .fits) (o .pre .0 .0) (o .pre .0 .1) q in
+    let f = left-formed (a .shape) (a .n) (a .time) (remaining (a .visit)) (a .out .now) (a .s .now) (λ j. k .slice-known .given j .fits) (o .pre .0 .0) (o .pre .0 .1) q in
     ((ap length (w .apply-all .ensures) ∙ l, ap formed (w .apply-all .ensures) ∙ f), (o .pre .1 .1 .0, o .pre .1 .1 .1))
 
 same-length-2 : tie.Need-same-length-2
@@ -86,8 +86,8 @@ returns-2 c =
     let k = d .before .before .before in
     let o = k .before in
     let a = o .args in
-    let q = room-left (a .shape) (a .time) (a .n) (remaining (a .visit)) (a .out .now) (a .s .now) (λ j. k .slice-known .given j .fits) (o .pre .0 .0) (o .pre .0 .1) _ _ (d .record-count .ensures) (p .count-records .ensures) (e .if1 .left) in
-    listed-found (a .shape) (a .time) (a .n) (remaining (a .visit)) (a .out .now) (a .s .now) (λ j. k .slice-known .given j .fits) (o .pre .0 .0) (o .pre .0 .1) q _ _ _ (w .apply-all .ensures) (v .put-all .ensures)
+    let q = room-left (a .shape) (a .n) (a .time) (remaining (a .visit)) (a .out .now) (a .s .now) (λ j. k .slice-known .given j .fits) (o .pre .0 .0) (o .pre .0 .1) _ _ (d .record-count .ensures) (p .count-records .ensures) (e .if1 .left) in
+    listed-found (a .shape) (a .n) (a .time) (remaining (a .visit)) (a .out .now) (a .s .now) (λ j. k .slice-known .given j .fits) (o .pre .0 .0) (o .pre .0 .1) q _ _ _ (w .apply-all .ensures) (v .put-all .ensures)
 
 pub list-visited-spec : {M : Type 1} → statement M
 list-visited-spec =

@@ -53,7 +53,7 @@ put-bucket-requires c κs =
     let a = o .args in
     let e = step-at (x .next .ensures) (y .before .index .given .1) in
     let b = subst (All (λ (i : ℕ). i < numBuckets)) e (l .loop .inv .below) in
-    (ready-at (a .s .now) _ (o .pre .0 .0) (o .pre .0 .1) (b .0), (o .pre .1 .1 .0, (l .loop .inv .within, (o .pre .1 .1 .1 .0, rw (l .loop .inv .size) (o .pre .1 .1 .1 .1)))))
+    (ready-at (a .s .now) _ (o .pre .0 .0) (o .pre .0 .1) (b .0), (l .loop .inv .within, (o .pre .1 .1 .0, rw (l .loop .inv .size) (o .pre .1 .1 .1))))
 
 loop-less : tie.Need-loop-less Inv-loop μ-loop
 loop-less c =
@@ -73,7 +73,7 @@ loop-again c =
     let e = step-at (x .next .ensures) (y .before .index .given .1) in
     let ns = firstNodes (a .n) (a .shape) (tableOf (a .s .now)) (remaining (a .visit)) in
     let w = subst (Putting (a .shape) (tableOf (a .s .now)) (a .n) ns (a .out .now) (l .loop .out) (l .loop .k)) e (l .loop .inv) in
-    putting-next (a .shape) (tableOf (a .s .now)) (a .n) ns (a .out .now) (l .loop .out) (l .loop .k) _ _ _ _ (o .pre .1 .1 .1 .1) w (z .put-bucket .ensures .0) (z .put-bucket .ensures .1)
+    putting-next (a .shape) (tableOf (a .s .now)) (a .n) ns (a .out .now) (l .loop .out) (l .loop .k) _ _ _ _ (o .pre .1 .1 .1) w (z .put-bucket .ensures .0) (z .put-bucket .ensures .1)
 
 same-length-2 : tie.Need-same-length-2 Inv-loop μ-loop
 same-length-2 c = c .before .loop .inv .size

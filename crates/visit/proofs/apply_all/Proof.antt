@@ -12,10 +12,10 @@ use Rattle.visit.proofs.apply_all.Statement.{statement}
 use Rattle.visit.proofs.apply_all.Tie as tie
 
 abbrev Inv-loop : tie.InvT-loop
-Inv-loop s₀ time n it₀ left₀ s it left = Visiting time n (remaining it₀) (tableOf s₀) s left (remaining it)
+Inv-loop s₀ n time it₀ left₀ s it left = Visiting time n (remaining it₀) (tableOf s₀) s left (remaining it)
 
 abbrev μ-loop : tie.MeasureT-loop
-μ-loop s₀ time n it₀ left₀ s it left = length (remaining it)
+μ-loop s₀ n time it₀ left₀ s it left = length (remaining it)
 
 loop-holds : tie.Need-loop-holds Inv-loop μ-loop
 loop-holds c =

@@ -11,10 +11,10 @@ use Rattle.visit.proofs.count_records.Statement.{statement}
 use Rattle.visit.proofs.count_records.Tie as tie
 
 abbrev Inv-loop : tie.InvT-loop
-Inv-loop s time n it₀ c₀ it c = Counting time n (remaining it₀) (tableOf s) c (remaining it)
+Inv-loop s n time it₀ c₀ it c = Counting time n (remaining it₀) (tableOf s) c (remaining it)
 
 abbrev μ-loop : tie.MeasureT-loop
-μ-loop s time n it₀ c₀ it c = length (remaining it)
+μ-loop s n time it₀ c₀ it c = length (remaining it)
 
 loop-holds : tie.Need-loop-holds Inv-loop μ-loop
 loop-holds c =

@@ -9,10 +9,10 @@ use Rattle.distances.proofs.pass.apply_pass.Statement.{statement}
 use Rattle.distances.proofs.pass.apply_pass.Tie as tie
 
 abbrev Inv-loop : tie.InvT-loop
-Inv-loop s₀ distances time n seen₀ p₀ s seen p = Passing time n distances (tableOf s₀) s seen p
+Inv-loop s₀ distances n time seen₀ p₀ s seen p = Passing time n distances (tableOf s₀) s seen p
 
 abbrev μ-loop : tie.MeasureT-loop
-μ-loop s₀ distances time n seen₀ p₀ s seen p = length distances - p
+μ-loop s₀ distances n time seen₀ p₀ s seen p = length distances - p
 
 loop-holds : tie.Need-loop-holds Inv-loop μ-loop
 loop-holds c =

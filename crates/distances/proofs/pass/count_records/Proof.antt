@@ -8,10 +8,10 @@ use Rattle.distances.proofs.pass.count_records.Statement.{statement}
 use Rattle.distances.proofs.pass.count_records.Tie as tie
 
 abbrev Inv-loop : tie.InvT-loop
-Inv-loop s distances time n records₀ seen₀ p₀ records seen p = Counting time n distances (tableOf s) records seen p
+Inv-loop s distances n time records₀ seen₀ p₀ records seen p = Counting time n distances (tableOf s) records seen p
 
 abbrev μ-loop : tie.MeasureT-loop
-μ-loop s distances time n records₀ seen₀ p₀ records seen p = length distances - p
+μ-loop s distances n time records₀ seen₀ p₀ records seen p = length distances - p
 
 loop-holds : tie.Need-loop-holds Inv-loop μ-loop
 loop-holds c = let a = c .before .before .args in counting-starts (a .time) (a .n) (a .distances .now) (tableOf (a .s .now))

@@ -8,13 +8,13 @@ use Rattle.distances.proofs.pass.put_all.Statement.{statement}
 use Rattle.distances.proofs.pass.put_all.Tie as tie
 
 abbrev Inv-loop : tie.InvT-loop
-Inv-loop s distances shape out₀ n k₀ p₀ out k p = Writing shape (tableOf s) n distances out₀ k p out
+Inv-loop s distances out₀ n k₀ p₀ out k p = Writing (tableOf s) n distances out₀ k p out
 
 abbrev μ-loop : tie.MeasureT-loop
-μ-loop s distances shape out₀ n k₀ p₀ out k p = length distances - p
+μ-loop s distances out₀ n k₀ p₀ out k p = length distances - p
 
 loop-holds : tie.Need-loop-holds Inv-loop μ-loop
-loop-holds c = let a = c .before .before .before .args in writing-starts (a .shape) (tableOf (a .s .now)) (a .n) (a .distances .now) (a .out .now)
+loop-holds c = let a = c .before .before .before .args in writing-starts (tableOf (a .s .now)) (a .n) (a .distances .now) (a .out .now)
 
 mul-put-one : tie.Need-mul-put-one Inv-loop μ-loop
 mul-put-one c = search needs
@@ -27,7 +27,7 @@ put-one-requires c κs =
     let st = c .before .before .before .before .before .before .before in
     let a = st .args in
     let w = c .before .before .before .loop .inv in
-    (st .pre .0, (st .pre .1 .0, (count-most (a .shape) (tableOf (a .s .now)) (a .n) (a .distances .now) w, (st .pre .1 .1 .0, omega (arith, st .pre .1 .1 .1, w .same-room)))))
+    (st .pre .0, (count-most (tableOf (a .s .now)) (a .n) (a .distances .now) w, (st .pre .1 .0, omega (arith, st .pre .1 .1, w .same-room))))
 
 add-p : tie.Need-add-p Inv-loop μ-loop
 add-p c = search needs
@@ -41,7 +41,7 @@ loop-again c =
     let a = st .args in
     let w = c .before .before .before .before .before .before .loop .inv in
     let x = c .before .before .put-one .ensures in
-    writing-next (a .shape) (tableOf (a .s .now)) (a .n) (a .distances .now) w (c .before .before .before .before .before .loop-test .taken) (st .pre .1 .1 .1) (omega arith) (x .0) (x .1)
+    writing-next (tableOf (a .s .now)) (a .n) (a .distances .now) w (c .before .before .before .before .before .loop-test .taken) (st .pre .1 .1) (omega arith) (x .0) (x .1)
 
 same-length : tie.Need-same-length Inv-loop μ-loop
 same-length c = search needs
@@ -49,7 +49,7 @@ same-length c = search needs
 returns : tie.Need-returns Inv-loop μ-loop
 returns c =
     let a = c .before .before .before .before .before .args in
-    writing-ends (a .shape) (tableOf (a .s .now)) (a .n) (a .distances .now) (c .before .loop .inv) (c .loop-test .left)
+    writing-ends (tableOf (a .s .now)) (a .n) (a .distances .now) (c .before .loop .inv) (c .loop-test .left)
 
 pub put-all-spec : {M : Type 1} → statement M
 put-all-spec =

@@ -2,6 +2,7 @@ use Prim.Native.Nat.{_-_}
 use Rattle.laws.proofs.Touched.{distance-of}
 use Rattle.model.specs.Layout.{tableOf}
 use Rattle.on_key.proofs.Steps.{ready-at}
+use Rattle.items.specs.Shape.{sizeBy}
 use Rattle.distances.proofs.Named.{index-told}
 use Rattle.distances.proofs.Written.{put-nothing, put-bucket-is}
 use borrow.Author.Needs.{needs}
@@ -18,13 +19,14 @@ enum-known-index : tie.Need-enum-known-index
 enum-known-index c = search needs
 
 put-bucket-requires : tie.Need-put-bucket-requires
+unfolding sizeBy
 put-bucket-requires c κs =
     let st = c .before .before .before .before .before .before .before in
     let h = distance-of (st .args .d) _ (index-told (st .args .d) (c .before .before .before .before .index-at .ensures) (c .before .before .index .given .1)) in
-    (ready-at _ _ (st .pre .0 .size) (st .pre .0 .formed) (h .below), (st .pre .1 .0, (st .pre .1 .1 .0, (st .pre .1 .1 .1 .0, st .pre .1 .1 .1 .1))))
+    (ready-at _ _ (st .pre .0 .size) (st .pre .0 .formed) (h .below), (st .pre .1 .0, (st .pre .1 .1 .0, st .pre .1 .1 .1)))
 
 returns : tie.Need-returns
-returns c = let a = c .before .before .before .before .before .args in put-nothing (a .shape) (tableOf (a .s .now)) (a .n - a .k) (a .d) (index-told (a .d) (c .before .before .index-at .ensures) (c .enum-told .given .1)) (a .k) (a .out .now)
+returns c = let a = c .before .before .before .before .before .args in put-nothing (tableOf (a .s .now)) (a .n - a .k) (a .d) (index-told (a .d) (c .before .before .index-at .ensures) (c .enum-told .given .1)) (a .k) (a .out .now)
 
 same-length : tie.Need-same-length
 same-length c = search needs
@@ -33,7 +35,7 @@ returns-2 : tie.Need-returns-2
 returns-2 c =
     let a = c .before .before .before .before .before .before .before .before .before .before .args in
     let x = c .before .before .put-bucket .ensures in
-    put-bucket-is (a .shape) (tableOf (a .s .now)) (a .n - a .k) (a .d) _ (index-told (a .d) (c .before .before .before .before .before .before .before .index-at .ensures) (c .before .before .before .before .before .index .given .1)) (a .k) (a .out .now) (x .0) (x .1)
+    put-bucket-is (tableOf (a .s .now)) (a .n - a .k) (a .d) _ (index-told (a .d) (c .before .before .before .before .before .before .before .index-at .ensures) (c .before .before .before .before .before .index .given .1)) (a .k) (a .out .now) (x .0) (x .1)
 
 pub put-one-spec : {M : Type 1} → statement M
 put-one-spec =
