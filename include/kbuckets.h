@@ -202,8 +202,9 @@ enum {
  * explanation is none): it takes a free place or evicts the node at place 0, or it is dropped, because 16 are held and the node at place 0
  * is connected, by the bucket filter, or by the incoming limit; the first of these that holds is its ending. The call then acts on the
  * bucket as that left it. One thing comes before: the table filter of kbuckets_update_node and kbuckets_insert_or_update looks at the
- * values that were held before the pending was applied. A pending that is not due is cleared where its key is inserted into a free place,
- * or the node at place 0 given CONNECTED, also where that call fails or changes nothing.
+ * values that were held before the pending was applied. A pending that was not applied (it is not due, or the call is an entry action) is
+ * cleared where its key is inserted into a free place, or the node at place 0 given CONNECTED, also where that call fails or changes
+ * nothing.
  *
  * However a pending ends, it leaves one record in the queue, of its key and its ending; only kbuckets_new ends pendings without. So the
  * inserts that answered PENDING since then are the records left and the pendings that still wait. A listing may leave several records, in

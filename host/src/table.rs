@@ -16,11 +16,11 @@ pub struct Settings {
     pub pending_timeout: u64,
     /// The most connected incoming nodes in a bucket: 0 to 16.
     pub max_incoming: u8,
-    /// `update_node` and `insert_or_update` fail where the table holds 10 values of the value's /24 that are unequal to it. What
-    /// `absent_insert` inserts and a pending node that is applied are not asked, so a table may hold more of a /24.
+    /// `update_node` and `insert_or_update` fail where the table holds 10 values of the value's /24 that are unequal to it, the key's own
+    /// apart. What `absent_insert` inserts and a pending node that is applied are not asked, so a table may hold more of a /24.
     pub table_filter: bool,
-    /// A value fails where its bucket holds 2 values of its /24 that are unequal to it; so a bucket holds at most 2 different values of
-    /// a /24.
+    /// A value fails where its bucket holds 2 values of its /24 that are unequal to it, the key's own apart; so a bucket holds at most 2
+    /// different values of a /24.
     pub bucket_filter: bool,
 }
 

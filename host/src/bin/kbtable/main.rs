@@ -46,7 +46,7 @@ Set-up that writes the bytes without asking (I is a bucket's index, or b for the
   NOW TIMEOUT        milliseconds
   MAX_INCOMING       the most connected incoming nodes of a bucket, 0 to 16
   TABLE_FILTER       1: a value fails where the table holds 10 values of its /24 that are unequal to it, the key's own apart; 0: off
-  BUCKET_FILTER      1: a value fails where the bucket holds 2 values of its /24 that are unequal to it; 0: off
+  BUCKET_FILTER      1: a value fails where the bucket holds 2 values of its /24 that are unequal to it, the key's own apart; 0: off
   DISTANCES          log2 distances joined by commas, '-' for none; distance D, 1 to 256, is bucket D - 1, others are dropped
   PREDICATE          0 always, 1 has an address, 2:a.b.c address in that /24, 3:SLOT slot equals
   PLACE              the first connected place, '-' for none
