@@ -4,16 +4,11 @@ use native.Mathlib.Omega.{arith}
 use mathlib.Core.Path.{_≡_, refl, sym, ap, _∙_}
 use mathlib.Core.Bool.{true}
 use mathlib.Core.List.{List}
-use lib.ListN.{length}
-use lib.Dec.{leb}
 use borrow.Author.Tests.{le-leb, leb-true}
 use Rattle.model.specs.Bytes.{Bytes}
-use Rattle.model.specs.Result.{Reply}
 use Rattle.model.specs.Call.{KeyCall}
-use Rattle.model.specs.Layout.{tableOf}
-use Rattle.model.specs.Explain.{explanation, line, explanationRoom, explainBytes}
+use Rattle.model.specs.Explain.{explanationRoom, explainBytes}
 use Rattle.laws.proofs.Explain.{answered-line, answered-length}
-use Rattle.laws.proofs.ExplainSize.{longestLine}
 use Rattle.explain.specs.declared.ExplainAnswer.{ExplainAnswer}
 use Rattle.explain.specs.Calls.{explainAnswerOf, Explains}
 use Rattle.codes.specs.Exported.{replyCode, Tells}

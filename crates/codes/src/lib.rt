@@ -6,7 +6,6 @@ ghost use lib.ListN.{length};
 ghost use Rattle.model.specs.Base.{first};
 ghost use Rattle.model.specs.Bytes.{splice};
 ghost use Rattle.model.specs.Layout.{flagByte};
-ghost use Rattle.key.specs.Key.{num};
 ghost use Rattle.bucket.specs.Calls.{insertResultOf, failureReasonOf, updateResultOf, recordsOf, appliedCodes};
 ghost use Rattle.codes.specs.Codes.{refusedCode, failedCode, updateCode, bucketInsertCode, bucketInsertBytes, appliedCode, appliedBytes, answerSize};
 

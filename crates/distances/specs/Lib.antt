@@ -1,3 +1,3 @@
--- What the contracts of `by_distances` cite beside the model.
+-- What the contracts of `distances` cite beside the model.
 pub mod Passes
 pub mod Early

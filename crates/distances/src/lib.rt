@@ -40,8 +40,8 @@ fn asked_early(s: &[u8], n: usize, time: u64, room: usize) -> u8
 }
 
 // The nodes of the buckets at the distances, in the order given, up to n, or one where n is 0: each bucket in stored order, written to
-// `out` as the bytes of a node. Distances outside 1 to 256 are dropped. Due pendings are applied first, up to the bucket whose record
-// makes n. Refused by questions 1, 2, 5, 6 and 8.
+// `out` as the bytes of a node. Distances outside 1 to 256 are dropped. Due pendings are applied first, up to the placed one whose
+// bucket makes n. Refused by questions 1, 2, 5, 6 and 8.
 pub fn nodes_by_distances(
     s: &mut [u8],
     distances: &[u64],

@@ -1,7 +1,7 @@
 -- Keys as numbers: the four words decide equality, order, XOR and bits. `omega` stops at numbers of more than 38 digits, so each law is
 -- proved for one word and used three times.
-use mathlib.Core.Path.{_≡_, refl, sym, ap, ap₂, _∙_}
-use mathlib.Core.Bool.{Bool, true, false, _&&_, _||_, and-comm}
+use mathlib.Core.Path.{_≡_, sym, ap, ap₂, _∙_}
+use mathlib.Core.Bool.{Bool, false, _&&_, and-comm}
 use Prim.Native.Nat.{ℕ, _+_, _*_, _/_, _%_, _^_, _<_, _≤_}
 use native.Mathlib.Nat.{div-eq-of-lt, lt-of-lt-of-le, mod-lt}
 use native.Mathlib.Omega.{arith}
@@ -27,6 +27,9 @@ highs p q hx hy e = omega arith
 pub lows : (p q : ℕ) {x y : ℕ} → x < 2 ^ 64 → y < 2 ^ 64 → p * 2 ^ 64 + x ≡ q * 2 ^ 64 + y → x ≡ y
 lows p q hx hy e = omega arith
 
+both : (p q : ℕ) {x y : ℕ} → p ≡ q → x ≡ y → p * 2 ^ 64 + x ≡ q * 2 ^ 64 + y
+both p q e f = omega arith
+
 module _ (p q x y : ℕ) (hx : x < 2 ^ 64) (hy : y < 2 ^ 64) where
   abbrev a : ℕ
   a = p * 2 ^ 64 + x
@@ -47,21 +50,18 @@ module _ (p q x y : ℕ) (hx : x < 2 ^ 64) (hy : y < 2 ^ 64) where
       sym (ap₂ _&&_ g k))
       (λ g. sym (ap (λ t. t && eqb x y) g)))
 
-  lt-word : ltb a b ≡ (ltb p q || (eqb p q && ltb x y))
-  lt-word =
+  -- the words above decide the order where they differ, and else this one
+  lt-above : (p ≡ q → ⊥) → ltb p q ≡ ltb a b
+  lt-above n =
       split (ltb p q)
-      (λ e. let h : p < q = ltb-true p q e in lt-ltb a b (omega arith) ∙ sym (ap (λ t. t || (eqb p q && ltb x y)) e))
-      (λ e.
-      let h : q ≤ p = ltb-false p q e in
-      split (eqb p q)
-      (λ f.
-      let i : p ≡ q = eqb-true p q f in
+      (λ e. let h : p < q = ltb-true p q e in e ∙ sym (lt-ltb a b (omega arith)))
+      (λ e. let h : q ≤ p = ltb-false p q e in e ∙ sym (le-ltb a b (omega (arith, n))))
+
+  lt-word : p ≡ q → ltb x y ≡ ltb a b
+  lt-word f =
       split (ltb x y)
-      (λ g. let j : x < y = ltb-true x y g in lt-ltb a b (omega arith) ∙ sym (ap₂ _||_ e (ap₂ _&&_ f g)))
-      (λ g. let j : y ≤ x = ltb-false x y g in le-ltb a b (omega arith) ∙ sym (ap₂ _||_ e (ap₂ _&&_ f g))))
-      (λ f.
-      let i : p ≡ q → ⊥ = eqb-false p q f in
-      le-ltb a b (omega (arith, i)) ∙ sym (ap₂ _||_ e (ap (λ t. t && ltb x y) f))))
+      (λ e. let h : x < y = ltb-true x y e in e ∙ sym (lt-ltb a b (omega arith)))
+      (λ e. let h : y ≤ x = ltb-false x y e in e ∙ sym (le-ltb a b (omega arith)))
 
 -- ---- of a key
 
@@ -69,6 +69,13 @@ module _ (p q x y : ℕ) (hx : x < 2 ^ 64) (hy : y < 2 ^ 64) where
 pub num-lt : (a : Key) → Words a → num a < 2 ^ 256
 unfolding num
 num-lt a h = more-lt _ (2 ^ 192) (h .word3) (more-lt _ (2 ^ 128) (h .word2) (more-lt (a .w0) (2 ^ 64) (h .word1) (h .word0)))
+
+-- the first two words, and the first three
+abbrev upper1 : Key → ℕ
+upper1 a = a .w0 * 2 ^ 64 + a .w1
+
+abbrev upper2 : Key → ℕ
+upper2 a = upper1 a * 2 ^ 64 + a .w2
 
 module _ (a b : Key) (ha : Words a) (hb : Words b) where
   -- the number decides the words
@@ -86,10 +93,10 @@ module _ (a b : Key) (ha : Words a) (hb : Words b) where
   abbrev equal1 : Bool
   equal1 = eqb (a .w0) (b .w0) && eqb (a .w1) (b .w1)
 
-  equal-1 : eqb (a .w0 * 2 ^ 64 + a .w1) (b .w0 * 2 ^ 64 + b .w1) ≡ equal1
+  equal-1 : eqb (upper1 a) (upper1 b) ≡ equal1
   equal-1 = eq-word (a .w0) (b .w0) (a .w1) (b .w1) (ha .word1) (hb .word1)
 
-  equal-2 : eqb ((a .w0 * 2 ^ 64 + a .w1) * 2 ^ 64 + a .w2) ((b .w0 * 2 ^ 64 + b .w1) * 2 ^ 64 + b .w2) ≡ (equal1 && eqb (a .w2) (b .w2))
+  equal-2 : eqb (upper2 a) (upper2 b) ≡ (equal1 && eqb (a .w2) (b .w2))
   equal-2 = eq-word _ _ (a .w2) (b .w2) (ha .word2) (hb .word2) ∙ ap (λ t. t && eqb (a .w2) (b .w2)) equal-1
 
   -- equal by the words
@@ -101,35 +108,31 @@ module _ (a b : Key) (ha : Words a) (hb : Words b) where
       ∙ and-comm (eqb (a .w3) (b .w3)) (equal1 && eqb (a .w2) (b .w2))
       ∙ sym (eq-word _ _ (a .w3) (b .w3) (ha .word3) (hb .word3) ∙ ap (λ t. t && eqb (a .w3) (b .w3)) equal-2)
 
-  -- less by the words
-  abbrev less1 : Bool
-  less1 = ltb (a .w0) (b .w0) || (eqb (a .w0) (b .w0) && ltb (a .w1) (b .w1))
-
-  abbrev less2 : Bool
-  less2 = less1 || (equal1 && ltb (a .w2) (b .w2))
-
-  less-1 : ltb (a .w0 * 2 ^ 64 + a .w1) (b .w0 * 2 ^ 64 + b .w1) ≡ less1
-  less-1 = lt-word (a .w0) (b .w0) (a .w1) (b .w1) (ha .word1) (hb .word1)
-
-  less-2 : ltb ((a .w0 * 2 ^ 64 + a .w1) * 2 ^ 64 + a .w2) ((b .w0 * 2 ^ 64 + b .w1) * 2 ^ 64 + b .w2) ≡ less2
-  less-2 = lt-word _ _ (a .w2) (b .w2) (ha .word2) (hb .word2) ∙ ap₂ (λ l e. l || (e && ltb (a .w2) (b .w2))) less-1 equal-1
-
-  less-words : (less2 || ((equal1 && eqb (a .w2) (b .w2)) && ltb (a .w3) (b .w3))) ≡ ltb (num a) (num b)
+  -- less by the first word that differs, and by the last where none of the others does
+  less-upper2 : (upper2 a ≡ upper2 b → ⊥) → ltb (upper2 a) (upper2 b) ≡ ltb (num a) (num b)
   unfolding num
-  less-words =
-      sym (lt-word _ _ (a .w3) (b .w3) (ha .word3) (hb .word3) ∙ ap₂ (λ l e. l || (e && ltb (a .w3) (b .w3))) less-2 equal-2)
+  less-upper2 n = lt-above _ _ (a .w3) (b .w3) (ha .word3) (hb .word3) n
 
-  -- the highest word decides where it differs, and else the others
+  less-upper1 : (upper1 a ≡ upper1 b → ⊥) → ltb (upper1 a) (upper1 b) ≡ ltb (num a) (num b)
+  less-upper1 n =
+      lt-above _ _ (a .w2) (b .w2) (ha .word2) (hb .word2) n ∙ less-upper2 (λ e. n (highs _ _ (ha .word2) (hb .word2) e))
+
   pub less-first : (a .w0 ≡ b .w0 → ⊥) → ltb (a .w0) (b .w0) ≡ ltb (num a) (num b)
-  less-first n = alone (ltb (a .w0) (b .w0)) ∙ (rw (ne-eqb (a .w0) (b .w0) n) at less-words)
-    where
-      alone : (t : Bool) → t ≡ (((t || false) || false) || false)
-      alone true = refl
-      alone false = refl
+  less-first n =
+      lt-above _ _ (a .w1) (b .w1) (ha .word1) (hb .word1) n ∙ less-upper1 (λ e. n (highs _ _ (ha .word1) (hb .word1) e))
 
-  pub less-rest : a .w0 ≡ b .w0
-      → ((ltb (a .w1) (b .w1) || (eqb (a .w1) (b .w1) && ltb (a .w2) (b .w2))) || ((eqb (a .w1) (b .w1) && eqb (a .w2) (b .w2)) && ltb (a .w3) (b .w3))) ≡ ltb (num a) (num b)
-  less-rest e = rw (le-ltb (a .w0) (b .w0) (omega arith), eq-eqb (a .w0) (b .w0) e) at less-words
+  pub less-second : a .w0 ≡ b .w0 → (a .w1 ≡ b .w1 → ⊥) → ltb (a .w1) (b .w1) ≡ ltb (num a) (num b)
+  less-second e0 n =
+      lt-word (a .w0) (b .w0) _ _ (ha .word1) (hb .word1) e0 ∙ less-upper1 (λ e. n (lows (a .w0) (b .w0) (ha .word1) (hb .word1) e))
+
+  pub less-third : a .w0 ≡ b .w0 → a .w1 ≡ b .w1 → (a .w2 ≡ b .w2 → ⊥) → ltb (a .w2) (b .w2) ≡ ltb (num a) (num b)
+  less-third e0 e1 n =
+      lt-word (upper1 a) (upper1 b) _ _ (ha .word2) (hb .word2) (both (a .w0) (b .w0) e0 e1)
+      ∙ less-upper2 (λ e. n (lows (upper1 a) (upper1 b) (ha .word2) (hb .word2) e))
+
+  pub less-last : a .w0 ≡ b .w0 → a .w1 ≡ b .w1 → a .w2 ≡ b .w2 → ltb (a .w3) (b .w3) ≡ ltb (num a) (num b)
+  unfolding num
+  less-last e0 e1 e2 = lt-word (upper2 a) (upper2 b) _ _ (ha .word3) (hb .word3) (both _ _ (both (a .w0) (b .w0) e0 e1) e2)
 
 -- the XOR of two keys, word by word
 abbrev pub xorKey : Key → Key → Key

@@ -96,9 +96,13 @@ impl Key {
         if self.w0 != other.w0 {
             return self.w0 < other.w0;
         }
-        let equal1 = self.w1 == other.w1;
-        let less2 = (self.w1 < other.w1) | (equal1 & (self.w2 < other.w2));
-        less2 | (equal1 & (self.w2 == other.w2) & (self.w3 < other.w3))
+        if self.w1 != other.w1 {
+            return self.w1 < other.w1;
+        }
+        if self.w2 != other.w2 {
+            return self.w2 < other.w2;
+        }
+        self.w3 < other.w3
     }
 
     // The XOR of the two keys.

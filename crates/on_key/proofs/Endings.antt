@@ -12,8 +12,8 @@ use Rattle.model.specs.Base.{same, isSome}
 use Rattle.model.specs.Value.{Value, sameValue}
 use Rattle.model.specs.Node.{Node, PendingNode, Ending, EndedPending, ended, endedIf, withStatus, withValue}
 use Rattle.model.specs.Result.{FailureReason, BucketInsertResult, UpdateResult, isInserted, isFailed}
-use Rattle.model.specs.Bucket.{Bucket, BucketSettings, nodes, find, get, holds, isFull, failsBucketFilter, isMaxIncoming, cleared, withPending, placed, takeOut, ofKey, insertEndings, insertFull, insert, applyFull, applyDue, applyIfDue, applyPending, reinsert, isFirst, takenOut, statusEndings, updateIfPending, updateStatusOf, updateStatus, updateValueOf, updateValue, remove}
-use Rattle.model.specs.Table.{Answer, EntryKind, kindIfPending, kindOfNode, kindOf, thenStatus, updateNodeIn, givenStatusEndings, updateNodeEndings, inserts, thenValue, insertOrUpdateIn, insertOrUpdateEndings}
+use Rattle.model.specs.Bucket.{Bucket, BucketSettings, nodes, find, get, holds, isFull, failsBucketFilter, isMaxIncoming, cleared, withPending, takeOut, ofKey, insertEndings, insertFull, insert, applyFull, applyDue, applyIfDue, applyPending, reinsert, isFirst, takenOut, statusEndings, updateIfPending, updateStatusOf, updateStatus, updateValueOf, updateValue, remove}
+use Rattle.model.specs.Table.{Answer, kindIfPending, kindOfNode, kindOf, thenStatus, updateNodeIn, givenStatusEndings, updateNodeEndings, thenValue, insertOrUpdateIn, insertOrUpdateEndings}
 use Rattle.model.specs.Question.{isAbsent}
 use Rattle.model.specs.Fits.{Opt, Formed}
 use Rattle.laws.proofs.Tests.{cases, clash, split, same-not}

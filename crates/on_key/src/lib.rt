@@ -2,10 +2,10 @@
 ghost use mathlib.Core.Path.{_≡_};
 ghost use mathlib.Core.Bool.{true, cond};
 ghost use mathlib.Core.Option.{none, some};
-ghost use Prim.Native.Nat.{_+_, _≤_, _<_};
+ghost use Prim.Native.Nat.{_+_, _<_};
 ghost use lib.ListN.{length};
 ghost use Rattle.model.specs.Bytes.{number};
-ghost use Rattle.model.specs.Table.{numBuckets, maxRecords, indexIn};
+ghost use Rattle.model.specs.Table.{numBuckets, indexIn};
 ghost use Rattle.model.specs.Sizes.{keySize, storageSize};
 ghost use Rattle.model.specs.Layout.{tableOf};
 ghost use Rattle.model.specs.Formed.{headerFormed};

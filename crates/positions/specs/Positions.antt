@@ -77,13 +77,13 @@ updateNumber (Reply.Answered UpdateResult.UpdatedPending) = 12
 updateNumber (Reply.Answered (UpdateResult.Failed r)) = 13
 updateNumber (Reply.Answered UpdateResult.NotModified) = 14
 
--- no pending was applied
+-- no pending was ended
 abbrev pub noneApplied : Reply (List EndedPending) → Bool
 noneApplied (Reply.Refused q) = false
 noneApplied (Reply.Answered []) = true
 noneApplied (Reply.Answered (r ∷ rs)) = false
 
--- the pending of this key was applied
+-- the pending of this key was ended: placed or dropped
 abbrev pub appliedKey : ℕ → Reply (List EndedPending) → Bool
 appliedKey k (Reply.Refused q) = false
 appliedKey k (Reply.Answered []) = false

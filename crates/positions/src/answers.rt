@@ -92,7 +92,7 @@ fn update_result_number(r: UpdateResult) -> u8
     }
 }
 
-// Was no pending applied?
+// Was no pending ended?
 pub(crate) fn none_applied(a: ApplyAnswer) -> bool
     ensures { λ r. ⌜ r ≡ noneApplied (applyAnswerOf a) ⌝ }
 {
@@ -107,7 +107,7 @@ pub(crate) fn none_applied(a: ApplyAnswer) -> bool
     }
 }
 
-// Was the pending of this key applied?
+// Was the pending of this key ended?
 pub(crate) fn applied_key(a: ApplyAnswer, key: Key) -> bool
     ensures { λ r. ⌜ r ≡ appliedKey (num key) (applyAnswerOf a) ⌝ }
 {

@@ -1,7 +1,6 @@
 use mathlib.Core.Path.{_≡_}
 use Prim.Native.Nat.{ℕ, _≤_}
 use native.Mathlib.Omega.{arith}
-use borrow.Author.Needs.{needs}
 use Rattle.header.proofs.ending_of.Statement.{statement}
 use Rattle.header.proofs.ending_of.Tie as tie
 
