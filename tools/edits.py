@@ -84,9 +84,7 @@ class Edit:
         for file in sorted({file for file, _, _ in self.pairs}):
             before = after = self.text(file)
             for _, old, new in [pair for pair in self.pairs if pair[0] == file]:
-                if not old or old not in after:
-                    yield f"{file} has no {old!r}"
-                elif words(old) == words(new):
+                if words(old) == words(new):
                     yield f"{old.strip()!r} stays as it is"
                 after = after.replace(old, new, 1)
             if words(before) == words(after):
@@ -131,9 +129,25 @@ def all_edits():
     return edits
 
 
+def faults_in_turn(edits):
+    """rt applies the edits of a file one behind the other. Each old text must then stand exactly once; and once in the source as it is, so that
+    it is told which function is edited."""
+    texts = {}
+    for edit in edits:
+        for file, old, new in edit.pairs:
+            at = edit.crate, edit.label, file
+            text = texts.setdefault(at, edit.text(file))
+            for place, when in ((edit.text(file), "as it is"), (text, "behind the edits before it")):
+                count = place.count(old) if old else 0
+                if count != 1:
+                    yield f"{edit}: crates/{edit.crate}/must-fail/{edit.label}.edit: {old!r} stands {count} times in {file} {when}, and should once"
+                    break
+            texts[at] = text.replace(old, new, 1)
+
+
 def faults_of(edits):
     """what is wrong with the edits, as far as their text tells"""
-    seen, faults = set(), []
+    seen, faults = set(), list(faults_in_turn(edits))
     for edit in edits:
         if (edit.crate, edit.name) in seen:
             faults.append(f"{edit}: another edit has this name")

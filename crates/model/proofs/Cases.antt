@@ -1,4 +1,5 @@
--- The further positions hold, by computing them all.
+-- The further positions hold, by computing them all. Each fact names the one before it, from rows-hold over explain-cases-hold to
+-- storages-hold: a wrong definition is refused at the first that it makes false, and those behind it are not computed.
 use mathlib.Core.Path.{_≡_, refl}
 use mathlib.Core.Bool.{true}
 use lib.Count.{leadingZeros}
@@ -19,12 +20,21 @@ use Rattle.model.specs.Formed.{areZero, nodeCodes, notHeld, pendingForme
 use Rattle.model.specs.Nearest.{nearest}
 use Rattle.model.specs.StepBytes.{restore, stepBytes}
 use Rattle.model.specs.Rows.{holds}
-use Rattle.model.specs.Cases.{cases, questionCases}
+use Rattle.model.specs.Cases.{cases, formedCases, questionCases, storageCases}
+use Rattle.model.proofs.ExplainCases.{explain-cases-hold}
 
 pub cases-hold : every holds cases ≡ true
 unfolding leadingZeros same joined tabulate allBelow number bytes part splice log2Distance bucketIndex testBit sameNet sameValue counts ipFilterFails firstConnectedPos isFull failsBucketFilter isMaxIncoming insert applyDue applyPending reinsert updateStatus updateValue updatePending remove heldNodes failsTableFilter insertBy sortBy setsDown clearsUp visits visited indexAt found keysFit codesInRange clockFits outputFits kindFits act queueFits step valueBytes nodeBytes recordBytes bucketBytes headerBytes itemBytes valueIn nodeIn recordIn nodesIn bucketIn settingsIn tableOf areZero nodeCodes notHeld pendingFormed bucketFormed recordFormed headerFormed formed nearest restore stepBytes cases
-cases-hold = refl
+cases-hold = let earlier = explain-cases-hold in refl
+
+pub formed-hold : every holds formedCases ≡ true
+unfolding leadingZeros same joined tabulate allBelow number bytes part splice log2Distance bucketIndex testBit sameNet sameValue counts ipFilterFails firstConnectedPos isFull failsBucketFilter isMaxIncoming insert applyDue applyPending reinsert updateStatus updateValue updatePending remove heldNodes failsTableFilter insertBy sortBy setsDown clearsUp visits visited indexAt found keysFit codesInRange clockFits outputFits kindFits act queueFits step valueBytes nodeBytes recordBytes bucketBytes headerBytes itemBytes valueIn nodeIn recordIn nodesIn bucketIn settingsIn tableOf areZero nodeCodes notHeld pendingFormed bucketFormed recordFormed headerFormed formed nearest restore stepBytes formedCases
+formed-hold = let earlier = cases-hold in refl
 
 pub questions-hold : every holds questionCases ≡ true
 unfolding leadingZeros same joined tabulate allBelow number bytes part splice log2Distance bucketIndex testBit sameNet sameValue counts ipFilterFails firstConnectedPos isFull failsBucketFilter isMaxIncoming insert applyDue applyPending reinsert updateStatus updateValue updatePending remove heldNodes failsTableFilter insertBy sortBy setsDown clearsUp visits visited indexAt found keysFit codesInRange clockFits outputFits kindFits act queueFits step valueBytes nodeBytes recordBytes bucketBytes headerBytes itemBytes valueIn nodeIn recordIn nodesIn bucketIn settingsIn tableOf areZero nodeCodes notHeld pendingFormed bucketFormed recordFormed headerFormed formed nearest restore stepBytes questionCases
-questions-hold = refl
+questions-hold = let earlier = formed-hold in refl
+
+pub storages-hold : every holds storageCases ≡ true
+unfolding leadingZeros same joined tabulate allBelow number bytes part splice log2Distance bucketIndex testBit sameNet sameValue counts ipFilterFails firstConnectedPos isFull failsBucketFilter isMaxIncoming insert applyDue applyPending reinsert updateStatus updateValue updatePending remove heldNodes failsTableFilter insertBy sortBy setsDown clearsUp visits visited indexAt found keysFit codesInRange clockFits outputFits kindFits act queueFits step valueBytes nodeBytes recordBytes bucketBytes headerBytes itemBytes valueIn nodeIn recordIn nodesIn bucketIn settingsIn tableOf areZero nodeCodes notHeld pendingFormed bucketFormed recordFormed headerFormed formed nearest restore stepBytes storageCases
+storages-hold = let earlier = questions-hold in refl

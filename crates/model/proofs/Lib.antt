@@ -1,4 +1,4 @@
--- Computed facts of the definitions.
+-- Computed facts of the definitions, in the order in which they are computed.
 pub mod Rows
-pub mod Cases
 pub mod ExplainCases
+pub mod Cases

@@ -224,7 +224,7 @@ updateValueOf s k v b (some n) =
 unfoldable pub updateValue : BucketSettings → ℕ → Value → Bucket → UpdateResult × Bucket
 updateValue s k v b = updateValueOf s k v b (get k b)
 
--- 01, Remove: closes the gap, then applies a due pending and throws the record away
+-- 01, Remove: closes the gap, then applies a due pending and throws the record away; in a table call nothing is due by then
 unfoldable pub remove : BucketSettings → ℕ → ℕ → Bucket → Bool × Bucket
 remove s now k b = cond (holds k b) (true, applyPending s now (takeOut k b) .0) (false, b)
 

@@ -575,8 +575,6 @@ cases =
     ++ (zeros 31 ++ (47 ∷ 1 ∷ 1 ∷ 1 ∷ 1 ∷ 2 ∷ 3 ∷ 4 ∷ (numbers 1 slotSize ++ (plainBytes 1 48 ++ (plainBytes 1 49 ++ (1 ∷ (plainBytes 1 50 ++ (zeros 6 ++ (234 ∷ 103 ∷ [])))))))))))
     ∷ Row.sizes (13 ∷ 47 ∷ 80 ∷ 810 ∷ 48 ∷ 5168 ∷ 212528 ∷ [])
     ∷ Row.restores (start 16 0 0 ∷ disconnected 2 ∷ []) 1
-    -- new is not asked question 2; the settings that it leaves
-    ∷ Row.leaves (replicate storageSize 9) (Call.new (key 1) 60000 7 1 0) Answer.New 0 (key 1 ++ (zeros 6 ++ (234 ∷ 96 ∷ 7 ∷ 1 ∷ 0 ∷ 0 ∷ [])))
     -- what is written: the entries found; behind them the bytes stay
     ∷ Row.writes threeNodes (Listing.closestKeys (key 4)) 2 (zeros (2 * keySize)) (key 4 ++ key 6)
     ∷ Row.writes threeNodes (Listing.closestValues (key 4)) 1 (zeros (keySize + valueSize)) (key 4 ++ (1 ∷ 10 ∷ 0 ∷ 0 ∷ 4 ∷ bytes slotSize 7))
@@ -617,7 +615,7 @@ cases =
     (Answer.Update UpdateResult.UpdatedPending ∷ Answer.Entry (EntryKind.Pending true true) ∷ [])
     ∷ Row.answers pendingAt100 (Call.onKey (key 48) (KeyCall.updateNode (plain 7) 0 100) ∷ Call.onKey (key 48) (KeyCall.entry 100) ∷ [])
     (Answer.Update UpdateResult.UpdatedPending ∷ pending false ∷ [])
-    -- the applying pass of nodes_by_distances stops after a record at which the buckets that yielded one hold n; bucket 0 yields none;
+    -- the applying pass of nodes_by_distances stops after a placed record at which the buckets that yielded one hold n; bucket 0 yields none;
     -- the oldest record is taken first
     ∷ Row.answers twoPending
     (Call.list (Listing.nodesByDistances (6 ∷ 7 ∷ [])) 16 60100 (zeros (16 * nodeSize)) ∷ Call.takeAppliedPending ∷ Call.takeAppliedPending ∷ [])
@@ -641,14 +639,11 @@ cases =
     -- slots that differ in one byte, each of the eight (02, slip 2)
     ∷ joined unequalSlots (map (λ i. 256 ^ i) (numbers 0 slotSize))
 
--- 01, "The gatekeeper's questions"
-unfoldable pub questionCases : List Row
-questionCases =
-    -- question 1: a storage of five bytes
-    Row.refusesBytes (zeros 5) (Call.list Listing.iter 1 0 (zeros nodeSize)) 1
-    ∷ Row.refusesBytes (zeros 5) (Call.new (key 0) 0 16 0 0) 1
-    -- question 2, of a bucket: well formed; connected incoming beyond max_incoming; keys of another index
-    ∷ Row.formed 5 1 four true
+-- 01, "The gatekeeper's questions": question 2, of the parts of a storage
+unfoldable pub formedCases : List Row
+formedCases =
+    -- of a bucket: well formed; connected incoming beyond max_incoming; keys of another index
+    Row.formed 5 1 four true
     ∷ Row.formed 5 0 four false
     ∷ Row.formed 6 1 four false
     -- a count that is too great, or leaves bytes that are not zero; the first connected place not exact
@@ -697,6 +692,15 @@ questionCases =
     ∷ Row.formedRecord (evictedBytes 6 (zeros nodeSize)) true
     ∷ Row.formedRecord (evictedBytes 6 (zeros (nodeSize - 1) ++ (1 ∷ []))) false
     ∷ Row.formedRecord (evictedBytes 7 (zeros nodeSize)) false
+    ∷ []
+
+-- the other questions
+unfoldable pub questionCases : List Row
+questionCases =
+    -- question 1: a storage of five bytes; in front of question 2, max_incoming 17
+    Row.refusesBytes (zeros 5) (Call.list Listing.iter 1 0 (zeros nodeSize)) 1
+    ∷ Row.refusesBytes (zeros 5) (Call.new (key 0) 0 16 0 0) 1
+    ∷ Row.refusesBytes (zeros maxIncomingAt ++ (17 ∷ [])) (Call.list Listing.iter 0 0 []) 1
     -- question 3: a key of 31 bytes, in front of a code out of range
     ∷ Row.refuses pendingAt100 (Call.onKey (bytes 31 32) (KeyCall.updateNodeStatus 2 2 0)) 3
     ∷ Row.refuses pendingAt100 (Call.new (bytes 31 0) 0 16 0 0) 3
@@ -726,8 +730,14 @@ questionCases =
     ∷ Row.answers (fullAtOnce ++ (applied 272 63 ++ (connected 335 ∷ []))) (Call.onKey (key 319) (KeyCall.presentUpdate 1 2) ∷ []) (Answer.Update UpdateResult.UpdatedAndPromoted ∷ [])
     ∷ Row.refuses (fullAtOnce ++ (applied 272 64 ++ (connected 336 ∷ []))) (Call.onKey (key 320) (KeyCall.presentUpdate 1 2)) 8
     ∷ Row.answers (fullAtOnce ++ (applied 272 64 ++ (connected 336 ∷ []))) (Call.onKey (key 321) (KeyCall.presentUpdate 1 2) ∷ []) (Answer.Update UpdateResult.UpdatedAndPromoted ∷ [])
-    -- question 2, of a whole storage: max_incoming 17; in front of a key of 31 bytes, and behind question 1
-    ∷ Row.refusesBytes (zeros maxIncomingAt ++ (17 ∷ zeros (storageSize - (maxIncomingAt + 1)))) (Call.list (Listing.closestKeys (bytes 31 0)) 0 0 []) 2
-    ∷ Row.refusesBytes (zeros maxIncomingAt ++ (17 ∷ [])) (Call.list Listing.iter 0 0 []) 1
     -- questions 4 and 5, of each call
     ∷ (refusals 4 codesOutOfRange ++ refusals 5 allTooLate)
+
+-- calls on the bytes of a whole storage
+unfoldable pub storageCases : List Row
+storageCases =
+    -- question 2: max_incoming 17; in front of a key of 31 bytes
+    Row.refusesBytes (zeros maxIncomingAt ++ (17 ∷ zeros (storageSize - (maxIncomingAt + 1)))) (Call.list (Listing.closestKeys (bytes 31 0)) 0 0 []) 2
+    -- new is not asked question 2; the settings that it leaves
+    ∷ Row.leaves (replicate storageSize 9) (Call.new (key 1) 60000 7 1 0) Answer.New 0 (key 1 ++ (zeros 6 ++ (234 ∷ 96 ∷ 7 ∷ 1 ∷ 0 ∷ 0 ∷ [])))
+    ∷ []

@@ -1,4 +1,4 @@
--- Numbers that tell answers, nodes, records and whole tables apart, so that two of them can be compared by a computed test. Of each
+-- Numbers that tell answers, nodes, records and buckets apart, so that two of them can be compared by a computed test. Of each
 -- definition, no list that it gives is the beginning of another.
 use Prim.Native.Nat.{ℕ}
 use mathlib.Core.Bool.{Bool, true, false, _&&_}
@@ -6,7 +6,7 @@ use mathlib.Core.List.{List, [], _∷_, _++_}
 use mathlib.Core.Option.{Option, none, some}
 use lib.ListN.{length}
 use lib.Dec.{eqb}
-use Rattle.model.specs.Base.{joined, tabulate}
+use Rattle.model.specs.Base.{joined, allBelow}
 use Rattle.model.specs.Value.{Address}
 use Rattle.model.specs.Node.{Node, PendingNode, Ending, EndedPending}
 use Rattle.model.specs.Result.{FailureReason, BucketInsertResult, UpdateResult, InsertResult}
@@ -109,8 +109,9 @@ abbrev pub bucketNumbers : Bucket → List ℕ
 bucketNumbers b =
     length (b .disconnected) ∷ length (b .connected) ∷ (joined nodeNumbers (nodes b) ++ pendingNumbers (b .pending))
 
--- the settings, the queue and all buckets
-abbrev pub tableNumbers : Table → List ℕ
-tableNumbers t =
-    settingsNumbers (t .settings)
-    ++ (length (t .queue) ∷ (joined recordNumbers (t .queue) ++ joined bucketNumbers (tabulate numBuckets (t .buckets))))
+-- the same settings, the same queue and the same buckets
+abbrev pub sameTable : Table → Table → Bool
+sameTable t u =
+    sameNumbers (settingsNumbers (t .settings)) (settingsNumbers (u .settings))
+    && (sameNumbers (joined recordNumbers (t .queue)) (joined recordNumbers (u .queue))
+    && allBelow numBuckets (λ i. sameNumbers (bucketNumbers (t .buckets i)) (bucketNumbers (u .buckets i))))

@@ -23,7 +23,7 @@ use Rattle.model.specs.Layout.{flagByte, bucketBytes, headerBytes, table
 use Rattle.model.specs.Formed.{bucketFormed, recordFormed, headerFormed, isAt, bucketFormedAt}
 use Rattle.model.specs.Nearest.{nearest}
 use Rattle.model.specs.StepBytes.{outputOf, written, touched, restore, stepBytes}
-use Rattle.model.specs.Numbers.{sameNumbers, optionNumbers, nodeNumbers, recordNumbers, answerNumbers, settingsNumbers, bucketNumbers, tableNumbers}
+use Rattle.model.specs.Numbers.{sameNumbers, optionNumbers, nodeNumbers, recordNumbers, answerNumbers, settingsNumbers, bucketNumbers, sameTable}
 
 -- Arguments of the calls.
 
@@ -142,7 +142,7 @@ holds (Row.matches before x p n bs) =
 holds (Row.refuses before c n) =
     let t = after before noTable in
     sameNumbers (answerNumbers (step c t .answer)) (answerNumbers (Answer.Refused n))
-    && sameNumbers (tableNumbers (step c t .table)) (tableNumbers t)
+    && sameTable (step c t .table) t
 holds (Row.refusesBytes s c n) =
     let o = stepBytes c s in
     sameNumbers (answerNumbers (o .answer)) (answerNumbers (Answer.Refused n))
