@@ -8,7 +8,8 @@
  * written to disk and compared; only the calls write them, and a call finds bytes that are not well-formed (question 2).
  *
  * What a call returns. KBUCKETS_REFUSED + q: question q failed, the first to fail, and all lent memory keeps its bytes. Otherwise a number
- * below KBUCKETS_REFUSED: the answer's code, the number of entries that a listing found, or the number of bytes of an explanation. */
+ * below KBUCKETS_REFUSED: the answer's code, the number of entries that a listing found, the number of bytes of an explanation, or the number
+ * of nodes written or read. */
 #ifndef KBUCKETS_H
 #define KBUCKETS_H
 
@@ -31,7 +32,7 @@
 
 /* The version of this header: 0x00MMmmpp, a byte each for major, minor and patch. */
 #define KBUCKETS_VERSION_MAJOR 0
-#define KBUCKETS_VERSION_MINOR 4
+#define KBUCKETS_VERSION_MINOR 5
 #define KBUCKETS_VERSION_PATCH 0
 #define KBUCKETS_VERSION (KBUCKETS_VERSION_MAJOR * 0x10000 + KBUCKETS_VERSION_MINOR * 0x100 + KBUCKETS_VERSION_PATCH)
 
@@ -89,7 +90,14 @@ enum {
     KBUCKETS_MAX_COUNT = 4096,
 
     /* what the output of an explanation must have room for, however short its line; no line is longer */
-    KBUCKETS_EXPLANATION_BYTES = 2048
+    KBUCKETS_EXPLANATION_BYTES = 2048,
+
+    /* what kbuckets_write puts out of a node behind its key: state, direction, value */
+    KBUCKETS_WRITTEN_ENTRY_BYTES = 2 + KBUCKETS_VALUE_BYTES,
+    /* the most nodes that a table holds, 4047: bucket i has 2^i keys, so the first four hold 1, 2, 4 and 8 */
+    KBUCKETS_MAX_NODES = 15 + 252 * KBUCKETS_MAX_NODES_PER_BUCKET,
+    /* the most bytes that kbuckets_write puts out, 190465: of n nodes they are KBUCKETS_NUM_BUCKETS + n * KBUCKETS_NODE_BYTES */
+    KBUCKETS_MAX_WRITTEN_BYTES = KBUCKETS_NUM_BUCKETS + KBUCKETS_MAX_NODES * KBUCKETS_NODE_BYTES
 };
 
 /* Codes of the arguments. */
@@ -119,7 +127,8 @@ enum {
     KBUCKETS_REFUSED_TIME = KBUCKETS_REFUSED + 5,   /* now + the pending timeout is above 2^64 - 1 */
     KBUCKETS_REFUSED_OUTPUT = KBUCKETS_REFUSED + 6, /* n is above 4096, or the output or the answer is too short */
     KBUCKETS_REFUSED_KIND = KBUCKETS_REFUSED + 7,   /* the key is not of the kind that the entry action needs */
-    KBUCKETS_REFUSED_QUEUE = KBUCKETS_REFUSED + 8   /* the call would leave more than 64 records in the queue */
+    KBUCKETS_REFUSED_QUEUE = KBUCKETS_REFUSED + 8,  /* the call would leave more than 64 records in the queue */
+    KBUCKETS_REFUSED_LOAD = KBUCKETS_REFUSED + 9    /* the bytes given to kbuckets_read cannot be loaded, or the table holds something */
 };
 
 /* Why an update or an insert failed: an answer KBUCKETS_FAILED + reason. Each call below lists the answers that can occur, without
@@ -374,6 +383,23 @@ KBUCKETS_MUST_USE uint32_t kbuckets_explain_pending_update(
 KBUCKETS_MUST_USE uint32_t kbuckets_explain_absent_insert(
     const uint8_t *storage, size_t storage_len, const uint8_t *key, size_t key_len, uint8_t flag, uint8_t a, uint8_t b, uint8_t c,
     uint8_t d, kbuckets_slot slot, uint8_t state, uint8_t direction, uint64_t now, uint8_t *output, size_t output_len);
+
+/* A table that survives a change of machine: kbuckets_write puts the held nodes out as bytes, and kbuckets_read loads them into storage that
+ * kbuckets_new has just made. The bytes are 256 one-byte sizes, of the buckets 0 to 255; then the keys of all nodes, in bucket and place
+ * order; then an entry for each, in the same order, KBUCKETS_WRITTEN_ENTRY_BYTES long: state, direction, address flag, four octets, slot.
+ * Local key, settings, pendings and records are not among them. Under the same local key and settings a table that only the calls have
+ * written is loaded with the same nodes in the same places, and what was read is written again byte for byte. */
+
+/* Writes the held nodes to the front of the output, and answers how many they are; the bytes are KBUCKETS_NUM_BUCKETS plus
+ * KBUCKETS_NODE_BYTES for each, and those behind them stay. It applies no pending and leaves the storage as it is. An output of
+ * KBUCKETS_MAX_WRITTEN_BYTES has room for every table; one that is too short for this table is refused with OUTPUT. Questions 1, 2, 6. */
+KBUCKETS_MUST_USE uint32_t kbuckets_write(const uint8_t *storage, size_t storage_len, uint8_t *output, size_t output_len);
+
+/* Loads what kbuckets_write put out, each node in its place, and answers how many nodes they are. Refused with LOAD: storage that holds any
+ * node, pending or record; a length that does not fit the sizes; bytes that would leave no well-formed table under the storage's local key
+ * and max_incoming, by any code, key or order; and, where the bucket filter is on, three different values of one /24 in a bucket. The table
+ * filter is not asked. Questions 1, 2, 9. */
+KBUCKETS_MUST_USE uint32_t kbuckets_read(uint8_t *storage, size_t storage_len, const uint8_t *bytes, size_t bytes_len);
 
 /* A bucket by itself. `bucket` is KBUCKETS_BUCKET_BYTES: what a table stores of a bucket, then pending timeout, max_incoming and filter.
  * Question 2 asks nothing of the index of its keys. It has no queue: what becomes of its pending leaves no record. */

@@ -208,7 +208,7 @@ fn all_zero(bytes: &[u8]) -> bool {
 }
 
 /// The bucket index of a key: 255 less the leading zero bits of its distance to the local key; none at distance 0.
-fn index(local: &[u8; 32], key: &[u8; 32]) -> Option<usize> {
+pub fn index(local: &[u8; 32], key: &[u8; 32]) -> Option<usize> {
     let byte = (0..KEY).find(|i| local[*i] != key[*i])?;
     Some(8 * (KEY - 1 - byte) + (local[byte] ^ key[byte]).ilog2() as usize)
 }

@@ -168,6 +168,14 @@ pub enum TableCall {
         call: Box<TableCall>,
         room: Option<u64>,
     },
+    /// The held nodes as bytes. `room`: the bytes of the lent output, where the line says it.
+    Write {
+        room: Option<u64>,
+    },
+    /// Loads what `write` put out.
+    Read {
+        bytes: Vec<u8>,
+    },
 }
 
 /// The calls that insert, update or remove a peer, which can be explained.
@@ -231,7 +239,7 @@ impl Line {
 }
 
 /// The forms of the lines: a name, then its words.
-pub const TABLE_FORMS: [&str; 17] = [
+pub const TABLE_FORMS: [&str; 19] = [
     "new LOCAL TIMEOUT MAX_INCOMING TABLE_FILTER BUCKET_FILTER",
     "update_node_status NOW KEY STATE DIRECTION?",
     "update_node NOW KEY VALUE STATE?",
@@ -248,6 +256,8 @@ pub const TABLE_FORMS: [&str; 17] = [
     "closest_values_predicate NOW TARGET PREDICATE N",
     "take_applied_pending",
     "explain CALL",
+    "write",
+    "read HEX",
     "dump",
 ];
 pub const BUCKET_FORMS: [&str; 8] = [
@@ -268,11 +278,15 @@ pub const RAW_FORMS: [&str; 5] = [
     "raw_byte OFFSET NUMBER",
 ];
 
-/// The form of the line with this name. The listings, which end with N, and `explain` take a room.
+/// The form of the line with this name. The listings, which end with N, `explain` and `write` take a room.
 fn form(name: &str) -> Option<String> {
     let named = |form: &&str| form.split(' ').next() == Some(name);
     let form = TABLE_FORMS.into_iter().chain(BUCKET_FORMS).chain(RAW_FORMS).find(named)?;
-    Some(if form.ends_with(" N") || name == "explain" { format!("{form} [out=K]") } else { form.to_string() })
+    Some(if form.ends_with(" N") || ["explain", "write"].contains(&name) {
+        format!("{form} [out=K]")
+    } else {
+        form.to_string()
+    })
 }
 
 /// The form of a line that is no call: of `explain`, also that of the call it names.
@@ -407,6 +421,8 @@ fn table_call(name: &str, words: &mut Words) -> Result<Option<TableCall>, String
             let call = call.ok_or_else(|| format!("{name:?} cannot be explained, only {}", PEER_CALLS.join(", ")))?;
             TableCall::Explain { call: Box::new(call), room: words.room()? }
         }
+        "write" => TableCall::Write { room: words.room()? },
+        "read" => TableCall::Read { bytes: words.bytes()? },
         _ => return Ok(None),
     }))
 }
@@ -466,6 +482,14 @@ impl<'a> Words<'a> {
 
     fn key(&mut self) -> Result<Vec<u8>, String> {
         key(self.word()?)
+    }
+
+    /// Two small hexadecimal digits a byte, `-` for no bytes.
+    fn bytes(&mut self) -> Result<Vec<u8>, String> {
+        match self.word()? {
+            "-" => Ok(Vec::new()),
+            word => bytes(word),
+        }
     }
 
     /// A key of 32 bytes: a raw line asks no question about its length.
@@ -585,11 +609,29 @@ fn key(word: &str) -> Result<Vec<u8>, String> {
     Ok(digits.chunks(2).map(|pair| pair[0] * 16 + pair[1]).collect())
 }
 
+/// The bytes of a run of small hexadecimal digits, two a byte.
+fn bytes(word: &str) -> Result<Vec<u8>, String> {
+    let digit = |(place, digit): (usize, char)| match digit {
+        '0'..='9' | 'a'..='f' => Ok(digit.to_digit(16).unwrap() as u8),
+        _ => Err(format!("{digit:?}, character {} of HEX, is no small hexadecimal digit", place + 1)),
+    };
+    let digits = word.chars().enumerate().map(digit).collect::<Result<Vec<u8>, String>>()?;
+    if digits.is_empty() || !digits.len().is_multiple_of(2) {
+        return Err(format!("HEX has {} digits, which is no whole number of bytes", digits.len()));
+    }
+    Ok(digits.chunks(2).map(|pair| pair[0] * 16 + pair[1]).collect())
+}
+
 /// Writes text to the end of a run of bytes.
 pub trait Write {
     fn text(&mut self, text: &str);
     fn number(&mut self, number: u64);
-    fn key(&mut self, key: &[u8; 32]);
+    /// Two small hexadecimal digits a byte.
+    fn hexadecimal(&mut self, bytes: &[u8]);
+
+    fn key(&mut self, key: &[u8; 32]) {
+        self.hexadecimal(key);
+    }
 
     fn value(&mut self, value: &ValueCodes) {
         self.number(value.flag.into());
@@ -697,13 +739,13 @@ impl Write for Vec<u8> {
         self.extend_from_slice(&digits[at..]);
     }
 
-    fn key(&mut self, key: &[u8; 32]) {
+    fn hexadecimal(&mut self, bytes: &[u8]) {
         const DIGITS: &[u8; 16] = b"0123456789abcdef";
-        let mut text = [0; 64];
-        for (pair, byte) in text.chunks_exact_mut(2).zip(key) {
+        let from = self.len();
+        self.resize(from + 2 * bytes.len(), 0);
+        for (pair, byte) in self[from..].chunks_exact_mut(2).zip(bytes) {
             pair[0] = DIGITS[usize::from(byte >> 4)];
             pair[1] = DIGITS[usize::from(byte & 15)];
         }
-        self.extend_from_slice(&text);
     }
 }

@@ -22,6 +22,7 @@ fn example(form: &str) -> String {
         "PREDICATE" => "2:10.0.0".to_string(),
         "ENDING" | "PLACE" => "-".to_string(),
         "CALL" => "remove 1 :4".to_string(),
+        "HEX" => "00ff".to_string(),
         _ if word.chars().any(|c| c.is_ascii_lowercase()) => word.to_string(),
         _ => "1".to_string(),
     };
@@ -93,6 +94,52 @@ fn explained_calls() {
         assert!(fault.ends_with(&format!("its form is: explain CALL [out=K], with the CALL {form}")), "{fault}");
     }
     assert!(parse("explain").unwrap_err().ends_with("too few words; its form is: explain CALL [out=K]"));
+}
+
+/// A table's bytes are read digit by digit and written alike.
+#[test]
+fn written_tables() {
+    for (line, short, expected) in
+        [("write", false, None), ("! write out=0", true, Some(0)), ("write out=256", false, Some(256))]
+    {
+        let Line::Table { short: given, call: TableCall::Write { room } } = read(line) else { panic!() };
+        assert_eq!((given, room), (short, expected));
+        assert_eq!(read(line).answer_lines(), 2, "a dump follows");
+    }
+    for (word, expected) in [("-", vec![]), ("00", vec![0]), ("0aff10", vec![10, 255, 16])] {
+        let Line::Table { short: false, call: TableCall::Read { bytes } } = read(&format!("read {word}")) else {
+            panic!()
+        };
+        assert_eq!(bytes, expected);
+        let mut text = Vec::new();
+        text.hexadecimal(&bytes);
+        assert_eq!(text, word.trim_start_matches('-').as_bytes());
+    }
+    for line in [
+        "write 1",
+        "write room=1",
+        "read",
+        "read 0",
+        "read 0A",
+        "read 0é",
+        "read :1",
+        "read 00 00",
+        "read 00 out=1",
+        "read --",
+    ] {
+        assert!(parse(line).is_err(), "{line}");
+    }
+    assert!(
+        parse("read 0")
+            .unwrap_err()
+            .ends_with("HEX has 1 digits, which is no whole number of bytes; its form is: read HEX")
+    );
+    assert!(
+        parse("read 00A0")
+            .unwrap_err()
+            .ends_with("'A', character 3 of HEX, is no small hexadecimal digit; its form is: read HEX")
+    );
+    assert!(parse("write 1").unwrap_err().ends_with("not out=K: \"1\"; its form is: write [out=K]"));
 }
 
 #[test]

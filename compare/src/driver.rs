@@ -21,6 +21,7 @@ use std::time::Duration;
 
 mod endings;
 mod explain;
+mod saved;
 
 pub type Table = KBucketsTable<NodeId, Value>;
 pub type Bucket = KBucket<NodeId, Value>;
@@ -289,6 +290,8 @@ impl HeldTable {
                 taken(self.take(), out);
             }
             TableCall::Explain { call, room } => self.explain(call, *room, out)?,
+            TableCall::Write { room } => self.write(*room, out)?,
+            TableCall::Read { bytes } => self.load(bytes, out)?,
         }
         Ok(())
     }

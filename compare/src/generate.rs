@@ -3,7 +3,7 @@
 
 use crate::explained::ROOM;
 use crate::layout;
-use crate::text::{PEER_CALLS, Slot};
+use crate::text::{self as line, Line, NodeCodes, PEER_CALLS, Raw, Slot, TableCall, Which, Write};
 
 /// The splitmix64 generator.
 pub struct Random(u64);
@@ -254,7 +254,7 @@ impl Generator {
         } else {
             self.calls()
         };
-        let list = explained(list, &mut random);
+        let list = saved(explained(list, &mut random), &mut random);
         self.explaining = Some(random);
         list
     }
@@ -296,6 +296,109 @@ fn explained(list: Vec<String>, random: &mut Random) -> Vec<String> {
         lines.push(line);
     }
     lines
+}
+
+/// A list with the table written somewhere, and a list at whose end a new table is loaded with nodes that the list names, or with damaged
+/// ones, is written, and goes on.
+fn saved(mut list: Vec<String>, random: &mut Random) -> Vec<String> {
+    let Some(Line::Table { call: TableCall::New { local, max_incoming, .. }, .. }) =
+        list.first().and_then(|line| read(line))
+    else {
+        return list;
+    };
+    let write = |random: &mut Random| match random.below(8) {
+        0 => "! write".to_string(),
+        1 => format!("write out={}", random.pick(&[0, 255, 256, 302, 303, 304, 1 << 20])),
+        _ => "write".to_string(),
+    };
+    if random.percent(20) {
+        let at = 1 + random.below(list.len() as u64) as usize;
+        list.insert(at, write(random));
+    }
+    let Ok(local) = <Key>::try_from(local) else { return list };
+    if random.percent(20) {
+        let nodes = nodes_of(&list, &local, max_incoming, random);
+        let bytes = damaged(saved_bytes(&nodes), random);
+        let mut text = Vec::new();
+        text.hexadecimal(&bytes);
+        let text = if text.is_empty() { "-".to_string() } else { String::from_utf8(text).unwrap() };
+        if random.percent(90) {
+            list.push(list[0].clone());
+        }
+        match random.below(40) {
+            0 => list.push(format!("raw_record {} -", hex(&local))),
+            1 | 2 => list.push(format!("raw_byte {} 2", layout::HEADER_OFFSETS[2])),
+            3 => list
+                .push(format!("insert_or_update 0 {} 0:0.0.0.0:1 0 0", hex(&key_in_bucket(random, &local, 255, true)))),
+            _ => (),
+        }
+        list.push(format!("{}read {text}", if random.percent(4) { "! " } else { "" }));
+        list.push(write(random));
+        list.push(format!("iter {} 4096", random.below(1000)));
+        for node in nodes.iter().flatten().take(3) {
+            list.push(format!("update_node_status 0 {} {} 2", hex(&node.key), random.below(2)));
+        }
+        list.push(write(random));
+    }
+    list
+}
+
+/// Nodes of different keys that a list inserts, in their buckets, disconnected first.
+fn nodes_of(list: &[String], local: &Key, max_incoming: u8, random: &mut Random) -> Vec<Vec<NodeCodes>> {
+    let mut buckets = vec![Vec::new(); layout::BUCKETS];
+    let most = random.pick(&[0, 1, 2, 5, 40, 200]);
+    let named = list.iter().filter_map(|line| match read(line)? {
+        Line::Table { call: TableCall::InsertOrUpdate { key, value, state, direction, .. }, .. }
+        | Line::Table { call: TableCall::AbsentInsert { key, value, state, direction, .. }, .. } => {
+            Some(NodeCodes { key: key.try_into().ok()?, value, state, direction })
+        }
+        Line::Raw(Raw::Node(Which::Index(_), node)) => Some(node),
+        _ => None,
+    });
+    for node in named.take(most) {
+        let Some(i) = layout::index(local, &node.key) else { continue };
+        let bucket: &mut Vec<NodeCodes> = &mut buckets[i];
+        let incoming = bucket.iter().filter(|n| n.state == 1 && n.direction == 1).count();
+        let room = node.state == 0 || node.direction == 0 || incoming < max_incoming.into() || random.percent(2);
+        if bucket.len() < layout::PLACES && bucket.iter().all(|held| held.key != node.key) && room {
+            bucket.push(node);
+        }
+    }
+    for bucket in &mut buckets {
+        bucket.sort_by_key(|node| node.state);
+    }
+    buckets
+}
+
+/// What the writer puts out of nodes in their buckets.
+fn saved_bytes(buckets: &[Vec<NodeCodes>]) -> Vec<u8> {
+    let mut bytes: Vec<u8> = buckets.iter().map(|nodes| nodes.len() as u8).collect();
+    bytes.extend(buckets.iter().flatten().flat_map(|node| node.key));
+    for node in buckets.iter().flatten() {
+        bytes.extend([node.state, node.direction]);
+        bytes.extend(layout::value_bytes(&node.value));
+    }
+    bytes
+}
+
+/// One in three is damaged: a byte changed, bytes cut off or added, a size moved to the next bucket.
+fn damaged(mut bytes: Vec<u8>, random: &mut Random) -> Vec<u8> {
+    let at = random.below(bytes.len() as u64) as usize;
+    match random.below(15) {
+        0 => bytes[at] ^= 1 << random.below(8),
+        1 => bytes[at] = random.pick(&[0, 1, 2, 255]),
+        2 => bytes.truncate(bytes.len() - 1 - random.below(48) as usize),
+        3 => bytes.extend(vec![0; 1 + random.below(48) as usize]),
+        4 if at < 255 => bytes.swap(at, at + 1),
+        5 => bytes.truncate(at),
+        _ => (),
+    }
+    bytes
+}
+
+/// A line as it is read; none for one that is passed over.
+fn read(text: &str) -> Option<Line> {
+    line::parse(text).ok().flatten()
 }
 
 /// Slots at which a narrower number would end, or the whole one does.

@@ -384,6 +384,12 @@ const ASKED: [&str; 8] = [
 const LISTINGS: [&str; 5] =
     ["iter", "nodes_by_distances", "closest_keys", "closest_values", "closest_values_predicate"];
 
+/// The outcomes of writing and of reading a table.
+const SAVED: [(&str, &[&str]); 2] = [
+    ("write", &["Written", "Refused 1", "Refused 2", "Refused 6"]),
+    ("read", &["Read", "Refused 1", "Refused 2", "Refused 9"]),
+];
+
 /// What explanations are asked for, in bytes of the output.
 const ASKED_TO_EXPLAIN: [&str; 4] = ["out=0 refused", "out=2047 refused", "out=2048 explained", "out=2049 explained"];
 
@@ -463,7 +469,7 @@ fn slots(call: &str, answer: &str, before: &[u8]) -> Vec<(&'static str, &'static
 fn call(line: &str) -> Option<(&'static str, Split<'_, char>)> {
     let mut words = line.strip_prefix("! ").unwrap_or(line).split(' ');
     let name = words.next()?;
-    OUTCOMES.iter().find(|(call, _)| *call == name).map(|(call, _)| (*call, words))
+    OUTCOMES.iter().chain(&SAVED).find(|(call, _)| *call == name).map(|(call, _)| (*call, words))
 }
 
 /// The outcome of an explanation. Where nothing fails, the reason alone; else the answer, the reason and the number of keys.
@@ -509,6 +515,8 @@ pub fn outcome(line: &str, answer: &str) -> Option<(&'static str, String)> {
         "Pending"
     } else if answer.starts_with("Present(") {
         "Present"
+    } else if answer.starts_with("Written ") {
+        "Written"
     } else {
         answer
     };
@@ -569,9 +577,14 @@ impl Counts {
         Counts::none(&EXPLAINED)
     }
 
-    /// Of the calls and of the explanations.
+    /// Of tables written and read.
+    pub fn saved() -> Counts {
+        Counts::none(&SAVED)
+    }
+
+    /// Of the calls, of the explanations, and of tables written and read.
     pub fn all() -> Counts {
-        Counts::none(&[&OUTCOMES[..], &EXPLAINED[..]].concat())
+        Counts::none(&[&OUTCOMES[..], &EXPLAINED[..], &SAVED[..]].concat())
     }
 
     pub fn asked() -> Counts {

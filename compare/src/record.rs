@@ -280,7 +280,9 @@ fn table_arguments(call: &TableCall, answer: usize, record: &mut Record) -> usiz
             room.unwrap_or((*n).max(least)).min(ENTRIES) as usize * entry
         }
         TableCall::TakeAppliedPending => answer,
-        TableCall::Explain { .. } => unreachable!("an explanation has no record"),
+        TableCall::Explain { .. } | TableCall::Write { .. } | TableCall::Read { .. } => {
+            unreachable!("an explanation, a table written or read has no record")
+        }
     }
 }
 

@@ -1,5 +1,5 @@
-//! The reference answers the twelve positions and the questions of document 01, explains, and ends pendings, as the files say, and refuses
-//! bad lines.
+//! The reference answers the twelve positions and the questions of document 01, explains, writes and reads tables, and ends pendings, as the
+//! files say, and refuses bad lines.
 
 mod programs;
 
@@ -30,6 +30,13 @@ fn questions() {
 fn explanations() {
     if has_reference() {
         programs::answers_as_written(REFERENCE, "explain.txt");
+    }
+}
+
+#[test]
+fn written_and_read() {
+    if has_reference() {
+        programs::answers_as_written(REFERENCE, "saved.txt");
     }
 }
 

@@ -17,6 +17,7 @@ pub enum Refusal {
     Output,
     Kind,
     Queue,
+    Load,
 }
 
 impl Refusal {
@@ -38,6 +39,7 @@ impl fmt::Display for Refusal {
             Refusal::Output => "n is above 4096, or the output or the answer is too short",
             Refusal::Kind => "the key is not of the kind that the entry action needs",
             Refusal::Queue => "the call would leave more than 64 records in the queue",
+            Refusal::Load => "the table holds something, or the bytes to be read are no table's that fits it",
         })
     }
 }
@@ -199,6 +201,7 @@ pub(crate) fn answered(returned: u32) -> Result<u32, Refusal> {
         Some(6) => Refusal::Output,
         Some(7) => Refusal::Kind,
         Some(8) => Refusal::Queue,
+        Some(9) => Refusal::Load,
         Some(_) => no_answer(returned),
     })
 }

@@ -238,6 +238,8 @@ unsafe extern "C" {
         output: *mut u8,
         output_len: usize,
     ) -> u32;
+    pub fn kbuckets_write(storage: *const u8, storage_len: usize, output: *mut u8, output_len: usize) -> u32;
+    pub fn kbuckets_read(storage: *mut u8, storage_len: usize, bytes: *const u8, bytes_len: usize) -> u32;
     pub fn kbuckets_b_new(
         bucket: *mut u8,
         bucket_len: usize,

@@ -127,6 +127,9 @@ fn sizes() {
         ("CLOSEST_VALUES_PREDICATE_ENTRY_BYTES", lent::CLOSEST_VALUES_PREDICATE_ENTRY),
         ("MAX_COUNT", lent::MAX_COUNT),
         ("EXPLANATION_BYTES", lent::EXPLANATION_BYTES),
+        ("WRITTEN_ENTRY_BYTES", layout::NODE - layout::KEY),
+        ("MAX_NODES", lent::MAX_NODES),
+        ("MAX_WRITTEN_BYTES", lent::MAX_WRITTEN_BYTES),
     ] {
         assert_eq!(constants[&format!("KBUCKETS_{name}")], size as u64, "{name}");
     }
@@ -136,6 +139,8 @@ fn sizes() {
         ("a bucket by itself, ", lent::BUCKET_BYTES),
         ("what `answer` must have room for, ", lent::ANSWER_BYTES),
         ("the records begin at a multiple of 16, ", layout::RECORDS_AT),
+        ("the most nodes that a table holds, ", lent::MAX_NODES),
+        ("the most bytes that kbuckets_write puts out, ", lent::MAX_WRITTEN_BYTES),
     ] {
         let stated = HEADER.split_once(text).map(|(_, rest)| rest.split([':', ' ']).next().unwrap());
         assert_eq!(stated, Some(&size.to_string()[..]), "{text}");
@@ -160,6 +165,7 @@ fn codes() {
         ("OUTPUT", Refusal::Output),
         ("KIND", Refusal::Kind),
         ("QUEUE", Refusal::Queue),
+        ("LOAD", Refusal::Load),
     ] {
         let code = code(&format!("REFUSED_{name}"));
         assert_eq!(answers::answered(code), Err(refusal));

@@ -7,7 +7,7 @@ use crate::answers::{
     entry as entry_kind, insert_result, update_result, yes_or_no,
 };
 use crate::ffi;
-use calls::layout::{self, KEY, NODE, RECORD, VALUE};
+use calls::layout::{self, BUCKETS, KEY, NODE, PLACES, RECORD, VALUE};
 pub use calls::text::{EndingCodes, NodeCodes, RecordCodes, Slot, Unplaced, ValueCodes};
 
 pub const STORAGE_BYTES: usize = layout::STORAGE;
@@ -24,6 +24,18 @@ pub const CLOSEST_VALUES_PREDICATE_ENTRY: usize = KEY + 1 + VALUE;
 
 /// What the output of an explanation must have room for.
 pub const EXPLANATION_BYTES: usize = 2048;
+
+/// The most nodes that a table holds: bucket i has 2^i keys, so the first four hold 1, 2, 4 and 8.
+pub const MAX_NODES: usize = 15 + (BUCKETS - 4) * PLACES;
+
+/// The most bytes that [`write`] puts out.
+pub const MAX_WRITTEN_BYTES: usize = written_bytes(MAX_NODES);
+
+/// The bytes that [`write`] puts out for so many nodes.
+#[must_use]
+pub const fn written_bytes(nodes: usize) -> usize {
+    BUCKETS + nodes * NODE
+}
 
 /// What `answer` must have room for. A call with an `answer` writes a key or a record to its front, or nothing.
 pub const ANSWER_BYTES: usize = RECORD;
@@ -383,6 +395,20 @@ pub fn explain_absent_insert(
     answered(returned).map(found)
 }
 
+/// The number of held nodes; `output` begins with the [`written_bytes`] of so many.
+pub fn write(storage: &[u8], output: &mut [u8]) -> Result<usize, Refusal> {
+    let (bytes, length) = (storage.as_ptr(), storage.len());
+    let returned = unsafe { ffi::kbuckets_write(bytes, length, output.as_mut_ptr(), output.len()) };
+    answered(returned).map(found)
+}
+
+/// Loads what [`write`] put out; the number of nodes loaded.
+pub fn read(storage: &mut [u8], bytes: &[u8]) -> Result<usize, Refusal> {
+    let (stored, length) = (storage.as_mut_ptr(), storage.len());
+    let returned = unsafe { ffi::kbuckets_read(stored, length, bytes.as_ptr(), bytes.len()) };
+    answered(returned).map(found)
+}
+
 pub fn b_new(bucket: &mut [u8], pending_timeout: u64, max_incoming: u8, filter: u8) -> Result<(), Refusal> {
     let (bytes, length) = (bucket.as_mut_ptr(), bucket.len());
     let returned = unsafe { ffi::kbuckets_b_new(bytes, length, pending_timeout, max_incoming, filter) };
@@ -453,7 +479,7 @@ pub fn b_remove(bucket: &mut [u8], key: &[u8], now: u64) -> Result<bool, Refusal
     answered(returned).map(yes_or_no)
 }
 
-/// A count is at most [`MAX_COUNT`], a line's length at most [`EXPLANATION_BYTES`].
+/// A count is at most [`MAX_COUNT`], a line's length at most [`EXPLANATION_BYTES`], the nodes written or read at most [`MAX_NODES`].
 fn found(count: u32) -> usize {
     count as usize
 }

@@ -2,7 +2,7 @@
 
 use crate::answers::{BucketInsertResult, Entry, InsertResult, Record, Refusal, UpdateResult};
 use crate::explanation::{Explanation, PeerCall};
-use crate::lent::{self, ANSWER_BYTES, EXPLANATION_BYTES, MAX_COUNT, PredicateCodes, STORAGE_BYTES};
+use crate::lent::{self, ANSWER_BYTES, EXPLANATION_BYTES, MAX_COUNT, MAX_WRITTEN_BYTES, PredicateCodes, STORAGE_BYTES};
 use crate::node::{
     ClosestValue, ConnectionDirection, ConnectionState, Key, NOT_GIVEN, Node, NodeStatus, PredicateValue, Slot, Value,
 };
@@ -227,6 +227,37 @@ impl KBucketsTable {
             }
         }?;
         Ok(Explanation::written(&output[..count]))
+    }
+
+    /// The held nodes as bytes that [`KBucketsTable::read`] takes: 256 sizes of buckets, then all keys in bucket and place order, then as
+    /// many entries of state, direction, address flag, four octets and slot. Pending nodes and records are not kept, nor are the settings.
+    ///
+    /// ```
+    /// use kbuckets::{ConnectionDirection, ConnectionState, KBucketsTable, NodeStatus, Settings, Value};
+    ///
+    /// let settings = Settings { pending_timeout: 60_000, max_incoming: 8, ..Settings::default() };
+    /// let mut old = KBucketsTable::new([0; 32], settings)?;
+    /// let status = NodeStatus { state: ConnectionState::Connected, direction: ConnectionDirection::Incoming };
+    /// let _ = old.insert_or_update(&[1; 32], Value { address: Some([10, 0, 0, 1].into()), slot: 7 }, status, 1000)?;
+    /// let bytes = old.write()?;
+    ///
+    /// let mut new = KBucketsTable::new([0; 32], settings)?;
+    /// assert_eq!(new.read(&bytes)?, 1);
+    /// assert_eq!(new, old);
+    /// assert_eq!(new.write()?, bytes);
+    /// # Ok::<(), kbuckets::Refusal>(())
+    /// ```
+    pub fn write(&self) -> Result<Vec<u8>, Refusal> {
+        let mut output = vec![0; MAX_WRITTEN_BYTES];
+        let count = lent::write(&self.storage, &mut output)?;
+        output.truncate(lent::written_bytes(count));
+        Ok(output)
+    }
+
+    /// Loads the nodes that [`KBucketsTable::write`] put out, each in its place, and answers how many. The table holds nothing before: no
+    /// node, no pending node and no record. Its local key and settings stay; bytes that do not fit them are refused.
+    pub fn read(&mut self, bytes: &[u8]) -> Result<usize, Refusal> {
+        lent::read(&mut self.storage, bytes)
     }
 }
 

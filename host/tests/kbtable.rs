@@ -29,6 +29,12 @@ fn explanations() {
     programs::answers_as_written(KBTABLE, "explain.txt");
 }
 
+/// Tables written and read, and what is refused.
+#[test]
+fn written_and_read() {
+    programs::answers_as_written(KBTABLE, "saved.txt");
+}
+
 /// Each ending of a pending.
 #[test]
 fn endings() {
@@ -55,7 +61,7 @@ fn outcomes() {
 
 #[test]
 fn examples() {
-    for file in ["slash24", "pending"] {
+    for file in ["slash24", "pending", "box_swap"] {
         programs::answers_as_written(KBTABLE, &format!("../../host/examples/{file}.calls"));
     }
 }
@@ -85,7 +91,7 @@ fn a_message_says_what_is_wrong() {
     assert!(String::from_utf8(run.stderr).unwrap().contains("\"--dmup\" is no option; see kbtable --help"));
 }
 
-/// The example of --help is a command that runs and finds the node.
+/// The commands of --help run: a table is carried from one to the other, and the example finds the node.
 #[test]
 fn help() {
     let help = answers(&["--help"], "");
@@ -93,6 +99,7 @@ fn help() {
         "insert_or_update",
         "closest_values_predicate",
         "explain CALL",
+        "read HEX",
         "b_apply_pending",
         "raw_record",
         "--dump",
@@ -100,12 +107,25 @@ fn help() {
     ] {
         assert!(help.contains(name), "{name}");
     }
-    let example = help.lines().find(|line| line.ends_with("| kbtable")).unwrap();
-    let folder = std::path::Path::new(KBTABLE).parent().unwrap();
-    let path = format!("{}:{}", folder.display(), std::env::var("PATH").unwrap());
-    let run = std::process::Command::new("sh").args(["-c", example]).env("PATH", path).output().unwrap();
-    let answers = String::from_utf8(run.stdout).unwrap();
-    assert_eq!(answers, format!("New\nInserted\nList 1 {:0>64}\n", 4));
+    let bin = std::path::Path::new(KBTABLE).parent().unwrap();
+    let path = format!("{}:{}", bin.display(), std::env::var("PATH").unwrap());
+    let folder = std::env::temp_dir().join(format!("kbtable-help-{}", std::process::id()));
+    std::fs::create_dir_all(&folder).unwrap();
+    std::fs::write(folder.join("old.calls"), "new :0 60000 16 1 1\ninsert_or_update 0 :4 1:10.0.0.1:7 1 0\nwrite\n")
+        .unwrap();
+    let commands =
+        help.lines().filter(|line| line.contains("kbtable <") || line.ends_with("| kbtable")).map(|command| {
+            let run = std::process::Command::new("sh")
+                .args(["-c", command])
+                .env("PATH", &path)
+                .current_dir(&folder)
+                .output()
+                .unwrap();
+            String::from_utf8(run.stdout).unwrap()
+        });
+    let answers: Vec<String> = commands.collect();
+    std::fs::remove_dir_all(&folder).unwrap();
+    assert_eq!(answers, ["".to_string(), "New\nRead\n".to_string(), format!("New\nInserted\nList 1 {:0>64}\n", 4)]);
 }
 
 /// The tool's version and the linked library's.
@@ -120,13 +140,13 @@ fn version() {
 fn dumps() {
     let answers = answers(
         &["--dump"],
-        "raw_node b :1 0:0.0.0.0:1 0 0\nraw_fcp b -\ndump\nb_remove 0 :1\nbdump\nentry 0 :0\n! b_new 1 1 1\n! new :1 1 1 1 1\nexplain remove 0 :0\nexplain remove 0 :0 out=9\n",
+        "raw_node b :1 0:0.0.0.0:1 0 0\nraw_fcp b -\ndump\nb_remove 0 :1\nbdump\nentry 0 :0\n! b_new 1 1 1\n! new :1 1 1 1 1\nexplain remove 0 :0\nexplain remove 0 :0 out=9\nwrite out=9\nread -\n",
     );
     let dump = format!("dump local={:0>64} timeout=0 max=0 tf=0 bf=0 queue=[]", 0);
     let bdump = "bdump timeout=0 max=0 bf=0 {fcp=- nodes=[] pending=-}";
     let expected =
         ["Raw", "Raw", &dump, "true", bdump, bdump, "SelfEntry", &dump, "Refused 1", bdump, "Refused 1", &dump];
-    let explained = ["false local key", &dump, "Refused 6", &dump];
+    let explained = ["false local key", &dump, "Refused 6", &dump, "Refused 6", &dump, "Refused 9", &dump];
     assert_eq!(answers.lines().collect::<Vec<_>>(), [&expected[..], &explained[..]].concat());
 }
 

@@ -342,6 +342,74 @@ fn refusals() -> Result<(), Refusal> {
     Ok(())
 }
 
+/// A box swap: a table of calls, with a pending node and a record, is written and read by one with the same local key and settings.
+#[test]
+fn box_swap() -> Result<(), Refusal> {
+    let settings = Settings { pending_timeout: 50, max_incoming: 1, bucket_filter: true, table_filter: false };
+    let old = {
+        let mut table = waiting()?;
+        let _ = table.update_node_status(&key(128, 0), ConnectionState::Connected, None, 0)?;
+        let _ = table.update_node_status(&key(128, 1), ConnectionState::Disconnected, None, 0)?;
+        let _ = table.insert_or_update(&key(128, 17), value(17), CONNECTED, 0)?;
+        let _ = table.insert_or_update(&key(0, 9), value(9), DISCONNECTED, 0)?;
+        table
+    };
+    let bytes = old.write()?;
+    assert_eq!(bytes.len(), lent::written_bytes(17));
+    assert_eq!((bytes[3], bytes[255], bytes[..256].iter().map(|size| u32::from(*size)).sum()), (1, 16, 17));
+    assert_eq!(bytes[256..288], key(0, 9));
+    let mut new = KBucketsTable::new([0; 32], settings)?;
+    assert_eq!(new.read(&bytes)?, 17);
+    assert_eq!(new.write()?, bytes);
+    // At time 0 no pending node is due, so the lists are of the held nodes.
+    assert_eq!(new.iter(4096, 0)?, old.clone().iter(4096, 0)?);
+    assert_eq!(new.take_applied_pending()?, None);
+    assert_eq!(new.entry(&key(128, 17), 0)?, Entry::Absent);
+    assert_eq!(old.clone().entry(&key(128, 17), 0)?, Entry::Pending(CONNECTED));
+    // What is not empty, and what does not fit, is refused, and the table stays.
+    let before = new.clone();
+    assert_eq!(new.read(&bytes), Err(Refusal::Load));
+    assert_eq!(new, before);
+    let no_incoming = Settings { max_incoming: 0, ..settings };
+    for (local, settings) in [([1; 32], settings), (key(128, 1), settings), ([0; 32], no_incoming)] {
+        let mut other = KBucketsTable::new(local, settings)?;
+        let before = other.clone();
+        assert_eq!(other.read(&bytes), Err(Refusal::Load));
+        assert_eq!(other, before);
+    }
+    let mut empty = KBucketsTable::new([0; 32], settings)?;
+    for at in 0..=bytes.len() {
+        assert_eq!(empty.read(&bytes[..at]).is_ok(), at == bytes.len(), "{at}");
+    }
+    Ok(())
+}
+
+/// The longest output, of a full table; and every byte of the output past what is written stays.
+#[test]
+fn a_full_table_is_written() -> Result<(), Refusal> {
+    let mut table = KBucketsTable::new([0; 32], Settings::default())?;
+    let none = Value { address: None, slot: 1 };
+    for i in 0..256_usize {
+        for last in 0..if i < 4 { 1 << i } else { 16 } {
+            let mut key = [0; 32];
+            key[31] = last;
+            key[31 - i / 8] |= 1 << (i % 8);
+            assert_eq!(table.insert_or_update(&key, none, CONNECTED, 0)?, InsertResult::Inserted);
+        }
+    }
+    let bytes = table.write()?;
+    assert_eq!(bytes.len(), lent::MAX_WRITTEN_BYTES);
+    let mut other = KBucketsTable::new([0; 32], Settings::default())?;
+    assert_eq!(other.read(&bytes)?, lent::MAX_NODES);
+    assert_eq!(other, table);
+    let mut output = vec![0xaa; bytes.len() + 9];
+    assert_eq!(lent::write(table.storage(), &mut output[..bytes.len() - 1]), Err(Refusal::Output));
+    assert!(output.iter().all(|byte| *byte == 0xaa));
+    assert_eq!(lent::write(table.storage(), &mut output)?, lent::MAX_NODES);
+    assert!(output.starts_with(&bytes) && output[bytes.len()..] == [0xaa; 9]);
+    Ok(())
+}
+
 /// Bytes past the entries that are found stay; where the call is refused, all do.
 #[test]
 fn lent_output() -> Result<(), Refusal> {

@@ -21,10 +21,13 @@ ASSERT_SIZE(KBUCKETS_CLOSEST_VALUES_PREDICATE_ENTRY_BYTES, 46);
 ASSERT_SIZE(KBUCKETS_EXPLANATION_BYTES, 2048);
 ASSERT_SIZE(KBUCKETS_SLOT_BYTES, sizeof(kbuckets_slot));
 ASSERT_SIZE(KBUCKETS_RECORDS_OFFSET, 48);
+ASSERT_SIZE(KBUCKETS_WRITTEN_ENTRY_BYTES, 15);
+ASSERT_SIZE(KBUCKETS_MAX_NODES, 4047);
+ASSERT_SIZE(KBUCKETS_MAX_WRITTEN_BYTES, 190465);
 
 /* A host may test the header's version while it compiles. */
-#if KBUCKETS_VERSION < 0x000400 || KBUCKETS_VERSION >= 0x010000
-#error "this program is written for versions from 0.4.0 to below 1.0.0"
+#if KBUCKETS_VERSION < 0x000500 || KBUCKETS_VERSION >= 0x010000
+#error "this program is written for versions from 0.5.0 to below 1.0.0"
 #endif
 
 static unsigned checks, failures;
@@ -453,6 +456,118 @@ static void explanations(void) {
     SAYS(0, "");
 }
 
+/* A box swap: what is written of one table is read into another, and what does not fit is refused. */
+static void box_swap(void) {
+    static uint8_t bytes[KBUCKETS_MAX_WRITTEN_BYTES], again[KBUCKETS_MAX_WRITTEN_BYTES];
+    uint8_t zero[KBUCKETS_KEY_BYTES] = {0};
+    const size_t head = KBUCKETS_NUM_BUCKETS;
+    new_table();
+    memset(bytes, UNTOUCHED, sizeof bytes);
+    CHECK(kbuckets_write(table, sizeof table, bytes, head - 1), KBUCKETS_REFUSED_OUTPUT);
+    CHECK(bytes[0], UNTOUCHED);
+    CHECK(kbuckets_write(table, sizeof table, bytes, head), 0);
+    for (size_t i = 0; i < head; i++) CHECK(bytes[i], 0);
+    CHECK(bytes[head], UNTOUCHED);
+    CHECK(kbuckets_read(table, sizeof table, bytes, head), 0);
+
+    /* Sixteen nodes in bucket 8, one of them disconnected; one waits. Two more in bucket 2, and a record. */
+    CHECK(put(256, 0, 1, 100), KBUCKETS_INSERT_INSERTED);
+    for (unsigned i = 1; i < 16; i++) CHECK(put(256 + i, 1, 0, 100), KBUCKETS_INSERT_INSERTED);
+    CHECK(put(300, 1, 0, 100), KBUCKETS_INSERT_PENDING);
+    CHECK(kbuckets_present_update(table, sizeof table, of(256), 32, 1, KBUCKETS_NOT_GIVEN), KBUCKETS_UPDATE_UPDATED_AND_PROMOTED);
+    CHECK(kbuckets_present_update(table, sizeof table, of(257), 32, 0, KBUCKETS_NOT_GIVEN), KBUCKETS_UPDATE_UPDATED);
+    CHECK(put(300, 1, 0, 100), KBUCKETS_INSERT_PENDING);
+    CHECK(put(5, 1, 1, 100), KBUCKETS_INSERT_INSERTED);
+    CHECK(kbuckets_absent_insert(table, sizeof table, of(4), 32, 1, 10, 1, 2, 3, (kbuckets_slot)0x0102030405060708u, 0, 0, 100, answer, ANSWER), KBUCKETS_BUCKET_INSERT_INSERTED);
+    memcpy(before, table, sizeof table);
+    const size_t all = head + 18 * KBUCKETS_NODE_BYTES, entries = head + 18 * KBUCKETS_KEY_BYTES;
+    memset(bytes, UNTOUCHED, sizeof bytes);
+    CHECK(kbuckets_write(table, sizeof table, bytes, all - 1), KBUCKETS_REFUSED_OUTPUT);
+    CHECK(kbuckets_write(table, sizeof table - 1, bytes, all), KBUCKETS_REFUSED_SIZE);
+    for (size_t i = 0; i < all; i++) CHECK(bytes[i], UNTOUCHED);
+    CHECK(kbuckets_write(table, sizeof table, bytes, sizeof bytes), 18);
+    CHECK(memcmp(before, table, sizeof table), 0);
+    CHECK(bytes[all], UNTOUCHED);
+    for (unsigned i = 0; i < head; i++) CHECK(bytes[i], i == 2 ? 2 : i == 8 ? 16 : 0);
+    CHECK(last(bytes + head), 4);
+    CHECK(last(bytes + head + KBUCKETS_KEY_BYTES), 5);
+    CHECK(last(bytes + head + 2 * KBUCKETS_KEY_BYTES), 257);
+    CHECK(last(bytes + entries - KBUCKETS_KEY_BYTES), 256);
+    const uint8_t entry[KBUCKETS_WRITTEN_ENTRY_BYTES] = {0, 0, 1, 10, 1, 2, 3, 1, 2, 3, 4, 5, 6, 7, 8};
+    CHECK(memcmp(bytes + entries, entry, sizeof entry), 0);
+    CHECK(bytes[entries + KBUCKETS_WRITTEN_ENTRY_BYTES], KBUCKETS_CONNECTED);
+    CHECK(bytes[entries + KBUCKETS_WRITTEN_ENTRY_BYTES + 1], KBUCKETS_INCOMING);
+
+    /* The storage holds nodes; a pending; a record. */
+    CHECK(kbuckets_read(table, sizeof table, bytes, all), KBUCKETS_REFUSED_LOAD);
+    CHECK(memcmp(before, table, sizeof table), 0);
+    for (unsigned i = 256; i < 272; i++) CHECK(kbuckets_remove(table, sizeof table, of(i), 32, 100), KBUCKETS_REMOVE_REMOVED);
+    CHECK(kbuckets_remove(table, sizeof table, of(4), 32, 100), KBUCKETS_REMOVE_REMOVED);
+    CHECK(kbuckets_remove(table, sizeof table, of(5), 32, 100), KBUCKETS_REMOVE_REMOVED);
+    CHECK(kbuckets_read(table, sizeof table, bytes, all), KBUCKETS_REFUSED_LOAD);
+    CHECK(kbuckets_remove(table, sizeof table, of(300), 32, 60100), KBUCKETS_REMOVE_REMOVED);
+    CHECK(kbuckets_read(table, sizeof table, bytes, all), KBUCKETS_REFUSED_LOAD);
+    CHECK(kbuckets_take_applied_pending(table, sizeof table, answer, sizeof answer), KBUCKETS_APPLIED_RECORD);
+    CHECK(kbuckets_read(table, sizeof table, bytes, all), KBUCKETS_REFUSED_LOAD);
+    CHECK(kbuckets_take_applied_pending(table, sizeof table, answer, sizeof answer), KBUCKETS_APPLIED_RECORD);
+    CHECK(kbuckets_read(table, sizeof table, bytes, all), 18);
+
+    /* New storage: the same places, no pending and no record; written again byte for byte. */
+    new_table();
+    CHECK(kbuckets_read(table, sizeof table - 1, bytes, all), KBUCKETS_REFUSED_SIZE);
+    CHECK(kbuckets_read(table, sizeof table, bytes, all - 1), KBUCKETS_REFUSED_LOAD);
+    CHECK(kbuckets_read(table, sizeof table, bytes, all + 1), KBUCKETS_REFUSED_LOAD);
+    CHECK(kbuckets_read(table, sizeof table, bytes, 0), KBUCKETS_REFUSED_LOAD);
+    CHECK(kbuckets_read(table, sizeof table, bytes, all), 18);
+    const size_t held = 2 + KBUCKETS_MAX_NODES_PER_BUCKET * KBUCKETS_NODE_BYTES;
+    for (size_t i = 0; i < KBUCKETS_NUM_BUCKETS; i++) {
+        const size_t at = KBUCKETS_HEADER_BYTES + i * KBUCKETS_STORED_BUCKET_BYTES;
+        CHECK(memcmp(before + at, table + at, held), 0);
+        for (size_t j = held; j < KBUCKETS_STORED_BUCKET_BYTES; j++) CHECK(table[at + j], 0);
+    }
+    for (size_t i = KBUCKETS_PADDING_OFFSET - 1; i < KBUCKETS_HEADER_BYTES; i++) CHECK(table[i], 0);
+    CHECK(kbuckets_write(table, sizeof table, again, sizeof again), 18);
+    CHECK(memcmp(bytes, again, all), 0);
+
+    /* What does not fit: a code, a size, a key of another bucket, the order, another local key, the limit of incoming nodes. */
+    const struct { size_t at; uint8_t value; } faults[] = {
+        {entries, 2}, {entries + 1, 2}, {entries + 2, 0}, {entries + 2, 2}, {0, 1}, {2, 1}, {8, 17}, {head + 31, 8}, {head + 31, 5}, {entries, 1}};
+    for (size_t i = 0; i < sizeof faults / sizeof faults[0]; i++) {
+        const uint8_t old = bytes[faults[i].at];
+        bytes[faults[i].at] = faults[i].value;
+        new_table();
+        memcpy(before, table, sizeof table);
+        const uint32_t taken = i + 1 == sizeof faults / sizeof faults[0] ? 18 : KBUCKETS_REFUSED_LOAD; /* the last one fits */
+        CHECK(kbuckets_read(table, sizeof table, bytes, all), taken);
+        if (taken == KBUCKETS_REFUSED_LOAD) CHECK(memcmp(before, table, sizeof table), 0);
+        bytes[faults[i].at] = old;
+    }
+    CHECK(kbuckets_new(table, sizeof table, of(6), 32, TIMEOUT, 16, 0, 0), 0);
+    CHECK(kbuckets_read(table, sizeof table, bytes, all), KBUCKETS_REFUSED_LOAD);
+    CHECK(kbuckets_new(table, sizeof table, zero, sizeof zero, TIMEOUT, 0, 0, 0), 0);
+    CHECK(kbuckets_read(table, sizeof table, bytes, all), KBUCKETS_REFUSED_LOAD);
+    table[KBUCKETS_STORAGE_BYTES - 1] = 1;
+    CHECK(kbuckets_read(table, sizeof table, bytes, all), KBUCKETS_REFUSED_FORM);
+    CHECK(kbuckets_write(table, sizeof table, again, 0), KBUCKETS_REFUSED_FORM);
+
+    /* Values of one /24 in a bucket: three different ones are refused where the bucket filter is on. */
+    for (uint8_t third = 1; third <= 3; third++)
+        for (uint8_t filter = 0; filter <= 1; filter++) {
+            memset(bytes, 0, head + 4 * KBUCKETS_NODE_BYTES);
+            bytes[8] = 4;
+            for (unsigned i = 0; i < 4; i++) {
+                uint8_t *k = bytes + head + i * KBUCKETS_KEY_BYTES, *e = bytes + head + 4 * KBUCKETS_KEY_BYTES + i * KBUCKETS_WRITTEN_ENTRY_BYTES;
+                k[30] = 1;
+                k[31] = (uint8_t)i;
+                e[2] = 1;
+                e[3] = 192;
+                e[6] = i == 3 ? third : (uint8_t)(1 + i % 2);
+            }
+            CHECK(kbuckets_new(table, sizeof table, zero, sizeof zero, TIMEOUT, 16, 1, filter), 0);
+            CHECK(kbuckets_read(table, sizeof table, bytes, head + 4 * KBUCKETS_NODE_BYTES), filter && third == 3 ? KBUCKETS_REFUSED_LOAD : 4);
+        }
+}
+
 /* Header and library belong together: what a host asks at its start. */
 static inline int same_version(void) { return kbuckets_version() == KBUCKETS_VERSION; }
 
@@ -469,6 +584,7 @@ int main(void) {
     buckets();
     endings();
     explanations();
+    box_swap();
     printf("kbuckets.c: %u of %u checks passed\n", checks - failures, checks);
     return failures != 0;
 }

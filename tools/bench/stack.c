@@ -13,6 +13,8 @@ enum { STACK = 1 << 16, CALLS = 2000, TIMEOUT = 60000, TABLES = 3, BUCKETS = 2 }
 static uint8_t tables[TABLES][KBUCKETS_STORAGE_BYTES], buckets[BUCKETS][KBUCKETS_BUCKET_BYTES];
 static uint8_t storage[KBUCKETS_STORAGE_BYTES], bucket[KBUCKETS_BUCKET_BYTES];
 static uint8_t answer[KBUCKETS_ANSWER_BYTES], output[KBUCKETS_MAX_COUNT * KBUCKETS_NODE_BYTES];
+static uint8_t saved[KBUCKETS_MAX_WRITTEN_BYTES]; // the full table as written, for the reader
+static size_t saved_bytes;
 static uint8_t keys[8192][KBUCKETS_KEY_BYTES];
 static unsigned key_count;
 
@@ -96,6 +98,8 @@ static volatile uint32_t answered;
     call(explain_present_update, (STORAGE, KEY, with.state, with.given_direction, OUTPUT)) \
     call(explain_pending_update, (STORAGE, KEY, STATUS, OUTPUT)) \
     call(explain_absent_insert, (STORAGE, KEY, VALUE, STATUS, with.now, OUTPUT)) \
+    call(write, (STORAGE, OUTPUT)) \
+    call(read, (STORAGE, saved, with.n < 2 ? with.n : saved_bytes)) \
     call(b_new, (BUCKET, TIMEOUT, 16, 1)) \
     call(b_insert, (BUCKET, KEY, VALUE, STATUS, with.now, ANSWER)) \
     call(b_apply_pending, (BUCKET, with.now, ANSWER)) \
@@ -171,6 +175,9 @@ static void make_tables(void) {
         random_key(i), key_count++;
     }
     memcpy(tables[1], storage, sizeof storage);
+    uint32_t written = kbuckets_write(STORAGE, saved, sizeof saved);
+    ok(written);
+    saved_bytes = KBUCKETS_NUM_BUCKETS + written * (size_t)KBUCKETS_NODE_BYTES;
     // 64 pendings are applied, and 64 nodes wait anew in their buckets
     uint64_t distances[KBUCKETS_MAX_RECORDS];
     for (unsigned i = 0; i < KBUCKETS_MAX_RECORDS; i++) distances[i] = 100 + i;

@@ -1,6 +1,5 @@
 //! Compares two implementations of the routing table on random lists of calls, or writes such a list with its answers.
 
-use compare::explained::asked;
 use compare::generate::Generator;
 use compare::outcome::{Counts, Endings, outcome};
 use compare::run::{self, Answered, Disagreement, Program};
@@ -116,7 +115,7 @@ fn compare(options: &Options, programs: &[Program; 2]) -> Result<bool, String> {
     }
     let mut generator = Generator::explaining(options.seed);
     let (mut counts, mut explained, mut asked) = (Counts::outcomes(), Counts::explained(), Counts::asked());
-    let mut slots = Counts::slots();
+    let (mut saved, mut slots) = (Counts::saved(), Counts::slots());
     let mut endings = Endings::new();
     let (mut calls, mut explanations) = (0, 0);
     let mut shown = start;
@@ -131,6 +130,7 @@ fn compare(options: &Options, programs: &[Program; 2]) -> Result<bool, String> {
             explanations += u64::from(answered.explained);
             counts.add_outcome(call, answer);
             explained.add_outcome(call, answer);
+            saved.add_outcome(call, answer);
             asked.add_asked(call, answer);
             slots.add_slots(call, answer, answered.before);
             endings.add(call, answer, answered.after);
@@ -150,6 +150,8 @@ fn compare(options: &Options, programs: &[Program; 2]) -> Result<bool, String> {
     print_counts(&counts);
     println!("Explained, by answer and reason with the number of its keys:");
     print_counts(&explained);
+    println!("Tables written and read:");
+    print_counts(&saved);
     println!("Asked of the listings, and of explanations:");
     print_counts(&asked);
     println!("Slots at equal addresses, by how they differ (byte 0 is the last):");
@@ -163,6 +165,7 @@ fn compare(options: &Options, programs: &[Program; 2]) -> Result<bool, String> {
     let missing = |counts: &Counts, from| if wanted < from { 0 } else { counts.rare(1).len() };
     let missing = missing(&counts, ALL_OUTCOMES)
         + missing(&explained, ALL_OUTCOMES)
+        + missing(&saved, ALL_OUTCOMES)
         + missing(&slots, ALL_OUTCOMES)
         + missing(&endings.by_call, ALL_OUTCOMES)
         + missing(&asked, ALL_ASKED);
@@ -267,9 +270,10 @@ fn fewest(program: &Program, list: &[String], answers: &[String], wanted: &(&'st
     whole(&between)
 }
 
-/// No raw line and no explanation.
+/// A line that the Rust has a counterpart of: no raw line, no explanation, no table written or read.
 fn is_call(line: &str) -> bool {
-    !line.starts_with("raw_") && asked(line).is_none()
+    let name = line.strip_prefix("! ").unwrap_or(line).split(' ').next().unwrap_or_default();
+    !name.starts_with("raw_") && !["explain", "write", "read"].contains(&name)
 }
 
 fn count_calls(list: &[String]) -> u64 {

@@ -38,7 +38,7 @@ pub fn answers_as_written(program: &str, file: &str) {
 }
 
 /// Lines that are no call, and raw lines that do not fit.
-const BAD_LINES: [&str; 48] = [
+const BAD_LINES: [&str; 60] = [
     "no_such_call",
     "entry 0",
     "entry 0 :1 2",
@@ -76,6 +76,18 @@ const BAD_LINES: [&str; 48] = [
     "explain remove 0 :1 out=-1",
     "explain remove 0 :1 out=2048 ",
     "explain  remove 0 :1",
+    "explain write",
+    "explain read -",
+    "write 1",
+    "write out=",
+    "write out=1 out=1",
+    "read",
+    "read 0",
+    "read 0A",
+    "read 0g",
+    "read :0",
+    "read 00 00",
+    "read - out=1",
     "raw_node 256 :1 0:0.0.0.0:0 0 0",
     "raw_node 0 01 0:0.0.0.0:0 0 0",
     "raw_fcp 0 256",

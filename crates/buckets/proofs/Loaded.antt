@@ -176,7 +176,7 @@ module _ (bs : List ℕ) (l : length bs ≡ bucketSize) (h : Bytes bs) (m : ℕ)
   loaded t f a b =
       becomes (settings t m f) (bucketIn bs) _
       (same-parts (ap padded (sym places-of)) (sym (count-in bs)) (sym (first-in bs (passed .first))) (sym (ap storedPending (pending-of bs) ∙ stored-pending bs (λ k. true) (passed .pending))) refl refl (sym (flag-back f (le-leb f 1 b))))
-      (bucket-good bs l h (λ k. true) m c .formed) a
+      (bucket-good bs (λ k. true) m c .formed) a
 
 -- the same, of the part at a place
 module _ (s : List ℕ) (at m : ℕ) (c : soundBytes m (part s at bucketSize) ≡ true) where

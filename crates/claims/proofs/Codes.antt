@@ -63,7 +63,20 @@ applied-below : (o : Option EndedPending) → Below (appliedCode o)
 applied-below none = omega arith
 applied-below (some r) = omega arith
 
-pub answer-below : (a : Answer) → isRefused a ≡ false → ((n : ℕ) → a ≡ Answer.Found n → n ≤ maxCount) → Below (answerCode a)
+-- a number of nodes that an answer gives is at most 4,096
+abbrev pub Few : Answer → Type 0
+Few (Answer.Refused q) = Unit {0}
+Few Answer.New = Unit {0}
+Few (Answer.Update r) = Unit {0}
+Few (Answer.InsertOrUpdate r) = Unit {0}
+Few (Answer.Insert r) = Unit {0}
+Few (Answer.Remove b) = Unit {0}
+Few (Answer.Entry k) = Unit {0}
+Few (Answer.Found n) = n ≤ maxCount
+Few (Answer.TakeAppliedPending r) = Unit {0}
+Few (Answer.Read n) = n ≤ maxCount
+
+pub answer-below : (a : Answer) → isRefused a ≡ false → Few a → Below (answerCode a)
 answer-below (Answer.Refused q) h f = clash refl h
 answer-below Answer.New h f = omega arith
 answer-below (Answer.Update r) h f = update-below r
@@ -71,5 +84,6 @@ answer-below (Answer.InsertOrUpdate r) h f = insert-below r
 answer-below (Answer.Insert r) h f = bucket-insert-below r
 answer-below (Answer.Remove b) h f = omega (arith, flag-below b)
 answer-below (Answer.Entry k) h f = entry-below k
-answer-below (Answer.Found n) h f = found-apart n (f n refl)
+answer-below (Answer.Found n) h f = found-apart n f
 answer-below (Answer.TakeAppliedPending r) h f = applied-below r
+answer-below (Answer.Read n) h f = found-apart n f

@@ -57,6 +57,14 @@ use Rattle.listing.proofs.closest_values_predicate.Met as ClosestValuesPredicat
 use Rattle.table.proofs.take_applied_pending.Kinds as TakeAppliedPendingKinds
 use Rattle.table.proofs.take_applied_pending.Symbol as TakeAppliedPendingSymbol
 use Rattle.table.proofs.take_applied_pending.Met as TakeAppliedPendingMet
+use Rattle.loaded.proofs.read.Kinds as ReadKinds
+use Rattle.loaded.proofs.read.Reads as Read
+use Rattle.loaded.proofs.read.Symbol as ReadSymbol
+use Rattle.loaded.proofs.read.Met as ReadMet
+use Rattle.saved.proofs.write.Kinds as WriteKinds
+use Rattle.saved.proofs.write.Reads as Write
+use Rattle.saved.proofs.write.Symbol as WriteSymbol
+use Rattle.saved.proofs.write.Met as WriteMet
 use mathlib.Core.Path.{_≡_}
 use mathlib.Core.Bool.{true}
 use denote.Ref.{now}
@@ -92,4 +100,6 @@ entry-points =
           paired 1 TakeAppliedPendingKinds.ps TakeAppliedPendingKinds.r
           (λ κs a b e. Answers (takeAnswer b) (now (e .0)) (stepBytes Call.takeAppliedPending (now (a .0)))) (λ κs a b e. takeCodes b ≡ true)
           TakeAppliedPendingSymbol.routine (λ M. TakeAppliedPendingMet.met);
+      read = plain 2 ReadKinds.ps ReadKinds.r Read.Post ReadSymbol.routine (λ M. ReadMet.met);
+      write = plain 2 WriteKinds.ps WriteKinds.r Write.Post WriteSymbol.routine (λ M. WriteMet.met);
     }

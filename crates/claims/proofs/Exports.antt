@@ -12,6 +12,7 @@ use Rattle.model.specs.Bytes.{Bytes}
 use Rattle.model.specs.Table.{Answer}
 use Rattle.model.specs.Call.{Listing, Call}
 use Rattle.model.specs.Listing.{found}
+use Rattle.model.specs.Saved.{savedCount}
 use Rattle.model.specs.Question.{firstFailed, maxCount, withRoom}
 use Rattle.model.specs.Layout.{tableOf}
 use Rattle.model.specs.Step.{act}
@@ -21,6 +22,7 @@ use Rattle.log.specs.Log.{isRefused}
 use Rattle.log.specs.Closest.{target, ClosestClaim}
 use Rattle.laws.proofs.Tests.{clash}
 use Rattle.laws.proofs.Questions.{without-room}
+use Rattle.laws.proofs.SavedSteps.{read-few}
 use Rattle.theorem.proofs.Theorem.{theorem-closest}
 use Rattle.items.specs.declared.ListAnswer.the-variants as list-answer
 use Rattle.codes.specs.Codes.{refusedCode, answerCode, answerSize}
@@ -34,7 +36,7 @@ use Rattle.log.specs.Pending.{lists}
 use Rattle.claims.proofs.Ran.{no-output}
 use Rattle.claims.proofs.Listed.{step-listed}
 use Rattle.claims.proofs.Refusals.{accepted-answer}
-use Rattle.claims.proofs.Codes.{Below, answer-below}
+use Rattle.claims.proofs.Codes.{Below, Few, answer-below}
 
 quiet : (c : Call) (s : List ℕ) {code : ℕ} {s′ : List ℕ} → lists c ≡ false → Leaves code s′ (exported c s) → Writes code s′ [] (exported c s)
 unfolding exported
@@ -57,6 +59,7 @@ sees (Called.closestKeys _ _ _ _ _ _ _ _ _ _ _ _ p) = p
 sees (Called.closestValues _ _ _ _ _ _ _ _ _ _ _ _ p) = p
 sees (Called.closestValuesPredicate _ _ _ _ _ _ _ _ _ _ _ _ _ _ _ _ _ _ _ _ _ _ p) = p
 sees (Called.takeAppliedPending _ _ _ _ _ _ p) = p
+sees (Called.read _ _ _ _ _ _ p) = quiet _ _ refl p
 
 -- demand 1: the first question that fails, with room for the answer asked in 6's turn
 pub export-demand-1 : {c : Call} {answer s : List ℕ} {code : ℕ} {s′ out′ : List ℕ} → Called c answer s code s′ out′ → (q : ℕ)
@@ -100,6 +103,19 @@ list-read l n time out s bs = go (firstFailed (allQuestions c s)) refl
         let m : k ≤ maxCount = leb-true k maxCount (few l n time out s (list-answer.Found k) (ap (λ (o : Option ℕ). StepBytes.unlessRefusedBytes o c s .answer) (sym e))) in
         ap (λ (b : Bool). cond b (Answer.Refused (k - refusedCode 0)) (Answer.Found k)) (lt-leb (refusedCode 0) k (omega arith))
 
+-- the reader's code is read as its answer, on any storage
+pub load-read : (r s bs : List ℕ) → answerOf (Call.read r) (answerCode (stepBytes (Call.read r) s .answer)) bs ≡ stepBytes (Call.read r) s .answer
+unfolding stepBytes act
+load-read r s bs = go (firstFailed (allQuestions (Call.read r) s)) refl
+  where
+    go : (o : Option ℕ) → firstFailed (allQuestions (Call.read r) s) ≡ o
+        → answerOf (Call.read r) (answerCode (StepBytes.unlessRefusedBytes o (Call.read r) s .answer)) bs ≡ StepBytes.unlessRefusedBytes o (Call.read r) s .answer
+    go (some q) e = refusal-read (Call.read r) q bs
+    go none e =
+        let k = savedCount r in
+        let m : k ≤ maxCount = read-few r s k (ap (λ (o : Option ℕ). StepBytes.unlessRefusedBytes o (Call.read r) s .answer) e) in
+        ap (λ (b : Bool). cond b (Answer.Refused (k - refusedCode 0)) (Answer.Read k)) (lt-leb (refusedCode 0) k (omega arith))
+
 -- the closest list, with the answer as the host reads it; x is the target of the call
 pub export-closest-list : {l : Listing} {n time : ℕ} {out answer s : List ℕ} {code : ℕ} {s′ out′ : List ℕ} → Called (Call.list l n time out) answer s code s′ out′ → (x : List ℕ)
     → target l ≡ some x → Bytes s → isRefused (answerOf (Call.list l n time out) code out′) ≡ false
@@ -118,6 +134,27 @@ few-found (Call.new k timeout m tf bf) s n h e = clash h refl
 few-found (Call.onKey k c) s n h e = clash h refl
 few-found (Call.list l m time out) s n h e = leb-true n maxCount (few l m time out s (list-answer.Found n) e)
 few-found Call.takeAppliedPending s n h e = clash h refl
+few-found (Call.read r) s n h e = clash h refl
+
+-- a call that loads nodes is the reader, and loads at most 4,096
+few-loaded : (c : Call) (s : List ℕ) (n : ℕ) → canAnswer c (Answer.Read n) ≡ true → Answer.Read n ≡ stepBytes c s .answer → n ≤ maxCount
+few-loaded (Call.new k timeout m tf bf) s n h e = clash h refl
+few-loaded (Call.onKey k c) s n h e = clash h refl
+few-loaded (Call.list l m time out) s n h e = clash h refl
+few-loaded Call.takeAppliedPending s n h e = clash h refl
+few-loaded (Call.read r) s n h e = read-few r s n (sym e)
+
+few-answered : (c : Call) (s : List ℕ) (a : Answer) → canAnswer c a ≡ true → a ≡ stepBytes c s .answer → Few a
+few-answered c s (Answer.Refused q) h e = tt
+few-answered c s Answer.New h e = tt
+few-answered c s (Answer.Update r) h e = tt
+few-answered c s (Answer.InsertOrUpdate r) h e = tt
+few-answered c s (Answer.Insert r) h e = tt
+few-answered c s (Answer.Remove b) h e = tt
+few-answered c s (Answer.Entry k) h e = tt
+few-answered c s (Answer.Found n) h e = few-found c s n h e
+few-answered c s (Answer.TakeAppliedPending r) h e = tt
+few-answered c s (Answer.Read n) h e = few-loaded c s n h e
 
 -- where no question fails, the code is no refusal's
 pub export-not-refused : {c : Call} {answer s : List ℕ} {code : ℕ} {s′ out′ : List ℕ} → Called c answer s code s′ out′
@@ -126,8 +163,7 @@ unfolding exportedWith exported
 export-not-refused {c} {answer} {s} {code} {s′} {out′} run e =
     let r = by (carries c) (sees run) e in
     subst⁻¹ Below (r .0)
-    (answer-below (stepBytes c s .answer) (r .1)
-    (λ n f. few-found c s n (ap (canAnswer c) (sym f) ∙ step-listed c s) (sym f)))
+    (answer-below (stepBytes c s .answer) (r .1) (few-answered c s (stepBytes c s .answer) (step-listed c s) refl))
   where
     by : (b : Bool) → Writes code s′ out′ (cond b (exportedWith c answer s) (exported c s))
         → firstFailed (cond b (withRoom (leb answerSize (length answer)) (allQuestions c s)) (allQuestions c s)) ≡ none

@@ -28,7 +28,6 @@ use Rattle.laws.proofs.TableBytes.{table-there, formed-there}
 use Rattle.laws.proofs.TableStep.{step-bytes, new-bytes}
 use Rattle.log.specs.Log.{Entry, Log, logOf, logBucket, noSettings}
 use Rattle.log.specs.Claim.{Claim, StorageClaim, tableAfter, entries}
-use Rattle.log.specs.Pending.{lists}
 use Rattle.theorem.proofs.Fold.{fresh}
 use Rattle.theorem.proofs.Literal.{fold-literal}
 use Rattle.theorem.proofs.Theorem.{theorem}
@@ -41,7 +40,7 @@ use Rattle.claims.specs.Runs.{fed}
 use Rattle.claims.specs.Exports.{Called, carries, answerOf, HostRuns}
 use Rattle.claims.proofs.Demand.{fed-step}
 use Rattle.claims.proofs.Heard.{heard-on, heard, log-heard}
-use Rattle.claims.proofs.Exports.{sees, refusal-read, list-read}
+use Rattle.claims.proofs.Exports.{sees, refusal-read, list-read, load-read}
 use Rattle.claims.proofs.Reading.{Front, key-call-read, take-read, answer-short}
 
 -- the call was carried out: the code, the storage and the answer's bytes are those of the model's outcome
@@ -81,15 +80,24 @@ told {c} {answer} {s} {code} {s′} {out′} run = by (carries c) refl (sees run
 
 -- what the host reads is what the call answered
 
-read-act : (c : Call) (t : Table) (bs : List ℕ) → lists c ≡ false → Fits t → (carries c ≡ true → Front bs (answerBytes (act c t .answer)))
+-- the calls that answer a number of nodes
+abbrev counts : Call → Bool
+counts (Call.new k timeout m tf bf) = false
+counts (Call.onKey k c) = false
+counts (Call.list l n now out) = true
+counts Call.takeAppliedPending = false
+counts (Call.read r) = true
+
+read-act : (c : Call) (t : Table) (bs : List ℕ) → counts c ≡ false → Fits t → (carries c ≡ true → Front bs (answerBytes (act c t .answer)))
     → answerOf c (answerCode (act c t .answer)) bs ≡ act c t .answer
 unfolding act
 read-act (Call.new k timeout m tf bf) t bs e f g = refl
 read-act (Call.onKey k c) t bs e f g = key-call-read c k t bs (f .buckets) (indexIn t (number k)) g
 read-act (Call.list l n now out) t bs e f g = clash refl e
 read-act Call.takeAppliedPending t bs e f g = take-read t bs (t .queue) (f .records) (g refl)
+read-act (Call.read r) t bs e f g = clash refl e
 
-read-other : (c : Call) (t : Table) (bs : List ℕ) → lists c ≡ false → Fits t → (carries c ≡ true → Front bs (answerBytes (step c t .answer)))
+read-other : (c : Call) (t : Table) (bs : List ℕ) → counts c ≡ false → Fits t → (carries c ≡ true → Front bs (answerBytes (step c t .answer)))
     → answerOf c (answerCode (step c t .answer)) bs ≡ step c t .answer
 unfolding step
 read-other c t bs e f = go (firstFailed (questions c t))
@@ -107,6 +115,8 @@ read-step (Call.list l n now out) t bs h f g =
     subst (λ (a : Answer). answerOf (Call.list l n now out) (answerCode a) bs ≡ a) (step-bytes (Call.list l n now out) t h f .answer)
     (list-read l n now out (bytesOf t) bs)
 read-step Call.takeAppliedPending t bs h f g = read-other Call.takeAppliedPending t bs refl f g
+read-step (Call.read r) t bs h f g =
+    subst (λ (a : Answer). answerOf (Call.read r) (answerCode a) bs ≡ a) (step-bytes (Call.read r) t h f .answer) (load-read r (bytesOf t) bs)
 
 -- what the host reads of a call that was carried out on the bytes of a table
 pub host-reads : (c : Call) (t : Table) {code : ℕ} {r out′ : List ℕ} → FitsCall c → Fits t → Answered c (bytesOf t) code r out′
@@ -172,7 +182,7 @@ claim-by h h′ t e c =
     }
 
 -- `new` that returns 0 was accepted
-new-accepted : (k : List ℕ) (timeout m tf bf : ℕ) (s : List ℕ) → 0 ≡ answerCode (stepBytes (Call.new k timeout m tf bf) s .answer)
+pub new-accepted : (k : List ℕ) (timeout m tf bf : ℕ) (s : List ℕ) → 0 ≡ answerCode (stepBytes (Call.new k timeout m tf bf) s .answer)
     → stepBytes (Call.new k timeout m tf bf) s .answer ≡ Answer.New
 unfolding stepBytes act
 new-accepted k timeout m tf bf s = go (firstFailed (allQuestions (Call.new k timeout m tf bf) s))

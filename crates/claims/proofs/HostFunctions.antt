@@ -59,6 +59,14 @@ use Rattle.kbuckets.proofs.kbuckets_take_applied_pending.Kinds as TakeAppliedPe
 use Rattle.kbuckets.proofs.kbuckets_take_applied_pending.Reads as TakeAppliedPending
 use Rattle.kbuckets.proofs.kbuckets_take_applied_pending.Symbol as TakeAppliedPendingSymbol
 use Rattle.kbuckets.proofs.kbuckets_take_applied_pending.Met as TakeAppliedPendingMet
+use Rattle.kbuckets.proofs.kbuckets_read.Kinds as ReadKinds
+use Rattle.kbuckets.proofs.kbuckets_read.Reads as Read
+use Rattle.kbuckets.proofs.kbuckets_read.Symbol as ReadSymbol
+use Rattle.kbuckets.proofs.kbuckets_read.Met as ReadMet
+use Rattle.kbuckets.proofs.kbuckets_write.Kinds as WriteKinds
+use Rattle.kbuckets.proofs.kbuckets_write.Reads as Write
+use Rattle.kbuckets.proofs.kbuckets_write.Symbol as WriteSymbol
+use Rattle.kbuckets.proofs.kbuckets_write.Met as WriteMet
 use Rattle.claims.specs.HostFunctions.{HostFunctions}
 use Rattle.claims.proofs.Returns.{plain}
 
@@ -80,4 +88,6 @@ host-functions =
       closest-values = plain 3 ClosestValuesKinds.ps ClosestValuesKinds.r ClosestValues.Post ClosestValuesSymbol.routine (λ M. ClosestValuesMet.met);
       closest-values-predicate = plain 3 ClosestValuesPredicateKinds.ps ClosestValuesPredicateKinds.r ClosestValuesPredicate.Post ClosestValuesPredicateSymbol.routine (λ M. ClosestValuesPredicateMet.met);
       take-applied-pending = plain 2 TakeAppliedPendingKinds.ps TakeAppliedPendingKinds.r TakeAppliedPending.Post TakeAppliedPendingSymbol.routine (λ M. TakeAppliedPendingMet.met);
+      read = plain 2 ReadKinds.ps ReadKinds.r Read.Post ReadSymbol.routine (λ M. ReadMet.met);
+      write = plain 2 WriteKinds.ps WriteKinds.r Write.Post WriteSymbol.routine (λ M. WriteMet.met);
     }

@@ -1,5 +1,6 @@
 -- Demands 1 and 3 for the code, the answers that each call can give, and what became of pendings; the same for a host, on codes and bytes.
--- Every call of the code is such a run: EntryPoints, HostFunctions. The promise of a member's own old record, for both.
+-- Every call of the code is such a run: EntryPoints, HostFunctions. The promise of a member's own old record, and that a table survives a box
+-- swap, for both.
 pub mod Returns
 pub mod EntryPoints
 pub mod HostFunctions
@@ -17,3 +18,4 @@ pub mod Heard
 pub mod HostDemand
 pub mod OwnRecord
 pub mod HostPending
+pub mod Saved

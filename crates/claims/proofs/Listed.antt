@@ -281,6 +281,7 @@ act-listed (Call.new k timeout m tf bf) t h = refl
 act-listed (Call.onKey k c) t h = on-key c k t (indexIn t (number k)) h
 act-listed (Call.list l n now out) t h = refl
 act-listed Call.takeAppliedPending t h = taken t (t .queue)
+act-listed (Call.read bs) t h = refl
 
 -- on any storage, whatever the arguments
 pub step-listed : (c : Call) (s : List ℕ) → canAnswer c (stepBytes c s .answer) ≡ true

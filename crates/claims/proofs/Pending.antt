@@ -59,6 +59,7 @@ stepped (Call.new k timeout m tf bf) s h b e =
 stepped (Call.onKey k c) s h b e = let q = accepted-bytes (Call.onKey k c) s e in stepped-formed (Call.onKey k c) s h b (q .size) (q .formed)
 stepped (Call.list l n now out) s h b e = let q = accepted-bytes (Call.list l n now out) s e in stepped-formed (Call.list l n now out) s h b (q .size) (q .formed)
 stepped Call.takeAppliedPending s h b e = let q = accepted-bytes Call.takeAppliedPending s e in stepped-formed Call.takeAppliedPending s h b (q .size) (q .formed)
+stepped (Call.read bs) s h b e = let q = accepted-bytes (Call.read bs) s e in stepped-formed (Call.read bs) s h b (q .size) (q .formed)
 
 -- the records that stand in the queue behind its former length are the step's
 stepped-records : (c : Call) (s : List ℕ) → Stepped c s → behind (tableOf s .queue) (tableOf (stepBytes c s .storage) .queue) ≡ step c (tableOf s) .records

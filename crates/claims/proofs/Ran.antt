@@ -37,6 +37,7 @@ no-items Call.takeAppliedPending t h = (taken (t .queue), refl)
     taken : (q : List EndedPending) → takeOldest t q .items ≡ []
     taken [] = refl
     taken (a ∷ q) = refl
+no-items (Call.read bs) t h = (refl, refl)
 
 pub no-output : (c : Call) (s : List ℕ) → lists c ≡ false → [] ≡ stepBytes c s .output
 unfolding stepBytes joined splice
@@ -65,3 +66,4 @@ equation (Ran.closestKeys _ _ _ _ _ _ _ _ _ _ _ _ p) = p
 equation (Ran.closestValues _ _ _ _ _ _ _ _ _ _ _ _ p) = p
 equation (Ran.closestValuesPredicate _ _ _ _ _ _ _ _ _ _ _ _ _ _ _ _ _ _ _ _ _ _ p) = p
 equation (Ran.takeAppliedPending _ _ _ _ _ p) = quiet _ _ refl (p .0)
+equation (Ran.read _ _ _ _ _ _ p) = quiet _ _ refl p

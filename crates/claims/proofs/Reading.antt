@@ -230,3 +230,4 @@ answer-short (Answer.Remove b) = omega arith
 answer-short (Answer.Entry k) = omega arith
 answer-short (Answer.Found n) = omega arith
 answer-short (Answer.TakeAppliedPending r) = applied-short r
+answer-short (Answer.Read n) = omega arith

@@ -38,6 +38,7 @@ of-act (Call.onKey k c) t = on-key t _ _ (indexIn t (number k))
 of-act (Call.list l n now out) t =
     ap (behind (t .queue)) (apply-all-queue now (applies l n now t) t) ∙ drop-append-seam (t .queue) (applyAll now (applies l n now t) t .1)
 of-act Call.takeAppliedPending t = taken t (t .queue) refl
+of-act (Call.read bs) t = drop-length (t .queue)
 
 pub records-behind : (c : Call) (t : Table) → behind (t .queue) (step c t .table .queue) ≡ step c t .records
 unfolding step

@@ -39,6 +39,7 @@ among-accepted k (Answer.TakeAppliedPending r) h = refl
 among-accepted k (Answer.Update r) h = refl
 among-accepted k (Answer.InsertOrUpdate r) h = refl
 among-accepted k (Answer.Insert r) h = refl
+among-accepted k (Answer.Read n) h = refl
 
 -- where no question fails, the call is not refused
 pub accepted-answer : (c : Call) (s : List ℕ) → firstFailed (allQuestions c s) ≡ none → isRefused (stepBytes c s .answer) ≡ false

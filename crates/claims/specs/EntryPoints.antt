@@ -44,6 +44,12 @@ use Rattle.listing.proofs.closest_values_predicate.Symbol as ClosestValuesPredi
 use Rattle.table.proofs.take_applied_pending.Kinds as TakeAppliedPendingKinds
 use Rattle.table.proofs.take_applied_pending.Reads as TakeAppliedPending
 use Rattle.table.proofs.take_applied_pending.Symbol as TakeAppliedPendingSymbol
+use Rattle.loaded.proofs.read.Kinds as ReadKinds
+use Rattle.loaded.proofs.read.Reads as Read
+use Rattle.loaded.proofs.read.Symbol as ReadSymbol
+use Rattle.saved.proofs.write.Kinds as WriteKinds
+use Rattle.saved.proofs.write.Reads as Write
+use Rattle.saved.proofs.write.Symbol as WriteSymbol
 use Rattle.claims.specs.Returns.{Returns}
 
 pub record EntryPoints : Type 2 where
@@ -62,3 +68,5 @@ pub record EntryPoints : Type 2 where
   pub closest-values : Returns 3 ClosestValuesKinds.ps ClosestValuesKinds.r ClosestValues.Post ClosestValuesSymbol.routine
   pub closest-values-predicate : Returns 3 ClosestValuesPredicateKinds.ps ClosestValuesPredicateKinds.r ClosestValuesPredicate.Post ClosestValuesPredicateSymbol.routine
   pub take-applied-pending : Returns 1 TakeAppliedPendingKinds.ps TakeAppliedPendingKinds.r TakeAppliedPending.Post TakeAppliedPendingSymbol.routine
+  pub read : Returns 2 ReadKinds.ps ReadKinds.r Read.Post ReadSymbol.routine
+  pub write : Returns 2 WriteKinds.ps WriteKinds.r Write.Post WriteSymbol.routine

@@ -34,6 +34,7 @@ use Rattle.kbuckets.proofs.kbuckets_closest_keys.Reads as ClosestKeys
 use Rattle.kbuckets.proofs.kbuckets_closest_values.Reads as ClosestValues
 use Rattle.kbuckets.proofs.kbuckets_closest_values_predicate.Reads as ClosestValuesPredicate
 use Rattle.kbuckets.proofs.kbuckets_take_applied_pending.Reads as TakeAppliedPending
+use Rattle.kbuckets.proofs.kbuckets_read.Reads as Read
 use Rattle.claims.specs.Ran.{_&_, Slice}
 use Rattle.claims.specs.Runs.{fed}
 
@@ -90,6 +91,9 @@ pub data Called : (c : Call) (answer s : List ℕ) (code : ℕ) (s′ out′ : L
   takeAppliedPending : (κs : Lfts 2) (s answer s′ answer′ : Slice) (code : ℕ)
       → TakeAppliedPending.Post κs (s & answer & tt) code (s′ & answer′ & tt)
       → Called Call.takeAppliedPending (now answer) (now s) code (now s′) (now answer′)
+  read : (κs : Lfts 2) (s bytes s′ : Slice) (code : ℕ) (others : _)
+      → Read.Post κs (s & bytes & tt) code (s′ & others)
+      → Called (Call.read (now bytes)) [] (now s) code (now s′) []
 
 -- the calls whose answer can carry a key or a record
 abbrev pub keyCarries : KeyCall → Bool
@@ -107,6 +111,7 @@ carries (Call.new k timeout m tf bf) = false
 carries (Call.onKey k c) = keyCarries c
 carries (Call.list l n now out) = false
 carries Call.takeAppliedPending = true
+carries (Call.read bs) = false
 
 -- what an export returns and leaves
 abbrev pub seen : Call → (answer s : List ℕ) → Exported
@@ -177,6 +182,7 @@ acceptedAnswerOf (Call.new k timeout m tf bf) n bs = Answer.New
 acceptedAnswerOf (Call.onKey k c) n bs = keyAnswerOf c n bs
 acceptedAnswerOf (Call.list l m now out) n bs = Answer.Found n
 acceptedAnswerOf Call.takeAppliedPending n bs = Answer.TakeAppliedPending (cond (eqb n 0) none (some (recordIn (part bs 0 recordSize))))
+acceptedAnswerOf (Call.read r) n bs = Answer.Read n
 
 abbrev pub answerOf : Call → (code : ℕ) (bytes : List ℕ) → Answer
 answerOf c n bs = cond (leb (refusedCode 0) n) (Answer.Refused (n - refusedCode 0)) (acceptedAnswerOf c n bs)

@@ -45,6 +45,12 @@ use Rattle.kbuckets.proofs.kbuckets_closest_values_predicate.Symbol as ClosestV
 use Rattle.kbuckets.proofs.kbuckets_take_applied_pending.Kinds as TakeAppliedPendingKinds
 use Rattle.kbuckets.proofs.kbuckets_take_applied_pending.Reads as TakeAppliedPending
 use Rattle.kbuckets.proofs.kbuckets_take_applied_pending.Symbol as TakeAppliedPendingSymbol
+use Rattle.kbuckets.proofs.kbuckets_read.Kinds as ReadKinds
+use Rattle.kbuckets.proofs.kbuckets_read.Reads as Read
+use Rattle.kbuckets.proofs.kbuckets_read.Symbol as ReadSymbol
+use Rattle.kbuckets.proofs.kbuckets_write.Kinds as WriteKinds
+use Rattle.kbuckets.proofs.kbuckets_write.Reads as Write
+use Rattle.kbuckets.proofs.kbuckets_write.Symbol as WriteSymbol
 use Rattle.claims.specs.Returns.{Returns}
 
 pub record HostFunctions : Type 2 where
@@ -63,3 +69,5 @@ pub record HostFunctions : Type 2 where
   pub closest-values : Returns 3 ClosestValuesKinds.ps ClosestValuesKinds.r ClosestValues.Post ClosestValuesSymbol.routine
   pub closest-values-predicate : Returns 3 ClosestValuesPredicateKinds.ps ClosestValuesPredicateKinds.r ClosestValuesPredicate.Post ClosestValuesPredicateSymbol.routine
   pub take-applied-pending : Returns 2 TakeAppliedPendingKinds.ps TakeAppliedPendingKinds.r TakeAppliedPending.Post TakeAppliedPendingSymbol.routine
+  pub read : Returns 2 ReadKinds.ps ReadKinds.r Read.Post ReadSymbol.routine
+  pub write : Returns 2 WriteKinds.ps WriteKinds.r Write.Post WriteSymbol.routine

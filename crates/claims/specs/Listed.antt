@@ -80,6 +80,7 @@ pub record Kinds : Type 0 where
   pub new : Bool
   pub found : Bool
   pub take : Bool
+  pub read : Bool
   pub on-key : KeyKinds
 
 abbrev pub among : Kinds → Answer → Bool
@@ -87,6 +88,7 @@ among k (Answer.Refused n) = false
 among k Answer.New = k .new
 among k (Answer.Found n) = k .found
 among k (Answer.TakeAppliedPending r) = k .take
+among k (Answer.Read n) = k .read
 among k (Answer.Remove r) = k .on-key .remove
 among k (Answer.Entry e) = k .on-key .entry
 among k (Answer.Update r) = k .on-key .update r
@@ -104,13 +106,14 @@ keyKinds (KeyCall.pendingUpdate st dr) = kinds false false pendingUpdates no no
 keyKinds (KeyCall.absentInsert v st dr now) = kinds false false no no absentInserts
 
 abbrev pub onKey : KeyKinds → Kinds
-onKey k = record { new = false; found = false; take = false; on-key = k }
+onKey k = record { new = false; found = false; take = false; read = false; on-key = k }
 
 abbrev pub kindsOf : Call → Kinds
-kindsOf (Call.new k timeout m tf bf) = record { new = true; found = false; take = false; on-key = kinds false false no no no }
+kindsOf (Call.new k timeout m tf bf) = record { new = true; found = false; take = false; read = false; on-key = kinds false false no no no }
 kindsOf (Call.onKey k c) = onKey (keyKinds c)
-kindsOf (Call.list l n now out) = record { new = false; found = true; take = false; on-key = kinds false false no no no }
-kindsOf Call.takeAppliedPending = record { new = false; found = false; take = true; on-key = kinds false false no no no }
+kindsOf (Call.list l n now out) = record { new = false; found = true; take = false; read = false; on-key = kinds false false no no no }
+kindsOf Call.takeAppliedPending = record { new = false; found = false; take = true; read = false; on-key = kinds false false no no no }
+kindsOf (Call.read bs) = record { new = false; found = false; take = false; read = true; on-key = kinds false false no no no }
 
 -- a refusal, or an answer of the call's own kind
 abbrev pub canAnswer : Call → Answer → Bool

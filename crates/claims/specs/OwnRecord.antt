@@ -66,3 +66,4 @@ failedTableFilter (Answer.Remove r) = false
 failedTableFilter (Answer.Entry e) = false
 failedTableFilter (Answer.Found n) = false
 failedTableFilter (Answer.TakeAppliedPending r) = false
+failedTableFilter (Answer.Read n) = false

@@ -11,6 +11,7 @@ use Rattle.table.specs.Calls.{removeAnswer, takeAnswer, newAnswer}
 use Rattle.update.specs.Calls.{insertOrUpdateAnswer}
 use Rattle.entry.specs.Kind.{entryAnswer, insertAnswer}
 use Rattle.items.specs.Lists.{listAnswer}
+use Rattle.loaded.specs.Answer.{readAnswer}
 use Rattle.table.proofs.new.Reads as New
 use Rattle.table.proofs.update_node_status.Reads as UpdateNodeStatus
 use Rattle.update.proofs.update_node.Reads as UpdateNode
@@ -26,6 +27,7 @@ use Rattle.listing.proofs.closest_keys.Reads as ClosestKeys
 use Rattle.listing.proofs.closest_values.Reads as ClosestValues
 use Rattle.listing.proofs.closest_values_predicate.Reads as ClosestValuesPredicate
 use Rattle.table.proofs.take_applied_pending.Reads as TakeAppliedPending
+use Rattle.loaded.proofs.read.Reads as Read
 
 -- parameters in their order
 abbrev pub _&_ : {A B : Type 0} → A → B → A × B
@@ -86,3 +88,6 @@ pub data Ran : (c : Call) (s : List ℕ) (a : Answer) (s′ out′ : List ℕ) �
   takeAppliedPending : (κs : Lfts 1) (s s′ : Slice) (a : _) (others : _)
       → TakeAppliedPending.Post κs (s & tt) a (s′ & others)
       → Ran Call.takeAppliedPending (now s) (takeAnswer a) (now s′) []
+  read : (κs : Lfts 2) (s bytes s′ : Slice) (a : _) (others : _)
+      → Read.Post κs (s & bytes & tt) a (s′ & others)
+      → Ran (Call.read (now bytes)) (now s) (readAnswer a) (now s′) []

@@ -6,12 +6,12 @@ use mathlib.Core.Bool.{true}
 use mathlib.Core.List.{List}
 use borrow.Author.Tests.{le-leb, leb-true}
 use Rattle.model.specs.Bytes.{Bytes}
+use Rattle.model.specs.Result.{Reply}
 use Rattle.model.specs.Call.{KeyCall}
 use Rattle.model.specs.Explain.{explanationRoom, explainBytes}
 use Rattle.laws.proofs.Explain.{answered-line, answered-length}
 use Rattle.explain.specs.declared.ExplainAnswer.{ExplainAnswer}
-use Rattle.explain.specs.Calls.{explainAnswerOf, Explains}
-use Rattle.codes.specs.Exported.{replyCode, Tells}
+use Rattle.explain.specs.Calls.{explainAnswerOf}
 use Rattle.codes.specs.Few.{shortLine}
 
 pub line-short : {a : ExplainAnswer} {n : ℕ} → a ≡ ExplainAnswer.Answered n → shortLine a ≡ true → n ≤ explanationRoom
@@ -23,7 +23,3 @@ module _ (k : List ℕ) (c : KeyCall) (out s : List ℕ) where
   short h (ExplainAnswer.Refused q) e = refl
   short h (ExplainAnswer.Answered n) e =
       le-leb n explanationRoom (omega (arith, answered-line k c out s n (sym e), answered-length k c out s n (sym e) h))
-
-  pub explained : {a : ExplainAnswer} {r : ℕ} {out′ : List ℕ} → Explains a out′ (explainBytes k c out s) → r ≡ replyCode (explainAnswerOf a)
-      → Tells r out′ (explainBytes k c out s)
-  explained x e = record { code = e ∙ ap replyCode (x .answer); output = x .output }

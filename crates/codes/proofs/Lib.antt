@@ -2,4 +2,6 @@
 pub mod Thin
 pub mod Put
 pub mod Apart
+pub mod Told
 pub mod Explained
+pub mod Saved

@@ -71,6 +71,7 @@ answerCode (Answer.Remove found) = flagByte found
 answerCode (Answer.Entry k) = entryCode k
 answerCode (Answer.Found n) = n
 answerCode (Answer.TakeAppliedPending r) = appliedCode r
+answerCode (Answer.Read n) = n
 
 -- the bytes that an answer carries: a key, or a record
 
@@ -105,6 +106,7 @@ answerBytes (Answer.Remove found) = []
 answerBytes (Answer.Entry k) = []
 answerBytes (Answer.Found n) = []
 answerBytes (Answer.TakeAppliedPending r) = appliedBytes r
+answerBytes (Answer.Read n) = []
 
 -- what `answer` has room for at the least: the longest, a record
 abbrev pub answerSize : ℕ

@@ -9,8 +9,7 @@ use Rattle.model.specs.Bytes.{splice}
 use Rattle.model.specs.Result.{Reply}
 use Rattle.model.specs.Call.{Call}
 use Rattle.model.specs.Question.{firstFailed, withRoom}
-use Rattle.model.specs.StepBytes.{allQuestions, stepBytes}
-use Rattle.model.specs.Explain.{Explained}
+use Rattle.model.specs.StepBytes.{Replied, allQuestions, stepBytes}
 use Rattle.codes.specs.Codes.{refusedCode, answerCode, answerBytes, answerSize}
 
 -- the return code, and what the lent memory holds after the call
@@ -45,12 +44,12 @@ unlessRefusedExport none c answer s =
 unfoldable pub exportedWith : Call → List ℕ → List ℕ → Exported
 exportedWith c answer s = unlessRefusedExport (firstFailed (withRoom (leb answerSize (length answer)) (allQuestions c s))) c answer s
 
--- 02, slip 1: a query's code is a refusal's or the number of bytes of the line
+-- a query's code is a refusal's or its number: of the bytes of the line (02, slip 1), of the nodes written (slip 6)
 abbrev pub replyCode : Reply ℕ → ℕ
 replyCode (Reply.Refused q) = refusedCode q
 replyCode (Reply.Answered n) = n
 
 -- the code and the output are those of the query, which writes no storage
-pub record Tells (r : ℕ) (out : List ℕ) (x : Explained) : Type 0 where
+pub record Tells (r : ℕ) (out : List ℕ) (x : Replied) : Type 0 where
   pub code : r ≡ replyCode (x .answer)
   pub output : out ≡ x .output

@@ -1,4 +1,4 @@
--- A count that a listing may find, and the length of a line.
+-- A count that a listing may find, the length of a line, and the nodes written or read.
 use mathlib.Core.Bool.{Bool, true}
 use lib.Dec.{leb}
 use Rattle.model.specs.Question.{maxCount}
@@ -6,6 +6,8 @@ use Rattle.model.specs.Explain.{explanationRoom}
 use Rattle.items.specs.declared.ListAnswer.{ListAnswer}
 use Rattle.items.specs.declared.ListAnswer.the-variants as list-answer
 use Rattle.explain.specs.declared.ExplainAnswer.{ExplainAnswer}
+use Rattle.saved.specs.declared.WriteAnswer.{WriteAnswer}
+use Rattle.loaded.specs.declared.ReadAnswer.{ReadAnswer}
 
 -- at most 4,096 entries
 abbrev pub fewFound : ListAnswer → Bool
@@ -16,3 +18,12 @@ fewFound (list-answer.Found n) = leb n maxCount
 abbrev pub shortLine : ExplainAnswer → Bool
 shortLine (ExplainAnswer.Refused q) = true
 shortLine (ExplainAnswer.Answered n) = leb n explanationRoom
+
+-- at most 16 nodes in each of 256 buckets
+abbrev pub fewWritten : WriteAnswer → Bool
+fewWritten (WriteAnswer.Refused q) = true
+fewWritten (WriteAnswer.Answered n) = leb n maxCount
+
+abbrev pub fewRead : ReadAnswer → Bool
+fewRead (ReadAnswer.Refused q) = true
+fewRead (ReadAnswer.Answered n) = leb n maxCount

@@ -17,8 +17,10 @@ ghost use Rattle.entry.specs.Kind.{kindOf, entryAnswer, insertAnswer};
 ghost use Rattle.update.specs.Calls.{insertOrUpdateAnswer};
 ghost use Rattle.items.specs.Lists.{listAnswer};
 ghost use Rattle.explain.specs.Calls.{explainAnswerOf};
+ghost use Rattle.saved.specs.Fields.{writeAnswerOf};
+ghost use Rattle.loaded.specs.Answer.{readAnswer};
 ghost use Rattle.codes.specs.Exported.{replyCode};
-ghost use Rattle.codes.specs.Few.{fewFound, shortLine};
+ghost use Rattle.codes.specs.Few.{fewFound, shortLine, fewWritten, fewRead};
 use bucket::InsertAnswer;
 use bucket::NewAnswer;
 use bucket::RemoveAnswer;
@@ -28,8 +30,10 @@ use entry::EntryAnswer;
 use entry::EntryKind;
 use explain::ExplainAnswer;
 use items::ListAnswer;
+use loaded::ReadAnswer;
 use node::NodeStatus;
 use node::Value;
+use saved::WriteAnswer;
 use table::TakeAnswer;
 use update::InsertOrUpdateAnswer;
 
@@ -110,6 +114,28 @@ pub fn explain_code(answer: ExplainAnswer) -> u32
     match answer {
         ExplainAnswer::Refused(q) => crate::refused(q),
         ExplainAnswer::Answered(n) => n as u32,
+    }
+}
+
+// Internal: what the writer returns.
+pub fn write_code(answer: WriteAnswer) -> u32
+    requires { ⌜ fewWritten answer ≡ true ⌝ }
+    ensures { λ r. ⌜ r ≡ replyCode (writeAnswerOf answer) ⌝ }
+{
+    match answer {
+        WriteAnswer::Refused(q) => crate::refused(q),
+        WriteAnswer::Answered(n) => n as u32,
+    }
+}
+
+// Internal: what the reader returns.
+pub fn read_code(answer: ReadAnswer) -> u32
+    requires { ⌜ fewRead answer ≡ true ⌝ }
+    ensures { λ r. ⌜ r ≡ answerCode (readAnswer answer) ⌝ }
+{
+    match answer {
+        ReadAnswer::Refused(q) => crate::refused(q),
+        ReadAnswer::Answered(n) => n as u32,
     }
 }
 

@@ -17,12 +17,12 @@ use Rattle.model.specs.Call.{Call, KeyCall}
 use Rattle.model.specs.Question.{firstFailed, withRoom, keyArguments, kindOfKey, keysFit, codesInRange, clockFits, outputFits, kindFits}
 use Rattle.model.specs.Step.{Outcome, onKey, ownAnswer, effect, act, queueFits, late}
 use Rattle.model.specs.Layout.{tableOf}
-use Rattle.model.specs.StepBytes.{allQuestions}
-use Rattle.model.specs.Explain.{Told, told, Reason, bucketReason, keyReason, reason, Explanation, explanation, line, Explained, explanationRoom, lineUnlessRefused, explainBytes}
+use Rattle.model.specs.StepBytes.{Replied, allQuestions}
+use Rattle.model.specs.Explain.{Told, told, Reason, bucketReason, keyReason, reason, Explanation, explanation, line, explanationRoom, lineUnlessRefused, explainBytes}
 use Rattle.laws.proofs.Questions.{front-fails, front-passes}
 use Rattle.bucket.specs.declared.KBucket.{KBucket}
 use Rattle.bucket.specs.Bucket.{bucketOf, settingsOf, Becomes}
-use Rattle.on_key.specs.Answers.{firstFive, failedOfFive, roomFor}
+use Rattle.on_key.specs.Answers.{Replies, firstFive, failedOfFive, roomFor}
 use Rattle.explanation.specs.declared.Why.{Why}
 use Rattle.explanation.specs.Explanation.{whyOf}
 use Rattle.explain.specs.declared.ExplainAnswer.{ExplainAnswer}
@@ -53,9 +53,9 @@ module _ (kind room : Bool) (l out : List ℕ) where
           record { answer = ap (λ (m : ℕ). Reply.Answered m) p ∙ rw (e, k, q); output = w ∙ rw (e, k, q) }
 
 -- a reason under another name
-pub as-reason : {r : ExplainAnswer} {out′ : List ℕ} (kind room : Bool) (d : Told) (out : List ℕ) {w w′ : Reason} → w ≡ w′
-    → Explains r out′ (lastThree kind room (line (record { told = d; reason = w })) out) → Explains r out′ (lastThree kind room (line (record { told = d; reason = w′ })) out)
-as-reason {r} {out′} kind room d out e x = subst (λ (v : Reason). Explains r out′ (lastThree kind room (line (record { told = d; reason = v })) out)) e x
+pub as-reason : {r : Reply ℕ} {out′ : List ℕ} (kind room : Bool) (d : Told) (out : List ℕ) {w w′ : Reason} → w ≡ w′
+    → Replies r out′ (lastThree kind room (line (record { told = d; reason = w })) out) → Replies r out′ (lastThree kind room (line (record { told = d; reason = w′ })) out)
+as-reason {r} {out′} kind room d out e x = subst (λ (v : Reason). Replies r out′ (lastThree kind room (line (record { told = d; reason = v })) out)) e x
 
 -- a call on one key
 
@@ -93,17 +93,17 @@ module _ (s key : List ℕ) (c : KeyCall) (out : List ℕ) where
         (asked-are ∙ front-passes (firstFive key (keyArguments c .codes) (keyArguments c .now) s) ((6, room) ∷ late call t) e)
 
     -- by what was asked and explained
-    module _ {kind : Bool} (k : kind ≡ keyArguments c .kind (kindOfKey key t)) {d : Told} {w : Reason} {r : ExplainAnswer} {out′ : List ℕ} where
+    module _ {kind : Bool} (k : kind ≡ keyArguments c .kind (kindOfKey key t)) {d : Told} {w : Reason} {r : Reply ℕ} {out′ : List ℕ} where
       ends : {fits : Bool} → fits ≡ queueFits call t → d ≡ told (act call t .answer) → w ≡ reason c key t
-          → Explains r out′ (lastThree kind fits (line (record { told = d; reason = w })) out) → Explains r out′ (explainBytes key c out s)
+          → Replies r out′ (lastThree kind fits (line (record { told = d; reason = w })) out) → Replies r out′ (explainBytes key c out s)
       unfolding explanation
       ends {fits} f p q x =
           let z : lastThree kind fits (line (record { told = d; reason = w })) out ≡ explainBytes key c out s = rw (k, f, p, q) (sym asked-last) in
-          record { answer = x .answer ∙ ap (λ (y : Explained). y .answer) z; output = x .output ∙ ap (λ (y : Explained). y .output) z }
+          record { answer = x .answer ∙ ap (λ (y : Replied). y .answer) z; output = x .output ∙ ap (λ (y : Replied). y .output) z }
 
       -- the local key
       pub ends-local : indexIn t (number key) ≡ none → d ≡ told (ownAnswer c) → w ≡ Reason.LocalKey
-          → Explains r out′ (lastThree kind (roomFor s []) (line (record { told = d; reason = w })) out) → Explains r out′ (explainBytes key c out s)
+          → Replies r out′ (lastThree kind (roomFor s []) (line (record { told = d; reason = w })) out) → Replies r out′ (explainBytes key c out s)
       unfolding queueFits roomFor act reason
       ends-local i p q x =
           let a = ap (onKey t (ownAnswer c) (effect c key t)) (sym i) in
@@ -113,7 +113,7 @@ module _ (s key : List ℕ) (c : KeyCall) (out : List ℕ) where
       -- any other key
       pub ends-at : {i : ℕ} → indexIn t (number key) ≡ some i → {rs : List EndedPending} → rs ≡ effect c key t i (t .buckets i) .records
           → d ≡ told (effect c key t i (t .buckets i) .answer) → w ≡ bucketReason c key t i
-          → Explains r out′ (lastThree kind (roomFor s rs) (line (record { told = d; reason = w })) out) → Explains r out′ (explainBytes key c out s)
+          → Replies r out′ (lastThree kind (roomFor s rs) (line (record { told = d; reason = w })) out) → Replies r out′ (explainBytes key c out s)
       unfolding queueFits roomFor act reason
       ends-at {i} j {rs} m p q x =
           let a = ap (onKey t (ownAnswer c) (effect c key t)) (sym j) in

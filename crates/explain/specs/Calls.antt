@@ -1,6 +1,5 @@
 -- The calls that are explained, what the query answers, and what it owes.
 use Prim.Native.Nat.{ℕ}
-use mathlib.Core.Path.{_≡_}
 use mathlib.Core.Bool.{Bool}
 use mathlib.Core.List.{List, [], _∷_}
 use lib.ListN.{length}
@@ -8,8 +7,10 @@ use lib.Dec.{leb}
 use Rattle.model.specs.Result.{Reply}
 use Rattle.model.specs.Call.{KeyCall}
 use Rattle.model.specs.Question.{firstFailed}
-use Rattle.model.specs.Explain.{Explained, explanationRoom, lineUnlessRefused}
+use Rattle.model.specs.Explain.{explanationRoom, lineUnlessRefused}
+use Rattle.model.specs.StepBytes.{Replied}
 use Rattle.node.specs.Node.{argumentOf}
+use Rattle.on_key.specs.Answers.{Replies}
 use Rattle.explain.specs.declared.PeerCall.{PeerCall}
 use Rattle.explain.specs.declared.ExplainAnswer.{ExplainAnswer}
 
@@ -26,11 +27,9 @@ abbrev pub explainAnswerOf : ExplainAnswer → Reply ℕ
 explainAnswerOf (ExplainAnswer.Refused q) = Reply.Refused q
 explainAnswerOf (ExplainAnswer.Answered n) = Reply.Answered n
 
--- the answer and the output are those of the query
-pub record Explains (r : ExplainAnswer) (out : List ℕ) (x : Explained) : Type 0 where
-  pub answer : explainAnswerOf r ≡ x .answer
-  pub output : out ≡ x .output
+abbrev pub Explains : ExplainAnswer → List ℕ → Replied → Type 0
+Explains r out x = Replies (explainAnswerOf r) out x
 
 -- 01, questions 6 to 8, and the line where none of them fails
-unfoldable pub lastThree : (kind room : Bool) (line output : List ℕ) → Explained
+unfoldable pub lastThree : (kind room : Bool) (line output : List ℕ) → Replied
 lastThree kind room l out = lineUnlessRefused (firstFailed ((6, leb explanationRoom (length out)) ∷ (7, kind) ∷ (8, room) ∷ [])) l out

@@ -3,6 +3,7 @@ ghost use mathlib.Core.Path.{_≡_};
 ghost use mathlib.Core.List.{[]};
 ghost use Rattle.model.specs.Call.{Listing, Call, KeyCall};
 ghost use Rattle.model.specs.Explain.{explainBytes};
+ghost use Rattle.model.specs.StepBytes.{writeBytes};
 ghost use Rattle.node.specs.Node.{argumentOf};
 ghost use Rattle.codes.specs.Exported.{Leaves, Writes, exported, exportedWith, Tells};
 ghost use Rattle.bucket_calls.specs.Calls.{BucketCall, bucketStep, bucketNew};
@@ -17,7 +18,7 @@ use node::Value;
 pub extern "C" fn kbuckets_version() -> u32
     ensures { λ r. ⌜ r ≡ version ⌝ }
 {
-    0x0000_0400
+    0x0000_0500
 }
 
 // The table.
@@ -440,6 +441,24 @@ pub extern "C" fn kbuckets_explain_absent_insert(
         output,
     );
     codes::answers::explain_code(answer)
+}
+
+// A table that survives a box swap: its held nodes as bytes, and a new table loaded with them.
+
+#[no_mangle]
+pub extern "C" fn kbuckets_write(storage: &[u8], output: &mut [u8]) -> u32
+    ensures { λ r. ⌜ Tells r (now (output .exit)) (writeBytes (now (output .entry)) (now (storage .entry))) ⌝ }
+{
+    let answer = saved::write(storage, output);
+    codes::answers::write_code(answer)
+}
+
+#[no_mangle]
+pub extern "C" fn kbuckets_read(storage: &mut [u8], bytes: &[u8]) -> u32
+    ensures { λ r. ⌜ Leaves r (now (storage .exit)) (exported (Call.read (now (bytes .entry))) (now (storage .entry))) ⌝ }
+{
+    let answer = loaded::read(storage, bytes);
+    codes::answers::read_code(answer)
 }
 
 // A bucket by itself.

@@ -8,6 +8,9 @@ use mathlib.Core.List.{List, [], _∷_, _++_}
 use mathlib.Core.Option.{Option, none, some}
 use lib.ListN.{length, getD, take}
 use Rattle.model.specs.Base.{select, tabulate}
+use Rattle.model.specs.Node.{Node}
+use Rattle.model.specs.Bucket.{Bucket, nodes}
+use Rattle.model.specs.Table.{heldNodes}
 use Rattle.model.specs.Fits.{All, Opt}
 use Rattle.laws.proofs.Tests.{cases}
 
@@ -55,6 +58,12 @@ pub all-tabulate : {A : Type 0} (P : A → Type 0) (k : ℕ) (f : ℕ → A) →
 unfolding tabulate
 all-tabulate P zero f h = tt
 all-tabulate P (suc k) f h = all-append P (tabulate k f) (f k ∷ []) (all-tabulate P k f (λ i l. h i (omega arith))) (h k (omega arith), tt)
+
+-- of all held nodes
+pub all-held : (P : Node → Type 0) (n : ℕ) (bs : ℕ → Bucket) → ((i : ℕ) → i < n → All P (nodes (bs i))) → All P (heldNodes n bs)
+unfolding heldNodes
+all-held P zero bs h = tt
+all-held P (suc n) bs h = all-append P (heldNodes n bs) (nodes (bs n)) (all-held P n bs (λ i l. h i (omega arith))) (h n (omega arith))
 
 pub opt-map : {A : Type 0} (P Q : A → Type 0) → ((a : A) → P a → Q a) → (o : Option A) → Opt P o → Opt Q o
 opt-map P Q f none h = tt

@@ -47,7 +47,6 @@ module _ (s : List ℕ) where
   unfolding bucketIn
   pending-of = refl
 
-module _ (s : List ℕ) (l : length s ≡ bucketSize) (h : Bytes s) where
   -- the pending, where there is one
   pending-some : (p : ℕ → Bool) → pendingFormed p s ≡ true → eqb (getD s pendingAt 0) 1 ≡ true
       → (p (keyIn (part s (pendingAt + 1) nodeSize)) ≡ true)
@@ -63,6 +62,87 @@ module _ (s : List ℕ) (l : length s ≡ bucketSize) (h : Bytes s) where
       let t = conj-gives x (y ∷ z ∷ []) d in
       (t .0, t .1 .0, t .1 .1 .0)
 
+-- what question 2 says of the bucket that is read, be the list of bytes or of larger numbers
+module _ (s : List ℕ) (p : ℕ → Bool) (m : ℕ) (c : bucketFormed p m s ≡ true) where
+  abbrev held : ℕ
+  held = getD s 0 0
+
+  abbrev firstAt : ℕ
+  firstAt = getD s 1 0
+
+  passed : Checked p m s
+  passed = checked p m s c
+
+  -- the node of place j
+  node-of : (j : ℕ) (d : Node) → j < held → getD (nodesIn s) j d ≡ nodeIn (placeIn s j)
+  unfolding nodesIn
+  node-of j d i = getD-tabulate held (λ x. nodeIn (placeIn s x)) j d i
+
+  differs : (j i : ℕ) → j < held → i < j → same (keyIn (placeIn s j)) (keyIn (placeIn s i)) ≡ false
+  unfolding notHeld
+  differs j i a b =
+      same-sym (keyIn (placeIn s j)) (keyIn (placeIn s i))
+      ∙ not-true (same (keyIn (placeIn s i)) (keyIn (placeIn s j))) (all-gives j (λ x. not (same (keyIn (placeIn s x)) (keyIn (placeIn s j)))) i b (passed .different j a))
+
+  disconnected-of : All (λ (x : Node). x .connected ≡ false) (bucketIn s .disconnected)
+  unfolding bucketIn nodeIn
+  disconnected-of =
+      all-by-getD _ (bucketIn s .disconnected) (nodeIn [])
+      (λ j i.
+      let b : j < firstAt = rw (first-in s (passed .first)) at i in
+      let a : j < held = omega (arith, passed .first) in
+      rw (getD-take firstAt (nodesIn s) j (nodeIn []) b, node-of j (nodeIn []) a, passed .states j a, lt-ltb j firstAt b))
+
+  connected-of : All (λ (x : Node). x .connected ≡ true) (bucketIn s .connected)
+  unfolding bucketIn nodeIn
+  connected-of =
+      all-by-getD _ (bucketIn s .connected) (nodeIn [])
+      (λ j i.
+      let a : firstAt + j < held = omega (arith, length-nodesIn s, length-drop firstAt (nodesIn s), i) in
+      rw (getD-drop firstAt (nodesIn s) j (nodeIn []), node-of (firstAt + j) (nodeIn []) a, passed .states (firstAt + j) a, le-ltb (firstAt + j) firstAt (omega arith)))
+
+  pending-good : Opt (λ (q : PendingNode). (p (q .node .key) ≡ true) × (holds (q .node .key) (bucketIn s) ≡ false)) (pendingIn s)
+  unfolding nodeIn nodesIn notHeld
+  pending-good =
+      cases (Opt (λ (q : PendingNode). (p (q .node .key) ≡ true) × (holds (q .node .key) (bucketIn s) ≡ false))) (eqb (getD s pendingAt 0) 1)
+      (λ e.
+      let key : ℕ = keyIn (part s (pendingAt + 1) nodeSize) in
+      let t = pending-some s p (passed .pending) e in (
+        t .0,
+        none-holds key (bucketIn s)
+            (rw (nodes-in s)
+            (all-tabulate (λ (x : Node). same (x .key) key ≡ false) held (λ j. nodeIn (placeIn s j))
+            (λ j i. not-true (same (keyIn (placeIn s j)) key) (all-gives held (λ x. not (same (keyIn (placeIn s x)) key)) j i (t .1))))),
+      ))
+      (λ e. tt)
+
+  pub bucket-good : FormedBucket (λ (k : ℕ). p k ≡ true) m (bucketIn s)
+  unfolding nodesIn nodeIn
+  bucket-good =
+      record {
+        formed =
+            record {
+              at-most = rw (count-in s) (passed .at-most);
+              different =
+                  rw (nodes-in s)
+                  (Different-if (nodesIn s) (nodeIn [])
+                  (λ j a i b.
+                  let y : j < held = rw (length-nodesIn s) at a in
+                  let z : i < held = omega arith in
+                  rw (node-of j (nodeIn []) y, node-of i (nodeIn []) z) (differs j i y b)));
+              disconnected-first = disconnected-of;
+              then-connected = connected-of;
+              incoming-within = rw (nodes-in s) (passed .incoming-within);
+              pending-apart = rw (pending-of s) (opt-map _ _ (λ (q : PendingNode) e. e .1) (pendingIn s) pending-good);
+            };
+        of-index =
+            record {
+              held = rw (nodes-in s) (all-tabulate (λ (x : Node). p (x .key) ≡ true) held (λ j. nodeIn (placeIn s j)) (passed .of-index));
+              pending = rw (pending-of s) (opt-map _ _ (λ (q : PendingNode) e. (e .0, tt)) (pendingIn s) pending-good);
+            };
+      }
+
+module _ (s : List ℕ) (l : length s ≡ bucketSize) (h : Bytes s) where
   pub pending-back : (p : ℕ → Bool) → pendingFormed p s ≡ true → pendingBytes (pendingIn s) ≡ part s pendingAt pendingSize
   unfolding pendingFormed
   pending-back p c =
@@ -80,126 +160,54 @@ module _ (s : List ℕ) (l : length s ≡ bucketSize) (h : Bytes s) where
         f,
         eqb-true x 1 f,
         part-append s (pendingAt + 1) nodeSize timeSize,
-        node-back w n (Bytes-part s (pendingAt + 1) nodeSize h) (pending-some p c f .2),
+        node-back w n (Bytes-part s (pendingAt + 1) nodeSize h) (pending-some s p c f .2),
         number-back s (pendingAt + 1 + nodeSize) timeSize (omega arith) h,
       ))
 
   module _ (p : ℕ → Bool) (m : ℕ) (c : bucketFormed p m s ≡ true) where
-    abbrev held : ℕ
-    held = getD s 0 0
+    abbrev count : ℕ
+    count = getD s 0 0
 
-    abbrev firstAt : ℕ
-    firstAt = getD s 1 0
+    ok : Checked p m s
+    ok = checked p m s c
 
-    passed : Checked p m s
-    passed = checked p m s c
+    within : (j : ℕ) → j < count → placeAt j + nodeSize ≤ length s
+    within j i = omega (arith, slot-before j count nodeSize i, ok .at-most)
 
-    within : (j : ℕ) → j < held → placeAt j + nodeSize ≤ length s
-    within j i = omega (arith, slot-before j held nodeSize i, passed .at-most)
-
-    place-length : (j : ℕ) → j < held → length (placeIn s j) ≡ nodeSize
+    place-length : (j : ℕ) → j < count → length (placeIn s j) ≡ nodeSize
     place-length j i = length-part s (placeAt j) nodeSize (within j i)
 
-    held-back : joined nodeBytes (nodesIn s) ≡ part s 2 (held * nodeSize)
+    held-back : joined nodeBytes (nodesIn s) ≡ part s 2 (count * nodeSize)
     unfolding nodesIn
     held-back =
-        joined-slots nodeBytes (λ j. nodeIn (placeIn s j)) s 2 nodeSize held
-        (λ j i. node-back (placeIn s j) (place-length j i) (Bytes-part s (placeAt j) nodeSize h) (passed .codes j i))
+        joined-slots nodeBytes (λ j. nodeIn (placeIn s j)) s 2 nodeSize count
+        (λ j i. node-back (placeIn s j) (place-length j i) (Bytes-part s (placeAt j) nodeSize h) (ok .codes j i))
 
     pub bucket-back : bucketBytes (bucketIn s) ≡ s
     unfolding bucketBytes
     bucket-back =
-        let u : ℕ = (maxNodesPerBucket - held) * nodeSize in
-        let a : held ≤ maxNodesPerBucket = passed .at-most in
-        let e : part s 2 (maxNodesPerBucket * nodeSize + pendingSize) ≡ part s 2 (held * nodeSize + (u + pendingSize)) = ap (part s 2) (omega arith) in
-        let b : placeAt held + u ≡ pendingAt = omega arith in
+        let u : ℕ = (maxNodesPerBucket - count) * nodeSize in
+        let a : count ≤ maxNodesPerBucket = ok .at-most in
+        let e : part s 2 (maxNodesPerBucket * nodeSize + pendingSize) ≡ part s 2 (count * nodeSize + (u + pendingSize)) = ap (part s 2) (omega arith) in
+        let b : placeAt count + u ≡ pendingAt = omega arith in
         rw (
           count-in s,
-          first-in s (passed .first),
+          first-in s (ok .first),
           nodes-in s,
           held-back,
           pending-of s,
-          pending-back p (passed .pending),
-          ← part-areZero s (placeAt held) u (omega arith) (passed .unused),
+          pending-back p (ok .pending),
+          ← part-areZero s (placeAt count) u (omega arith) (ok .unused),
         )
         (sym (sym (part-all s bucketSize (omega arith))
         ∙ rw (
           part-cons s 0 (1 + maxNodesPerBucket * nodeSize + pendingSize) (omega arith),
           part-cons s 1 (maxNodesPerBucket * nodeSize + pendingSize) (omega arith),
           e,
-          part-append s 2 (held * nodeSize) (u + pendingSize),
-          part-append s (placeAt held) u pendingSize,
+          part-append s 2 (count * nodeSize) (u + pendingSize),
+          part-append s (placeAt count) u pendingSize,
           b,
         )))
-
-    -- the node of place j
-    node-of : (j : ℕ) (d : Node) → j < held → getD (nodesIn s) j d ≡ nodeIn (placeIn s j)
-    unfolding nodesIn
-    node-of j d i = getD-tabulate held (λ x. nodeIn (placeIn s x)) j d i
-
-    differs : (j i : ℕ) → j < held → i < j → same (keyIn (placeIn s j)) (keyIn (placeIn s i)) ≡ false
-    unfolding notHeld
-    differs j i a b =
-        same-sym (keyIn (placeIn s j)) (keyIn (placeIn s i))
-        ∙ not-true (same (keyIn (placeIn s i)) (keyIn (placeIn s j))) (all-gives j (λ x. not (same (keyIn (placeIn s x)) (keyIn (placeIn s j)))) i b (passed .different j a))
-
-    disconnected-of : All (λ (x : Node). x .connected ≡ false) (bucketIn s .disconnected)
-    unfolding bucketIn nodeIn
-    disconnected-of =
-        all-by-getD _ (bucketIn s .disconnected) (nodeIn [])
-        (λ j i.
-        let b : j < firstAt = rw (first-in s (passed .first)) at i in
-        let a : j < held = omega (arith, passed .first) in
-        rw (getD-take firstAt (nodesIn s) j (nodeIn []) b, node-of j (nodeIn []) a, passed .states j a, lt-ltb j firstAt b))
-
-    connected-of : All (λ (x : Node). x .connected ≡ true) (bucketIn s .connected)
-    unfolding bucketIn nodeIn
-    connected-of =
-        all-by-getD _ (bucketIn s .connected) (nodeIn [])
-        (λ j i.
-        let a : firstAt + j < held = omega (arith, length-nodesIn s, length-drop firstAt (nodesIn s), i) in
-        rw (getD-drop firstAt (nodesIn s) j (nodeIn []), node-of (firstAt + j) (nodeIn []) a, passed .states (firstAt + j) a, le-ltb (firstAt + j) firstAt (omega arith)))
-
-    pending-good : Opt (λ (q : PendingNode). (p (q .node .key) ≡ true) × (holds (q .node .key) (bucketIn s) ≡ false)) (pendingIn s)
-    unfolding nodeIn nodesIn notHeld
-    pending-good =
-        cases (Opt (λ (q : PendingNode). (p (q .node .key) ≡ true) × (holds (q .node .key) (bucketIn s) ≡ false))) (eqb (getD s pendingAt 0) 1)
-        (λ e.
-        let key : ℕ = keyIn (part s (pendingAt + 1) nodeSize) in
-        let t = pending-some p (passed .pending) e in (
-          t .0,
-          none-holds key (bucketIn s)
-              (rw (nodes-in s)
-              (all-tabulate (λ (x : Node). same (x .key) key ≡ false) held (λ j. nodeIn (placeIn s j))
-              (λ j i. not-true (same (keyIn (placeIn s j)) key) (all-gives held (λ x. not (same (keyIn (placeIn s x)) key)) j i (t .1))))),
-        ))
-        (λ e. tt)
-
-    pub bucket-good : FormedBucket (λ (k : ℕ). p k ≡ true) m (bucketIn s)
-    unfolding nodesIn nodeIn
-    bucket-good =
-        record {
-          formed =
-              record {
-                at-most = rw (count-in s) (passed .at-most);
-                different =
-                    rw (nodes-in s)
-                    (Different-if (nodesIn s) (nodeIn [])
-                    (λ j a i b.
-                    let y : j < held = rw (length-nodesIn s) at a in
-                    let z : i < held = omega arith in
-                    rw (node-of j (nodeIn []) y, node-of i (nodeIn []) z) (differs j i y b)));
-                disconnected-first = disconnected-of;
-                then-connected = connected-of;
-                incoming-within = rw (nodes-in s) (passed .incoming-within);
-                pending-apart = rw (pending-of s) (opt-map _ _ (λ (q : PendingNode) e. e .1) (pendingIn s) pending-good);
-              };
-          of-index =
-              record {
-                held = rw (nodes-in s) (all-tabulate (λ (x : Node). p (x .key) ≡ true) held (λ j. nodeIn (placeIn s j)) (passed .of-index));
-                pending = rw (pending-of s) (opt-map _ _ (λ (q : PendingNode) e. (e .0, tt)) (pendingIn s) pending-good);
-              };
-        }
 
     pub bucket-fits : FitsBucket (bucketIn s)
     unfolding nodesIn
@@ -207,7 +215,7 @@ module _ (s : List ℕ) (l : length s ≡ bucketSize) (h : Bytes s) where
         record {
           held =
               rw (nodes-in s)
-              (all-tabulate FitsNode held (λ j. nodeIn (placeIn s j)) (λ j i. node-fits (placeIn s j) (place-length j i) (Bytes-part s (placeAt j) nodeSize h)));
+              (all-tabulate FitsNode count (λ j. nodeIn (placeIn s j)) (λ j i. node-fits (placeIn s j) (place-length j i) (Bytes-part s (placeAt j) nodeSize h)));
           pending =
               rw (pending-of s)
               (cases (Opt FitsPending) (eqb (getD s pendingAt 0) 1)

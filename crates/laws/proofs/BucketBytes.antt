@@ -110,3 +110,7 @@ bucket-there b l f =
 pub bucket-none : bucketIn [] ≡ emptyBucket
 unfolding bucketIn nodesIn tabulate
 bucket-none = refl
+
+pub bytes-empty : bucketBytes emptyBucket ≡ zeros bucketSize
+unfolding bucketBytes joined
+bytes-empty = refl

@@ -174,7 +174,7 @@ module _ (p : ℕ → Bool) (m : ℕ) (b : Bucket) (g : FormedBucket (λ (k : �
   unfolding notHeld
   not-held k key l h = all-if k _ (λ j i. rw (key-at j (omega arith), h j i))
 
-  state-at : (j : ℕ) → j < numEntries b → flagByte (place j .connected) ≡ stateAt (length (b .disconnected)) j
+  pub state-at : (j : ℕ) → j < numEntries b → flagByte (place j .connected) ≡ stateAt (length (b .disconnected)) j
   state-at j l = ⊎-elim before behind (lt-or-le j n)
     where
       n : ℕ

@@ -14,16 +14,16 @@ use Rattle.model.specs.Table.{Answer}
 use Rattle.model.specs.Call.{Call, KeyCall}
 use Rattle.model.specs.Question.{firstFailed, withRoom}
 use Rattle.model.specs.Layout.{tableOf}
-use Rattle.model.specs.StepBytes.{allQuestions, stepBytes}
-use Rattle.model.specs.Explain.{Explained, told, reason, explanation, line, explanationRoom, explainBytes}
+use Rattle.model.specs.StepBytes.{Replied, allQuestions, stepBytes}
+use Rattle.model.specs.Explain.{told, reason, explanation, line, explanationRoom, explainBytes}
 use Rattle.laws.proofs.Questions.{with-room, upToFive, short-of-room}
 
 -- the output with a line at its front, and the line's length
-abbrev pub saying : (line output : List ℕ) → Explained
+abbrev pub saying : (line output : List ℕ) → Replied
 saying l out = record { answer = Reply.Answered (length l); output = splice out 0 l }
 
 -- a refusal: the number alone, and the output as it was
-abbrev pub refusing : ℕ → (output : List ℕ) → Explained
+abbrev pub refusing : ℕ → (output : List ℕ) → Replied
 refusing q out = record { answer = Reply.Refused q; output = out }
 
 module _ (k : List ℕ) (c : KeyCall) (out s : List ℕ) where

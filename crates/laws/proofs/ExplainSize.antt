@@ -1,5 +1,5 @@
 -- The keys of an explanation are below 2 ^ 256, and its line fits the output that is asked for (02, slip 1).
-use Prim.Native.Nat.{ℕ, zero, suc, _+_, _*_, _≤_}
+use Prim.Native.Nat.{ℕ, suc, _+_, _*_, _≤_}
 use native.Mathlib.Omega.{arith}
 use mathlib.Core.Path.{_≡_, refl, ap, _∙_}
 use mathlib.Core.Bool.{Bool, true, false}
@@ -23,7 +23,7 @@ use Rattle.model.specs.Fits.{All, Opt, Each, Any, FitsNode, FitsPending, FitsBu
 use Rattle.model.specs.Explain.{Told, Reason, toldUpdate, toldInsertOrUpdate, toldInsert, told, keysOf, filterKeys, tableFilterReason, fullReason, insertReason, reinsertReason, ifPendingReason, statusReasonOf, statusReason, valueReasonOf, valueReason, thenStatusReason, updateNodeReason, insertOrUpdateReason, removeReason, bucketReason, keyReason, reason, explanation, space, lineFeed, digits, keyText, failureText, flagText, toldText, reasonText, reasonKeys, keysText, line, explanationRoom}
 use Rattle.laws.proofs.Tests.{clash, cases}
 use Rattle.laws.proofs.Lists.{length-joined}
-use Rattle.laws.proofs.All.{all-append, all-any, all-map, all-take, all-select, opt-map}
+use Rattle.laws.proofs.All.{all-any, all-map, all-take, all-select, all-held, opt-map}
 use Rattle.laws.proofs.Bytes.{length-bytes}
 use Rattle.laws.proofs.KeepLists.{all-omit}
 use Rattle.laws.proofs.KeepEach.{takeOut-each, applyPending-each, updateStatus-each, updateValue-each}
@@ -220,11 +220,6 @@ own-told (KeyCall.presentUpdate st dr) = tt
 own-told (KeyCall.pendingUpdate st dr) = tt
 own-told (KeyCall.absentInsert v st dr now) = tt
 
-held-fits : (n : ℕ) (bs : ℕ → Bucket) → ((i : ℕ) → KeysFit (bs i)) → All KeyFits (heldNodes n bs)
-unfolding heldNodes
-held-fits zero bs h = tt
-held-fits (suc n) bs h = all-append KeyFits (heldNodes n bs) (nodes (bs n)) (held-fits n bs h) (h n .held)
-
 module _ (t : Table) (fits : Fits t) where
   stored-keys : (i : ℕ) → KeysFit (t .buckets i)
   stored-keys i = keys-fit (t .buckets i) (fits .buckets i)
@@ -235,7 +230,7 @@ module _ (t : Table) (fits : Fits t) where
   table-fits : (k : ℕ) (v : Value) → Fit (tableFilterReason k v (t .buckets))
   table-fits k v =
       filter-fits maxNodesPerSubnetTable v (otherNodes k (t .buckets))
-      (all-omit KeyFits k (heldNodes numBuckets (t .buckets)) (held-fits numBuckets (t .buckets) stored-keys))
+      (all-omit KeyFits k (heldNodes numBuckets (t .buckets)) (all-held KeyFits numBuckets (t .buckets) (λ i l. stored-keys i .held)))
 
   reason-at : (c : KeyCall) (k : List ℕ) (i : ℕ) → Fit (bucketReason c k t i)
   reason-at (KeyCall.updateNodeStatus st dr now) k i =

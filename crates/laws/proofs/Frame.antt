@@ -20,11 +20,13 @@ use Rattle.laws.proofs.Tests.{clash}
 abbrev pub Untouched : ℕ → List ℕ → Type 0
 Untouched i = All (λ (j : ℕ). same i j ≡ false)
 
-abbrev pub isNew : Call → Bool
-isNew (Call.new k timeout m tf bf) = true
-isNew (Call.onKey k c) = false
-isNew (Call.list l n now out) = false
-isNew Call.takeAppliedPending = false
+-- it writes every bucket
+abbrev pub touchesAll : Call → Bool
+touchesAll (Call.new k timeout m tf bf) = true
+touchesAll (Call.onKey k c) = false
+touchesAll (Call.list l n now out) = false
+touchesAll Call.takeAppliedPending = false
+touchesAll (Call.read bs) = true
 
 pub write-other : (t : Table) (i j : ℕ) (b : Bucket) (rs : List EndedPending) → same i j ≡ false → write t j b rs .buckets i ≡ t .buckets i
 write-other t i j b rs e = ap (λ (q : Bool). cond q b (t .buckets i)) e
@@ -47,9 +49,10 @@ pub takeOldest-buckets : (t : Table) (q : List EndedPending) → takeOldest t q 
 takeOldest-buckets t [] = refl
 takeOldest-buckets t (a ∷ q) = refl
 
-pub act-frame : (c : Call) (t : Table) (i : ℕ) → isNew c ≡ false → Untouched i (touched c t) → act c t .table .buckets i ≡ t .buckets i
+pub act-frame : (c : Call) (t : Table) (i : ℕ) → touchesAll c ≡ false → Untouched i (touched c t) → act c t .table .buckets i ≡ t .buckets i
 unfolding act
 act-frame (Call.new k timeout m tf bf) t i n h = clash refl n
 act-frame (Call.onKey k c) t i n h = onKey-other t _ _ (indexIn t (number k)) i h
 act-frame (Call.list l n now out) t i m h = applyAll-other now i (applies l n now t) t h
+act-frame (Call.read bs) t i n h = clash refl n
 act-frame Call.takeAppliedPending t i n h = ap (λ (bs : ℕ → Bucket). bs i) (takeOldest-buckets t (t .queue))

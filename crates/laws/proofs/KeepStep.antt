@@ -22,13 +22,14 @@ use Rattle.model.specs.Sizes.{keySize, timeSize}
 use Rattle.model.specs.Call.{ValueArgument, Call, KeyCall, isOne, optional, valueOf}
 use Rattle.model.specs.Listing.{applyAll, applies}
 use Rattle.model.specs.Question.{firstFailed, keysFit, codesInRange, clockFits}
-use Rattle.model.specs.Step.{Outcome, unchanged, onKey, nodeOf, effect, settingsOf, takeOldest, act, queueFits, questions, unlessRefused, step}
+use Rattle.model.specs.Step.{Outcome, unchanged, onKey, nodeOf, effect, settingsOf, takeOldest, act, queueFits, bytesFit, questions, unlessRefused, step}
 use Rattle.model.specs.Fits.{All, Opt, WellFormed, FitsAddress, FitsValue, FitsNode, FitsDeadline, FitsRecord, FitsBucket, FitsSettings, Fits, FitsArgument, FitsCall}
 use Rattle.laws.proofs.Tests.{same-true, clash, cases, and-left}
 use Rattle.laws.proofs.Questions.{accepted}
 use Rattle.laws.proofs.KeepEach.{insert-each, applyPending-each, updateStatus-each, updateValue-each, updatePending-each, remove-each}
 use Rattle.laws.proofs.Keep.{empty-well-formed, insert-well-formed, applyPending-well-formed, updateStatus-well-formed, updateValue-well-formed, updatePending-well-formed, remove-well-formed, empty-fits, records-fit, statusEndings-fit, insertEndings-fit, withStatus-fits, withValue-fits}
 use Rattle.laws.proofs.All.{all-append}
+use Rattle.laws.proofs.Loaded.{loads, loaded-past, loaded-fits, loaded-well-formed}
 
 -- the bucket index is 0 to 255
 pub bucketIndex-below : (local key i : ℕ) → bucketIndex local key ≡ some i → i < numBuckets
@@ -243,14 +244,24 @@ effect-fits (KeyCall.absentInsert v st dr now) k t i b c e d q h = (
 )
 
 -- the call's work, with an endless queue
-pub act-fits : (c : Call) (t : Table) → FitsCall c → keysFit c ≡ true → codesInRange c ≡ true → clockFits c t ≡ true → FitsEndless t → FitsEndless (act c t .table)
+pub act-fits : (c : Call) (t : Table) → FitsCall c → keysFit c ≡ true → codesInRange c ≡ true → clockFits c t ≡ true → bytesFit c t ≡ true → FitsEndless t
+    → FitsEndless (act c t .table)
 unfolding act
-act-fits (Call.new k timeout m tf bf) t c e r d h = new-endless (settingsOf (number k) timeout m tf bf) (new-settings-fit k timeout m tf bf c e r)
-act-fits (Call.onKey k x) t c e r d h =
+act-fits (Call.new k timeout m tf bf) t c e r d b h = new-endless (settingsOf (number k) timeout m tf bf) (new-settings-fit k timeout m tf bf c e r)
+act-fits (Call.onKey k x) t c e r d b h =
     onKey-fits t _ _ (indexIn t (number k)) (bucketIndex-below (t .settings .localKey) (number k)) h
     (λ i q. effect-fits x k t i (t .buckets i) c e d q (record { fits = h .buckets i; formed = h .well-formed i }))
-act-fits (Call.list l n now out) t c e r d h = applyAll-fits now (applies l n now t) t h
-act-fits Call.takeAppliedPending t c e r d h = takeOldest-fits t (t .queue) (h .records) h
+act-fits (Call.list l n now out) t c e r d b h = applyAll-fits now (applies l n now t) t h
+act-fits Call.takeAppliedPending t c e r d b h = takeOldest-fits t (t .queue) (h .records) h
+act-fits (Call.read bs) t c e r d b h =
+    let g = loads bs t b in
+    record {
+      settings = h .settings;
+      buckets = loaded-fits bs t g c;
+      well-formed = loaded-well-formed bs t g;
+      past = loaded-past bs;
+      records = h .records;
+    }
 
 queue-within : (c : Call) (t : Table) → queueFits c t ≡ true → length (act c t .table .queue) ≤ maxRecords
 unfolding queueFits
@@ -285,4 +296,4 @@ step-fits c t f h = answered (firstFailed (questions c t)) refl
     answered (some n) e = h
     answered none e =
         let a = accepted c t e in
-        with-queue (act c t .table) (act-fits c t f (a .keys) (a .codes) (a .clock) (endless t h)) (queue-within c t (a .queue))
+        with-queue (act c t .table) (act-fits c t f (a .keys) (a .codes) (a .clock) (a .bytes) (endless t h)) (queue-within c t (a .queue))

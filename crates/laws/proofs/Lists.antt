@@ -1,10 +1,10 @@
 -- Laws of lists by index: `tabulate`, `joined`, `allBelow` and `All`.
-use mathlib.Core.Path.{_≡_, refl, sym, ap, _∙_}
+use mathlib.Core.Path.{_≡_, refl, sym, ap, ap₂, _∙_}
 use mathlib.Core.Bool.{Bool, true, false, _&&_, and-false, and-assoc}
 use mathlib.Core.List.{List, [], _∷_, _++_, map, map-append, append-assoc, append-nil}
 use mathlib.Core.Logic.{_⊎_, ⊎-elim, inl, inr}
 use Prim.Native.Nat.{ℕ, zero, suc, _+_, _*_, _≤_, _<_}
-use native.Mathlib.Nat.{not-suc-le-zero, eq-or-lt-of-le}
+use native.Mathlib.Nat.{add-zero, add-suc, not-suc-le-zero, eq-or-lt-of-le}
 use native.Mathlib.Numerals.{add-one}
 use native.Mathlib.Decide.{decLt}
 use native.Mathlib.Omega.{arith}
@@ -45,6 +45,12 @@ length-tabulate (suc k) f = rw (length-append, length-tabulate k f, add-one)
 pub tabulate-one-more : {A : Type 0} (k : ℕ) (f : ℕ → A) → tabulate (k + 1) f ≡ tabulate k f ++ (f k ∷ [])
 unfolding tabulate
 tabulate-one-more k f = rw add-one
+
+-- a list by index, cut
+pub tabulate-append : {A : Type 0} (m n : ℕ) (f : ℕ → A) → tabulate (m + n) f ≡ tabulate m f ++ tabulate n (λ i. f (m + i))
+unfolding tabulate
+tabulate-append m zero f = rw add-zero (sym (append-nil (tabulate m f)))
+tabulate-append m (suc n) f = rw (add-suc, tabulate-append m n f) (append-assoc (tabulate m f) (tabulate n (λ i. f (m + i))) (f (m + n) ∷ []))
 
 pub tabulate-ext : {A : Type 0} (k : ℕ) (f g : ℕ → A) → ((i : ℕ) → i < k → f i ≡ g i) → tabulate k f ≡ tabulate k g
 unfolding tabulate
@@ -98,6 +104,16 @@ pub joined-map : {A B C : Type 0} (f : B → List C) (g : A → B) (l : List A) 
 unfolding joined
 joined-map f g [] = refl
 joined-map {C = C} f g (a ∷ l) = ap (λ (r : List C). f (g a) ++ r) (joined-map f g l)
+
+-- joined by index, each part known
+pub joined-tabulate : {A B C : Type 0} (f : A → List C) (g : B → List C) (k : ℕ) (a : ℕ → A) (b : ℕ → B) → ((i : ℕ) → i < k → f (a i) ≡ g (b i))
+    → joined f (tabulate k a) ≡ joined g (tabulate k b)
+unfolding joined tabulate
+joined-tabulate f g zero a b h = refl
+joined-tabulate f g (suc k) a b h =
+    joined-snoc f (tabulate k a) (a k)
+    ∙ ap₂ (λ x y. x ++ y) (joined-tabulate f g k a b (λ i l. h i (omega arith))) (h k (omega arith))
+    ∙ sym (joined-snoc g (tabulate k b) (b k))
 
 pub length-joined : {A B : Type 0} (f : A → List B) (w : ℕ) (xs : List A) → All (λ (x : A). length (f x) ≡ w) xs → length (joined f xs) ≡ length xs * w
 unfolding joined

@@ -73,6 +73,23 @@ splice-append s at a b h =
     )
     (simp append-assoc)
 
+-- bytes written over others, at least as many
+pub splice-over : (s : List ℕ) (at : ℕ) (a b : List ℕ) → length a ≤ length b → at + length b ≤ length s → splice (splice s at a) at b ≡ splice s at b
+unfolding splice
+splice-over s at a b h l =
+    let d : List ℕ = drop (at + length a) s in
+    let n : length (take at s) ≡ at = rw length-take (omega arith) in
+    let m : at + length b ≡ at + length a + (length b - length a) = omega arith in
+    let k : length (take at s ++ a) ≡ at + length a = simp length-append (omega arith) in
+    let e : drop (at + length b) (take at s ++ (a ++ d)) ≡ drop (at + length b) s =
+    ap (λ (r : List ℕ). drop (at + length b) r) (sym (append-assoc (take at s) a d))
+    ∙ ap (λ (i : ℕ). drop i ((take at s ++ a) ++ d)) m
+    ∙ sym (drop-drop (length b - length a) (at + length a) ((take at s ++ a) ++ d))
+    ∙ ap (drop (length b - length a)) (drop-at (take at s ++ a) d (at + length a) k)
+    ∙ drop-drop (length b - length a) (at + length a) s
+    ∙ ap (λ (i : ℕ). drop i s) (sym m) in
+    rw (take-at (take at s) (a ++ d) at n, e)
+
 pub set-splice : (s : List ℕ) (at b : ℕ) → at < length s → set s at b ≡ splice s at (b ∷ [])
 unfolding splice
 set-splice s at b h = rw (add-one, set-split)

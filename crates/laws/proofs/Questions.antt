@@ -12,7 +12,7 @@ use Rattle.model.specs.Table.{Table}
 use Rattle.model.specs.Sizes.{storageSize}
 use Rattle.model.specs.Call.{Call}
 use Rattle.model.specs.Question.{firstFailed, withRoom, keysFit, codesInRange, clockFits, outputFits, kindFits}
-use Rattle.model.specs.Step.{queueFits, late, questions}
+use Rattle.model.specs.Step.{queueFits, bytesFit, late, questions}
 use Rattle.model.specs.Layout.{tableOf}
 use Rattle.model.specs.StepBytes.{holdsTable, allQuestions}
 use Rattle.laws.proofs.Tests.{split, clash, and-left}
@@ -66,6 +66,7 @@ pub record Accepted (c : Call) (t : Table) : Type 0 where
   pub output : outputFits c ≡ true
   pub kind : kindFits c t ≡ true
   pub queue : queueFits c t ≡ true
+  pub bytes : bytesFit c t ≡ true
 
 pub accepted : (c : Call) (t : Table) → firstFailed (questions c t) ≡ none → Accepted c t
 accepted c t e =
@@ -73,9 +74,10 @@ accepted c t e =
     let q4 = passed 4 (codesInRange c) ((5, clockFits c t) ∷ (6, outputFits c) ∷ late c t) (q3 .1) in
     let q5 = passed 5 (clockFits c t) ((6, outputFits c) ∷ late c t) (q4 .1) in
     let q6 = passed 6 (outputFits c) (late c t) (q5 .1) in
-    let q7 = passed 7 (kindFits c t) ((8, queueFits c t) ∷ []) (q6 .1) in
-    let q8 = passed 8 (queueFits c t) [] (q7 .1) in
-    record { keys = q3 .0; codes = q4 .0; clock = q5 .0; output = q6 .0; kind = q7 .0; queue = q8 .0 }
+    let q7 = passed 7 (kindFits c t) ((8, queueFits c t) ∷ (9, bytesFit c t) ∷ []) (q6 .1) in
+    let q8 = passed 8 (queueFits c t) ((9, bytesFit c t) ∷ []) (q7 .1) in
+    let q9 = passed 9 (bytesFit c t) [] (q8 .1) in
+    record { keys = q3 .0; codes = q4 .0; clock = q5 .0; output = q6 .0; kind = q7 .0; queue = q8 .0; bytes = q9 .0 }
 
 -- the same, on bytes
 pub record AcceptedBytes (c : Call) (s : List ℕ) : Type 0 where
@@ -107,6 +109,6 @@ upToFive c s =
 -- without it the first of those that fails, else 6
 pub short-of-room : (c : Call) (s : List ℕ) (o : Option ℕ) → firstFailed (upToFive c s) ≡ o → firstFailed (withRoom false (allQuestions c s)) ≡ some (given o 6)
 short-of-room c s (some n) e =
-    front-fails (upToFive c s) ((6, outputFits c && false) ∷ (7, kindFits c (tableOf s)) ∷ (8, queueFits c (tableOf s)) ∷ []) n e
+    front-fails (upToFive c s) ((6, outputFits c && false) ∷ late c (tableOf s)) n e
 short-of-room c s none e =
-    front-passes (upToFive c s) ((6, outputFits c && false) ∷ (7, kindFits c (tableOf s)) ∷ (8, queueFits c (tableOf s)) ∷ []) e ∙ (rw and-false)
+    front-passes (upToFive c s) ((6, outputFits c && false) ∷ late c (tableOf s)) e ∙ (rw and-false)

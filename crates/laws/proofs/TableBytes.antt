@@ -40,7 +40,7 @@ index-at none i h = clash h refl
 index-at (some j) i h = ap some (same-true j i h)
 
 -- the keys' index, by another property
-formed-map : (P Q : ℕ → Type 0) (m : ℕ) (b : Bucket) → ((k : ℕ) → P k → Q k) → FormedBucket P m b → FormedBucket Q m b
+pub formed-map : (P Q : ℕ → Type 0) (m : ℕ) (b : Bucket) → ((k : ℕ) → P k → Q k) → FormedBucket P m b → FormedBucket Q m b
 formed-map P Q m b f w =
     record {
       formed = w .formed;
@@ -143,7 +143,7 @@ module _ (s : List ℕ) (h : Bytes s) (l : length s ≡ storageSize) where
 
     pub well-formed-at : WellFormed (tableOf s .settings) i (tableOf s .buckets i)
     unfolding tableOf settingsIn
-    well-formed-at = formed-map _ _ _ _ (λ k e. index-at (bucketIndex (keyIn s) k) i e) (bucket-good (bucketPart s i) (part-length i m) (part-bytes i) _ _ p)
+    well-formed-at = formed-map _ _ _ _ (λ k e. index-at (bucketIndex (keyIn s) k) i e) (bucket-good (bucketPart s i) _ _ p)
 
   empty-past : (i : ℕ) → numBuckets ≤ i → tableOf s .buckets i ≡ emptyBucket
   unfolding tableOf

@@ -20,7 +20,7 @@ use Rattle.model.specs.Fits.{Fits, FitsCall}
 use Rattle.laws.proofs.Tests.{clash, split, or-second}
 use Rattle.laws.proofs.Questions.{first-two, accepted-bytes}
 use Rattle.laws.proofs.KeepStep.{step-accepted, step-refused, step-fits, new-fits}
-use Rattle.laws.proofs.Frame.{isNew, act-frame}
+use Rattle.laws.proofs.Frame.{touchesAll, act-frame}
 use Rattle.laws.proofs.Touched.{touched-below}
 use Rattle.laws.proofs.TableBytes.{length-bytesOf, table-there, formed-there}
 use Rattle.laws.proofs.Restore.{restore-is, restore-all}
@@ -32,15 +32,16 @@ pub record Same (o : BytesOutcome) (p : Outcome) : Type 0 where
   pub records : o .records ≡ p .records
 
 -- the storage that an accepted call leaves
-new-storage : (c : Call) (t t′ : Table) (s : List ℕ) → length s ≡ storageSize → Fits t′ → isNew c ≡ true → restore s (touched c t) t′ ≡ bytesOf t′
-new-storage (Call.new k timeout m tf bf) t t′ s l g n = restore-all s l t′ g
-new-storage (Call.onKey k c) t t′ s l g n = clash n refl
-new-storage (Call.list l n now out) t t′ s e g m = clash m refl
-new-storage Call.takeAppliedPending t t′ s l g n = clash n refl
+all-storage : (c : Call) (t t′ : Table) (s : List ℕ) → length s ≡ storageSize → Fits t′ → touchesAll c ≡ true → restore s (touched c t) t′ ≡ bytesOf t′
+all-storage (Call.new k timeout m tf bf) t t′ s l g n = restore-all s l t′ g
+all-storage (Call.onKey k c) t t′ s l g n = clash n refl
+all-storage (Call.list l n now out) t t′ s e g m = clash m refl
+all-storage Call.takeAppliedPending t t′ s l g n = clash n refl
+all-storage (Call.read bs) t t′ s l g n = restore-all s l t′ g
 
 act-storage : (c : Call) (t : Table) → Fits t → Fits (act c t .table) → restore (bytesOf t) (touched c t) (act c t .table) ≡ bytesOf (act c t .table)
 act-storage c t f g =
-    split (isNew c) (λ n. new-storage c t (act c t .table) (bytesOf t) (length-bytesOf t f) g n)
+    split (touchesAll c) (λ n. all-storage c t (act c t .table) (bytesOf t) (length-bytesOf t f) g n)
     (λ n. restore-is t (act c t .table) f g (touched c t) (touched-below c t) (λ i m h. sym (act-frame c t i n h)))
 
 -- every call

@@ -80,3 +80,4 @@ touched-below (Call.new k timeout m tf bf) t = all-tabulate (λ (i : ℕ). i < n
 touched-below (Call.onKey k c) t = key-below k t
 touched-below (Call.list l n now out) t = applies-below l n now t
 touched-below Call.takeAppliedPending t = tt
+touched-below (Call.read bs) t = all-tabulate (λ (i : ℕ). i < numBuckets) numBuckets (λ i. i) (λ i m. m)

@@ -15,6 +15,7 @@ use Rattle.model.specs.Table.{Settings, Answer}
 use Rattle.model.specs.Call.{Call, KeyCall, isOne, optional, valueOf}
 use Rattle.model.specs.Step.{settingsOf}
 use Rattle.model.specs.Formed.{isAt}
+use Rattle.model.specs.Saved.{loadedNodes}
 
 -- what the log is fed of one call
 pub record Entry : Type 0 where
@@ -51,6 +52,7 @@ verdict (Answer.Remove r) = says false false r false
 verdict (Answer.Entry k) = says false false false false
 verdict (Answer.Found n) = says false false false false
 verdict (Answer.TakeAppliedPending r) = says false false false false
+verdict (Answer.Read n) = says false false false false
 
 abbrev pub isRefused : Answer → Bool
 isRefused a = verdict a .refused
@@ -75,10 +77,11 @@ pub record Naming : Type 0 where
   pub incoming : Option Bool
   pub value : Option Value
 
--- What a call has to do with the log: it names a key; or it is `new`; or it names no key.
+-- What a call has to do with the log: it names a key; or it is `new`; or it loads nodes (02, slip 6); or it names no key.
 pub data Role : Type 0 where
   names : (key : ℕ) → Naming → Role
   empties : Settings → Role
+  loads : List Node → Role
   silent : Role
 
 abbrev pub gives : (statusStep : Bool) (connected incoming : Option Bool) (value : Option Value) → Naming
@@ -100,6 +103,7 @@ role (Call.new k timeout m tf bf) = Role.empties (settingsOf (number k) timeout 
 role (Call.onKey k c) = Role.names (number k) (naming c)
 role (Call.list l n now out) = Role.silent
 role Call.takeAppliedPending = Role.silent
+role (Call.read bs) = Role.loads (loadedNodes bs)
 
 -- Events, newest first.
 pub data Event : Type 0 where
@@ -130,12 +134,18 @@ abbrev pub recordEvents : List EndedPending → List Event → List Event
 recordEvents [] es = es
 recordEvents (r ∷ rs) es = recordEvents rs (endingEvents (r .key) (r .ending) es)
 
+-- 02, slip 6: loaded nodes count as placed in the order read
+abbrev pub loadEvents : List Node → List Event → List Event
+loadEvents [] es = es
+loadEvents (n ∷ ns) es = loadEvents ns (Event.placement (n .key) ∷ es)
+
 -- Then come the call's own. Placement: Inserted; on a held key (held after the records: docs/DECISIONS.md, 10), a status step in a call
 -- that does not answer Failed.
 abbrev pub ownEvents : Role → Answer → List Event → List Event
 ownEvents (Role.names k n) a es =
     cond (departs a) (Event.departure k ∷ es) (cond (answersInserted a || (n .statusStep && heldNow k es)) (Event.placement k ∷ es) es)
 ownEvents (Role.empties s) a es = []
+ownEvents (Role.loads ns) a es = loadEvents ns es
 ownEvents Role.silent a es = es
 
 -- The log starts empty; a further accepted `new` empties it; a refused call enters nothing. A history is the entries, newest first.
@@ -143,11 +153,20 @@ abbrev pub events : List Entry → List Event
 events [] = []
 events (e ∷ h) = cond (isRefused (e .answer)) (events h) (ownEvents (role (e .call)) (e .answer) (recordEvents (e .records) (events h)))
 
+-- 02, slip 6: loaded nodes count as given the state, direction and value read
+abbrev pub givenOf : Node → Naming
+givenOf n = gives false (some (n .connected)) (some (n .incoming)) (some (n .value))
+
+abbrev pub loadGiven : {A : Type 0} → (Naming → Option A) → List Node → ℕ → A → A
+loadGiven pick [] x before = before
+loadGiven pick (n ∷ ns) x before = loadGiven pick ns x (cond (same x (n .key)) (given (pick (givenOf n)) before) before)
+
 -- The last given in a call that names the key and is neither refused nor answered Failed. `pick` takes the state, the direction or
 -- the value of what a call gives.
 abbrev pub nowGiven : {A : Type 0} → (Naming → Option A) → A → Role → Answer → ℕ → A → A
 nowGiven pick first (Role.names k n) a x before = cond (answersFailed a) before (cond (same x k) (given (pick n) before) before)
 nowGiven pick first (Role.empties s) a x before = first
+nowGiven pick first (Role.loads ns) a x before = loadGiven pick ns x before
 nowGiven pick first Role.silent a x before = before
 
 abbrev pub lastGiven : {A : Type 0} → (Naming → Option A) → A → ℕ → List Entry → A
@@ -159,6 +178,7 @@ lastGiven pick first x (e ∷ h) =
 abbrev pub nowSettings : Role → Settings → Settings
 nowSettings (Role.names k n) before = before
 nowSettings (Role.empties s) before = s
+nowSettings (Role.loads ns) before = before
 nowSettings Role.silent before = before
 
 abbrev pub lastSettings : Settings → List Entry → Settings

@@ -46,11 +46,13 @@ pendingAnswer (Answer.Remove r) = 0
 pendingAnswer (Answer.Entry k) = 0
 pendingAnswer (Answer.Found n) = 0
 pendingAnswer (Answer.TakeAppliedPending r) = 0
+pendingAnswer (Answer.Read n) = 0
 
 -- A count since the table was made: an accepted `new` starts it again, a refused call adds nothing. A history is the entries, newest first.
 abbrev pub sinceMade : Role → (added before : ℕ) → ℕ
 sinceMade (Role.names k n) added before = before + added
 sinceMade (Role.empties s) added before = 0
+sinceMade (Role.loads ns) added before = before + added
 sinceMade Role.silent added before = before + added
 
 abbrev pub countOf : (Entry → ℕ) → List Entry → ℕ
@@ -99,6 +101,7 @@ appliedBy (Call.new k timeout m tf bf) t = []
 appliedBy (Call.onKey k c) t = cond (appliesDue c) (bucketOfKey k t) []
 appliedBy (Call.list l n now out) t = applies l n now t
 appliedBy Call.takeAppliedPending t = []
+appliedBy (Call.read bs) t = []
 
 abbrev pub isDue : Option ℕ → PendingNode → Bool
 isDue none p = false
@@ -123,6 +126,7 @@ lists (Call.new k timeout m tf bf) = false
 lists (Call.onKey k c) = false
 lists (Call.list l n now out) = true
 lists Call.takeAppliedPending = false
+lists (Call.read bs) = false
 
 -- no call but a listing leaves more than one record
 abbrev pub oneRecord : Call → List EndedPending → Bool

@@ -1,5 +1,6 @@
--- Two lists of calls on which table and log are compared by computing. The first fills bucket 5 (keys 32 to 63), evicts, fails, is refused,
--- and changes state, direction and value of held and of pending nodes. The second has each of the six endings of a pending (02, slip 4).
+-- Lists of calls on which table and log are compared by computing. The first fills bucket 5 (keys 32 to 63), evicts, fails, is refused,
+-- and changes state, direction and value of held and of pending nodes. The second has each of the six endings of a pending (02, slip 4). In
+-- the third, nodes are loaded (02, slip 6).
 use Prim.Native.Nat.{ℕ, _+_, _*_, _^_}
 use mathlib.Core.Bool.{Bool, true, _&&_, _||_}
 use mathlib.Core.List.{List, [], _∷_, _++_, map, reverse}
@@ -13,7 +14,8 @@ use Rattle.model.specs.Bucket.{nodes}
 use Rattle.model.specs.Table.{Table, EntryKind, Answer}
 use Rattle.model.specs.Sizes.{nodeSize}
 use Rattle.model.specs.Call.{ValueArgument, Listing, Call, KeyCall}
-use Rattle.model.specs.Step.{nodeOf, step}
+use Rattle.model.specs.Saved.{saved}
+use Rattle.model.specs.Step.{nodeOf, act, step}
 use Rattle.model.specs.Numbers.{sameNumbers, nodeNumbers, settingsNumbers, answerNumbers}
 use Rattle.model.specs.Rows.{noTable, key, plain, addressed, from}
 use Rattle.log.specs.Log.{Entry, Log, isRefused, logOf, logBucket}
@@ -123,14 +125,37 @@ endings =
 abbrev pub newAgain : List (Call × Answer)
 newAgain = (Call.new (key 0) 10 1 0 1, Answer.New) ∷ []
 
+-- Two buckets of the old box: in each a greater key stands before a smaller one.
+abbrev pub oldBox : List (Call × Answer)
+oldBox =
+    (Call.new (key 0) 60000 1 0 1, Answer.New)
+    ∷ inserted 0 33
+    ∷ inserted 1 35
+    ∷ inserted 0 32
+    ∷ (Call.onKey (key 34) (KeyCall.insertOrUpdate (addressed 1 34) 1 1 0), Answer.InsertOrUpdate InsertResult.Inserted)
+    ∷ inserted 1 65
+    ∷ inserted 1 64
+    ∷ []
+
+-- Calls on the new one: 33 moves behind 32; 34 disconnects and moves behind 33; 36 comes; 64 departs.
+abbrev pub newBox : List (Call × Answer)
+newBox =
+    (Call.onKey (key 33) (KeyCall.updateNodeStatus 0 2 1), Answer.Update UpdateResult.NotModified)
+    ∷ (Call.onKey (key 34) (KeyCall.updateNodeStatus 0 2 2), Answer.Update UpdateResult.Updated)
+    ∷ inserted 1 36
+    ∷ (Call.onKey (key 64) (KeyCall.remove 3), Answer.Remove true)
+    ∷ []
+
 abbrev pub calls : List (Call × Answer) → List Call
 calls cs = map (λ (c : Call × Answer). c .0) cs
 
 -- the calls answer what stands beside them
+abbrev pub answersOn : Table → List (Call × Answer) → Bool
+answersOn t cs =
+    sameNumbers (joined (λ (e : Entry). answerNumbers (e .answer)) (entries (calls cs) t)) (joined (λ (c : Call × Answer). answerNumbers (c .1)) cs)
+
 unfoldable pub answersHold : List (Call × Answer) → Bool
-answersHold cs =
-    sameNumbers (joined (λ (e : Entry). answerNumbers (e .answer)) (entries (calls cs) noTable))
-    (joined (λ (c : Call × Answer). answerNumbers (c .1)) cs)
+answersHold cs = answersOn noTable cs
 
 -- bucket i of the table and of the log: keys, states, directions and values, place by place
 abbrev pub sameBucket : Table → Log → ℕ → Bool
@@ -155,6 +180,16 @@ endAgrees is cs = agreesAfter is (calls cs)
 -- and after each
 unfoldable pub logAgrees : List ℕ → List (Call × Answer) → Bool
 logAgrees is cs = every (agreesAfter is) (beginnings (calls cs))
+
+-- After `new`, a read of the old box's nodes and calls on them. The read is `act`'s: that it is accepted is a law (crates/laws, Saved).
+unfoldable pub swapAgrees : List ℕ → List (Call × Answer) → Bool
+swapAgrees is cs =
+    let made : Call = Call.new (key 0) 60000 1 0 1 in
+    let load : Call = Call.read (saved (tableAfter (calls oldBox) noTable)) in
+    let o = act load (step made noTable .table) in
+    let h : List Entry = record { call = load; answer = o .answer; records = o .records } ∷ entries (made ∷ []) noTable in
+    let l : Log = logOf (reverse (entries (calls cs) (o .table)) ++ h) in
+    answersOn noTable oldBox && (answersOn (o .table) cs && every (sameBucket (tableAfter (calls cs) (o .table)) l) is)
 
 -- Pendings: the counts after each call, a due pending of a bucket that the call applies, one record. h: the entries so far, newest first
 abbrev pub pendingsAfter : List Call → List Entry → Table → Bool

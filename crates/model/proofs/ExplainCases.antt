@@ -14,8 +14,8 @@ use Rattle.model.specs.Step.{act, queueFits, step}
 use Rattle.model.specs.Formed.{headerFormed, formed}
 use Rattle.model.specs.Explain.{filterKeys, insertReason, reinsertReason, statusReason, valueReason, updateNodeReason, insertOrUpdateReason, removeReason, reason, explanation, keyText, keysText, line, explainBytes}
 use Rattle.model.specs.ExplainCases.{holds, explainCases}
-use Rattle.model.proofs.Rows.{rows-hold}
+use Rattle.model.proofs.SavedCases.{saved-cases-hold}
 
 pub explain-cases-hold : every holds explainCases ≡ true
 unfolding leadingZeros same joined number bytes splice log2Distance bucketIndex sameNet sameValue counts ipFilterFails isFull failsBucketFilter isMaxIncoming insert applyDue applyPending reinsert updateStatus updateValue updatePending remove heldNodes failsTableFilter keysFit codesInRange clockFits outputFits kindFits act queueFits step headerFormed formed filterKeys insertReason reinsertReason statusReason valueReason updateNodeReason insertOrUpdateReason removeReason reason explanation keyText keysText line explainBytes explainCases
-explain-cases-hold = let earlier = rows-hold in refl
+explain-cases-hold = let earlier = saved-cases-hold in refl

@@ -1,4 +1,5 @@
 -- Computed facts of the definitions, in the order in which they are computed.
 pub mod Rows
+pub mod SavedCases
 pub mod ExplainCases
 pub mod Cases

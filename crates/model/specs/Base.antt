@@ -1,6 +1,6 @@
 -- Tests and lists that the definitions share.
 use Prim.Native.Nat.{ℕ, zero, suc}
-use mathlib.Core.Bool.{Bool, true, false, cond, _&&_}
+use mathlib.Core.Bool.{Bool, true, false, cond, _&&_, _||_}
 use mathlib.Core.List.{List, [], _∷_, _++_}
 use mathlib.Core.Option.{Option, none, some}
 use lib.Dec.{eqb}
@@ -22,6 +22,11 @@ select p (x ∷ xs) = cond (p x) (x ∷ select p xs) (select p xs)
 abbrev pub every : {A : Type 0} → (A → Bool) → List A → Bool
 every p [] = true
 every p (x ∷ xs) = p x && every p xs
+
+-- some element passes a test
+abbrev pub anyOf : {A : Type 0} → (A → Bool) → List A → Bool
+anyOf p [] = false
+anyOf p (x ∷ xs) = p x || anyOf p xs
 
 -- the first of a list, if it has one
 abbrev pub first : {A : Type 0} → List A → Option A

@@ -43,12 +43,13 @@ pub data KeyCall : Type 0 where
   pendingUpdate : (state direction : ℕ) → KeyCall
   absentInsert : (value : ValueArgument) (state direction now : ℕ) → KeyCall
 
--- `list` is any of the five listings; n is its count
+-- `list` is any of the five listings; n is its count. `read` loads what the writer puts out (02, slip 6).
 pub data Call : Type 0 where
   new : (localKey : List ℕ) (pendingTimeout maxIncoming tableFilter bucketFilter : ℕ) → Call
   onKey : (key : List ℕ) (call : KeyCall) → Call
   list : (listing : Listing) (n now : ℕ) (output : List ℕ) → Call
   takeAppliedPending : Call
+  read : (bytes : List ℕ) → Call
 
 -- 01, question 4: state 0 disconnected or 1 connected; direction 0 outgoing or 1 incoming; a flag or a filter 0 or 1
 abbrev pub isOne : ℕ → Bool

@@ -20,7 +20,7 @@ use Rattle.model.specs.Listing.{applied}
 use Rattle.model.specs.Question.{firstFailed, withRoom}
 use Rattle.model.specs.Step.{act, nodeOf}
 use Rattle.model.specs.Layout.{tableOf}
-use Rattle.model.specs.StepBytes.{allQuestions}
+use Rattle.model.specs.StepBytes.{Replied, allQuestions, tellUnlessRefused}
 
 -- 02: the answer in the Rust's variant names, outer first, with any key or flag; for remove true or false. A variant that
 -- two calls have is told alike of both, but for Updated: UpdatedBoth is that of insert_or_update, with its flag.
@@ -77,6 +77,7 @@ told Answer.New = Told.NotModified
 told (Answer.Entry e) = Told.NotModified
 told (Answer.Found n) = Told.NotModified
 told (Answer.TakeAppliedPending r) = Told.NotModified
+told (Answer.Read n) = Told.NotModified
 
 -- 02: the true reason and the keys behind it, in bucket and place order
 pub data Reason : Type 0 where
@@ -321,24 +322,18 @@ line e = toldText (e .told) ++ (space ∷ (reasonText (e .reason) ++ (keysText (
 
 -- The query.
 
--- what it answers, the number of bytes of the line, and what the lent output holds then
-pub record Explained : Type 0 where
-  pub answer : Reply ℕ
-  pub output : List ℕ
-
 -- 02: an output under 2,048 bytes fails question 6
 abbrev pub explanationRoom : ℕ
 explanationRoom = 2048
 
--- a refusal is its number alone, and the output keeps its bytes; else the line stands at its front, and the bytes behind it stay
-abbrev pub lineUnlessRefused : Option ℕ → (line output : List ℕ) → Explained
-lineUnlessRefused (some q) l out = record { answer = Reply.Refused q; output = out }
-lineUnlessRefused none l out = record { answer = Reply.Answered (length l); output = splice out 0 l }
+-- it answers the number of bytes of the line
+abbrev pub lineUnlessRefused : Option ℕ → (line output : List ℕ) → Replied
+lineUnlessRefused q l out = tellUnlessRefused q (length l) l out
 
 -- 02: one that would be refused is refused alike. The output's room is asked in 6's turn.
-abbrev pub explained : (questions : List (ℕ × Bool)) (line output : List ℕ) → Explained
+abbrev pub explained : (questions : List (ℕ × Bool)) (line output : List ℕ) → Replied
 explained qs l out = lineUnlessRefused (firstFailed (withRoom (leb explanationRoom (length out)) qs)) l out
 
 -- the explanation of a call, for every storage, every argument and every output
-unfoldable pub explainBytes : (key : List ℕ) (call : KeyCall) (output storage : List ℕ) → Explained
+unfoldable pub explainBytes : (key : List ℕ) (call : KeyCall) (output storage : List ℕ) → Replied
 explainBytes k c out s = explained (allQuestions (Call.onKey k c) s) (line (explanation c k (tableOf s))) out

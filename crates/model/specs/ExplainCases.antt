@@ -11,9 +11,10 @@ use Rattle.model.specs.Sizes.{maxIncomingAt, storageSize}
 use Rattle.model.specs.Call.{ValueArgument, Call, KeyCall}
 use Rattle.model.specs.Step.{questions, step}
 use Rattle.model.specs.Numbers.{sameNumbers}
-use Rattle.model.specs.Explain.{Told, Reason, Explained, told, explanation, toldText, line, explained, explainBytes}
+use Rattle.model.specs.Explain.{Told, Reason, told, explanation, toldText, line, explained, explainBytes}
 use Rattle.model.specs.Rows.{noTable, after, key, plain, addressed, start, disconnected, connected, from, pendingAt100, twoOfANet}
 use Rattle.model.specs.Cases.{member, members, equalMember, numbers, oneBetweenEquals, pendingOverOne, fullAtOnce, applied}
+use Rattle.model.specs.StepBytes.{Replied}
 
 pub data ExplainRow : Type 0 where
   -- after the calls, what is told of a call on a key and its reason; and the call then gives the answer that is told
@@ -29,17 +30,17 @@ abbrev replyNumbers : Reply ℕ → List ℕ
 replyNumbers (Reply.Refused q) = 0 ∷ q ∷ []
 replyNumbers (Reply.Answered n) = 1 ∷ n ∷ []
 
-abbrev gives : Explained → Reply ℕ → (output : List ℕ) → Bool
+abbrev gives : Replied → Reply ℕ → (output : List ℕ) → Bool
 gives e r out = sameNumbers (replyNumbers (e .answer)) (replyNumbers r) && sameNumbers (e .output) out
 
 -- an output, of bytes that stay behind the line
 abbrev lent : ℕ → List ℕ
 lent n = replicate n 9
 
-abbrev explainedIn : Table → (key : List ℕ) → KeyCall → (output : List ℕ) → Explained
+abbrev explainedIn : Table → (key : List ℕ) → KeyCall → (output : List ℕ) → Replied
 explainedIn t k c out = explained (questions (Call.onKey k c) t) (line (explanation c k t)) out
 
-abbrev givesLine : Explained → (line : List ℕ) → Bool
+abbrev givesLine : Replied → (line : List ℕ) → Bool
 givesLine e l = gives e (Reply.Answered (length l)) (splice (lent 2048) 0 l)
 
 abbrev pub holds : ExplainRow → Bool

@@ -127,3 +127,4 @@ FitsCall (Call.new k timeout m tf bf) = Bytes k × (timeout < 256 ^ timeSize)
 FitsCall (Call.onKey k c) = Bytes k × FitsKeyCall c
 FitsCall (Call.list l n now out) = FitsListing l
 FitsCall Call.takeAppliedPending = Unit {0}
+FitsCall (Call.read bs) = Bytes bs

@@ -14,9 +14,10 @@ pub mod Sizes
 pub mod Call
 pub mod Listing
 pub mod Question
-pub mod Step
 pub mod Layout
 pub mod Formed
+pub mod Saved
+pub mod Step
 pub mod Nearest
 pub mod StepBytes
 pub mod Explain
@@ -25,3 +26,4 @@ pub mod Numbers
 pub mod Rows
 pub mod Cases
 pub mod ExplainCases
+pub mod SavedCases

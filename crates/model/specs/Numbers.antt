@@ -100,6 +100,7 @@ answerNumbers (Answer.Remove r) = 5 ∷ flagByte r ∷ []
 answerNumbers (Answer.Entry k) = 6 ∷ kindNumbers k
 answerNumbers (Answer.Found n) = 7 ∷ n ∷ []
 answerNumbers (Answer.TakeAppliedPending r) = 8 ∷ takenNumbers r
+answerNumbers (Answer.Read n) = 9 ∷ n ∷ []
 
 abbrev pub settingsNumbers : Settings → List ℕ
 settingsNumbers s =

@@ -119,6 +119,10 @@ keyArguments (KeyCall.presentUpdate st dr) = record { codes = leb st 1 && leb dr
 keyArguments (KeyCall.pendingUpdate st dr) = record { codes = leb st 1 && leb dr 1; now = none; kind = isPending }
 keyArguments (KeyCall.absentInsert v st dr now) = record { codes = valueInRange v && (leb st 1 && leb dr 1); now = some now; kind = isAbsent }
 
+-- a call that is asked of the storage alone before 8
+abbrev pub onStorage : Arguments
+onStorage = record { table = true; keys = []; codes = true; now = none; room = true; kind = λ t. true; output = [] }
+
 -- 01, question 4: filters 0 or 1; max_incoming 0 to 16
 abbrev pub arguments : Call → Arguments
 arguments (Call.new k timeout m tf bf) =
@@ -134,8 +138,9 @@ arguments (Call.list l n now out) =
       kind = λ t. true;
       output = out;
     }
-arguments Call.takeAppliedPending =
-    record { table = true; keys = []; codes = true; now = none; room = true; kind = λ t. true; output = [] }
+arguments Call.takeAppliedPending = onStorage
+-- 02, slip 6: codes in the bytes read are left to 9
+arguments (Call.read bs) = onStorage
 
 -- 3: is every key 32 bytes?
 unfoldable pub keysFit : Call → Bool

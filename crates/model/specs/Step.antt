@@ -1,6 +1,6 @@
 -- One call on a table: what it answers, the table that it leaves, the records that it adds, and what a listing gives.
 use Prim.Native.Nat.{ℕ}
-use mathlib.Core.Bool.{Bool, false}
+use mathlib.Core.Bool.{Bool, true, false}
 use mathlib.Core.List.{List, [], _∷_, _++_, map}
 use mathlib.Core.Option.{Option, none, some}
 use lib.ListN.{length}
@@ -13,6 +13,7 @@ use Rattle.model.specs.Table.{Settings, Table, EntryKind, Answer, Effect
 use Rattle.model.specs.Call.{ValueArgument, Call, KeyCall, isOne, optional, valueOf}
 use Rattle.model.specs.Listing.{Item, item, applyAll, applies, found}
 use Rattle.model.specs.Question.{firstFailed, keysFit, codesInRange, clockFits, outputFits, kindFits}
+use Rattle.model.specs.Saved.{savedCount, loadedTable, loadFits}
 
 pub record Outcome : Type 0 where
   pub answer : Answer
@@ -93,6 +94,7 @@ act (Call.list l n now out) t =
     let ns = found l n now t in
     record { answer = Answer.Found (length ns); table = r .0; records = r .1; items = map (item l) ns }
 act Call.takeAppliedPending t = takeOldest t (t .queue)
+act (Call.read bs) t = unchanged (Answer.Read (savedCount bs)) (loadedTable bs t)
 
 -- 8: with an endless queue, would the call leave at most 64 records?
 unfoldable pub queueFits : Call → Table → Bool
@@ -102,11 +104,19 @@ queueFits c t = leb (length (act c t .table .queue)) maxRecords
 abbrev pub early : Call → Table → List (ℕ × Bool)
 early c t = (3, keysFit c) ∷ (4, codesInRange c) ∷ (5, clockFits c t) ∷ (6, outputFits c) ∷ []
 
--- 01, questions 7 and 8: of the buckets and the queue
-abbrev pub late : Call → Table → List (ℕ × Bool)
-late c t = (7, kindFits c t) ∷ (8, queueFits c t) ∷ []
+-- 9 (02, slip 6): does the storage hold nothing, and can the bytes be loaded?
+abbrev pub bytesFit : Call → Table → Bool
+bytesFit (Call.new k timeout m tf bf) t = true
+bytesFit (Call.onKey k c) t = true
+bytesFit (Call.list l n now out) t = true
+bytesFit Call.takeAppliedPending t = true
+bytesFit (Call.read bs) t = loadFits bs t
 
--- 01, questions 3 to 8, in turn
+-- 01, questions 7 and 8, and 02's 9: of the buckets, the queue and the bytes given
+abbrev pub late : Call → Table → List (ℕ × Bool)
+late c t = (7, kindFits c t) ∷ (8, queueFits c t) ∷ (9, bytesFit c t) ∷ []
+
+-- questions 3 to 9, in turn
 abbrev pub questions : Call → Table → List (ℕ × Bool)
 questions c t = early c t ++ late c t
 

@@ -4,10 +4,11 @@ use mathlib.Core.Bool.{Bool, not, _||_}
 use mathlib.Core.List.{List, [], _∷_}
 use mathlib.Core.Option.{Option, none, some}
 use lib.ListN.{length}
-use lib.Dec.{eqb}
+use lib.Dec.{eqb, leb}
 use Rattle.model.specs.Base.{joined, tabulate}
 use Rattle.model.specs.Bytes.{number, splice}
 use Rattle.model.specs.Node.{EndedPending}
+use Rattle.model.specs.Result.{Reply}
 use Rattle.model.specs.Table.{Table, Answer, numBuckets, indexIn}
 use Rattle.model.specs.Sizes.{bucketAt, storageSize}
 use Rattle.model.specs.Call.{Call}
@@ -16,6 +17,7 @@ use Rattle.model.specs.Question.{firstFailed, arguments}
 use Rattle.model.specs.Step.{act, questions}
 use Rattle.model.specs.Layout.{bucketBytes, headerBytes, itemBytes, tableOf}
 use Rattle.model.specs.Formed.{formed}
+use Rattle.model.specs.Saved.{allNodes, saved}
 
 pub record BytesOutcome : Type 0 where
   pub answer : Answer
@@ -27,7 +29,7 @@ pub record BytesOutcome : Type 0 where
 abbrev pub holdsTable : Call → List ℕ → Bool
 holdsTable c s = not (arguments c .table) || formed s
 
--- 01, questions 1 to 8, in turn
+-- questions 1 to 9, in turn
 abbrev pub allQuestions : Call → List ℕ → List (ℕ × Bool)
 allQuestions c s = (1, eqb (length s) storageSize) ∷ (2, holdsTable c s) ∷ questions c (tableOf s)
 
@@ -48,6 +50,7 @@ touched (Call.new k timeout m tf bf) t = tabulate numBuckets (λ i. i)
 touched (Call.onKey k c) t = bucketOfKey k t
 touched (Call.list l n now out) t = applies l n now t
 touched Call.takeAppliedPending t = []
+touched (Call.read bs) t = tabulate numBuckets (λ i. i)
 
 -- the storage with the settings, the queue and the buckets named as the table has them; all other bytes stay
 unfoldable pub restore : List ℕ → List ℕ → Table → List ℕ
@@ -68,3 +71,22 @@ unlessRefusedBytes none c s =
 
 unfoldable pub stepBytes : Call → List ℕ → BytesOutcome
 stepBytes c s = unlessRefusedBytes (firstFailed (allQuestions c s)) c s
+
+-- Queries: what they answer, and what the lent output holds then. No storage is written.
+pub record Replied : Type 0 where
+  pub answer : Reply ℕ
+  pub output : List ℕ
+
+-- a refusal is its number alone, and the output keeps its bytes; else what is told stands at its front, and the bytes behind stay
+abbrev pub tellUnlessRefused : Option ℕ → (answer : ℕ) (told output : List ℕ) → Replied
+tellUnlessRefused (some q) n l out = record { answer = Reply.Refused q; output = out }
+tellUnlessRefused none n l out = record { answer = Reply.Answered n; output = splice out 0 l }
+
+-- 02, slip 6: an output too short for the writer fails question 6
+abbrev pub writeQuestions : (output storage : List ℕ) → List (ℕ × Bool)
+writeQuestions out s =
+    (1, eqb (length s) storageSize) ∷ (2, formed s) ∷ (6, leb (length (saved (tableOf s))) (length out)) ∷ []
+
+-- the writer, for every storage and every output; it answers the number of nodes
+unfoldable pub writeBytes : (output storage : List ℕ) → Replied
+writeBytes out s = tellUnlessRefused (firstFailed (writeQuestions out s)) (length (allNodes (tableOf s))) (saved (tableOf s)) out

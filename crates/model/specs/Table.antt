@@ -39,7 +39,7 @@ pub data EntryKind : Type 0 where
   Absent : EntryKind
   SelfEntry : EntryKind
 
--- What a call answers. Found is the number of entries that a listing writes.
+-- What a call answers. Found is the number of entries that a listing writes; Read the number of nodes that it loads.
 pub data Answer : Type 0 where
   Refused : (question : ℕ) → Answer
   New : Answer
@@ -50,6 +50,7 @@ pub data Answer : Type 0 where
   Entry : EntryKind → Answer
   Found : ℕ → Answer
   TakeAppliedPending : Option EndedPending → Answer
+  Read : ℕ → Answer
 
 -- what a call does to the bucket of its key: its answer, the bucket, and the records that it adds
 pub record Effect : Type 0 where

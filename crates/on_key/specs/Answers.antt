@@ -10,11 +10,12 @@ use Rattle.model.specs.Base.{same}
 use Rattle.model.specs.Node.{PendingNode, Ending, EndedPending, ended}
 use Rattle.model.specs.Bucket.{Bucket, applyPending}
 use Rattle.model.specs.Table.{Answer, Effect, write, numBuckets, maxRecords}
+use Rattle.model.specs.Result.{Reply}
 use Rattle.model.specs.Sizes.{keySize, storageSize}
 use Rattle.model.specs.Layout.{tableOf}
 use Rattle.model.specs.Formed.{headerFormed, bucketFormedAt, formed}
 use Rattle.model.specs.Question.{firstFailed, deadlineFits}
-use Rattle.model.specs.StepBytes.{BytesOutcome, restore}
+use Rattle.model.specs.StepBytes.{BytesOutcome, Replied, restore}
 use Rattle.bucket.specs.declared.KBucket.{KBucket}
 use Rattle.bucket.specs.declared.EndedPending as code
 use Rattle.bucket.specs.declared.UpdateAnswer.{UpdateAnswer}
@@ -26,6 +27,11 @@ use Rattle.bucket.specs.Calls.{recordsOf, appliedCodes, updateResultOf}
 pub record Answers (a : Answer) (s : List ℕ) (o : BytesOutcome) : Type 0 where
   pub answer : a ≡ o .answer
   pub storage : s ≡ o .storage
+
+-- the answer and the output are those of the query
+pub record Replies (a : Reply ℕ) (out : List ℕ) (x : Replied) : Type 0 where
+  pub answer : a ≡ x .answer
+  pub output : out ≡ x .output
 
 -- what an update answers
 abbrev pub updateAnswer : UpdateAnswer → Answer

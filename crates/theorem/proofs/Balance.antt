@@ -16,14 +16,17 @@ use Rattle.model.specs.Table.{Table, Answer, Effect, numBuckets, failsTableFilt
 use Rattle.model.specs.Call.{Call, KeyCall, isOne, optional, valueOf}
 use Rattle.model.specs.Listing.{applyAll, applies}
 use Rattle.model.specs.Question.{firstFailed}
+use Rattle.model.specs.Saved.{loadedBucket, loadedTable}
 use Rattle.model.specs.Step
-use Rattle.model.specs.Step.{Outcome, onKey, ownAnswer, effect, takeOldest, act, questions, unlessRefused, step}
+use Rattle.model.specs.Step.{Outcome, onKey, ownAnswer, effect, takeOldest, act, bytesFit, questions, unlessRefused, step}
 use Rattle.model.specs.Fits.{Opt, Formed}
 use Rattle.laws.proofs.Tests.{same-true, same-false, clash, cases, split, and-right}
 use Rattle.laws.proofs.KeepLists.{get-nodes, get-key}
 use Rattle.laws.proofs.KeepFormed.{applyPending-formed, updateValue-formed}
 use Rattle.laws.proofs.KeepStep.{bucketIndex-below}
 use Rattle.laws.proofs.Touched.{Below, applies-below}
+use Rattle.laws.proofs.Questions.{accepted}
+use Rattle.laws.proofs.Loaded.{Loads, loads, loaded-pending, nothing-at}
 use Rattle.log.specs.Log.{Entry, Role, role, isRefused}
 use Rattle.log.specs.Claim.{tableAfter, entries}
 use Rattle.log.specs.Pending.{insertPending, bucketInsertPending, pendingAnswer, sinceMade, answeredPending, recorded, waits, waiting, stillWaiting, Conserved}
@@ -310,6 +313,7 @@ refused-pending (Answer.Remove r) h = refl
 refused-pending (Answer.Entry k) h = refl
 refused-pending (Answer.Found n) h = refl
 refused-pending (Answer.TakeAppliedPending r) h = refl
+refused-pending (Answer.Read n) h = refl
 
 -- ---- a history with one more entry
 
@@ -330,25 +334,32 @@ entry-conserved c h t o adds k e q = by (isRefused (o .answer)) refl
     by true r = omega (arith, q, k, e r, refused-pending (o .answer) r)
     by false r = omega (arith, q, k, adds (pendingAnswer (o .answer)) (answeredPending h), adds (length (o .records)) (recorded h))
 
-waiting-none : (n : ℕ) → waiting n (λ i. emptyBucket) ≡ 0
+waiting-none : (n : ℕ) (bs : ℕ → Bucket) → ((i : ℕ) → i < n → bs i .pending ≡ none) → waiting n bs ≡ 0
 unfolding waiting
-waiting-none zero = refl
-waiting-none (suc n) = let h = waiting-none n in omega arith
+waiting-none zero bs e = refl
+waiting-none (suc n) bs e = omega (arith, waiting-none n bs (λ i l. e i (omega arith)), ap waits (e n (omega arith)))
 
 -- an accepted `new` starts the counts again
 new-conserved : (k : List ℕ) (timeout m tf bf : ℕ) (h : List Entry) (t : Table) → let c = Call.new k timeout m tf bf in Conserved (entryOf c (act c t) ∷ h) (act c t .table)
 unfolding act
-new-conserved k timeout m tf bf h t = let w = waiting-none numBuckets in omega arith
+new-conserved k timeout m tf bf h t = let w = waiting-none numBuckets (λ i. emptyBucket) (λ i l. refl) in omega arith
 
-act-conserved : (c : Call) (h : List Entry) (t : Table) → Every Within t → Conserved h t → Conserved (entryOf c (act c t) ∷ h) (act c t .table)
+-- the reader finds no pending and leaves none
+load-balance : (bs : List ℕ) (t : Table) → Loads bs t → Keeps t 0 [] (loadedTable bs t)
+load-balance bs t g =
+    omega (arith, waiting-none numBuckets (t .buckets) (λ i l. nothing-at t (g .nothing) i l .1), waiting-none numBuckets (loadedBucket bs) (λ i l. loaded-pending bs t g i))
+
+act-conserved : (c : Call) (h : List Entry) (t : Table) → bytesFit c t ≡ true → Every Within t → Conserved h t → Conserved (entryOf c (act c t) ∷ h) (act c t .table)
 unfolding act
-act-conserved (Call.new k timeout m tf bf) h t f q = new-conserved k timeout m tf bf h t
-act-conserved (Call.onKey k c) h t f q =
+act-conserved (Call.new k timeout m tf bf) h t a f q = new-conserved k timeout m tf bf h t
+act-conserved (Call.onKey k c) h t a f q =
     entry-conserved (Call.onKey k c) h t (onKey t (ownAnswer c) (effect c k t) (indexIn t (number k))) (λ x y. refl) (key-balance c k t f (indexIn t (number k)) refl)
     (key-refused c k t (indexIn t (number k))) q
-act-conserved (Call.list l n now out) h t f q =
+act-conserved (Call.list l n now out) h t a f q =
     entry-conserved (Call.list l n now out) h t (act (Call.list l n now out) t) (λ x y. refl) (applyAll-balance now (applies l n now t) t (applies-below l n now t)) (λ r. clash r refl) q
-act-conserved Call.takeAppliedPending h t f q =
+act-conserved (Call.read bs) h t a f q =
+    entry-conserved (Call.read bs) h t (act (Call.read bs) t) (λ x y. refl) (load-balance bs t (loads bs t a)) (λ _. refl) q
+act-conserved Call.takeAppliedPending h t a f q =
     entry-conserved Call.takeAppliedPending h t (takeOldest t (t .queue)) (λ x y. refl) (oldest-balance t (t .queue)) (λ _. oldest-records t (t .queue)) q
   where
     oldest-records : (t : Table) (q : List EndedPending) → length (takeOldest t q .records) ≡ 0
@@ -357,11 +368,11 @@ act-conserved Call.takeAppliedPending h t f q =
 
 step-conserved : (c : Call) (h : List Entry) (t : Table) → Every Within t → Conserved h t → Conserved (entryOf c (step c t) ∷ h) (step c t .table)
 unfolding step
-step-conserved c h t f q = by (firstFailed (questions c t))
+step-conserved c h t f q = by (firstFailed (questions c t)) refl
   where
-    by : (o : Option ℕ) → Conserved (entryOf c (unlessRefused o c t) ∷ h) (unlessRefused o c t .table)
-    by none = act-conserved c h t f q
-    by (some n) = q
+    by : (o : Option ℕ) → firstFailed (questions c t) ≡ o → Conserved (entryOf c (unlessRefused o c t) ∷ h) (unlessRefused o c t .table)
+    by none e = act-conserved c h t (accepted c t e .bytes) f q
+    by (some n) e = q
 
 made-conserved : (k : List ℕ) (timeout m tf bf : ℕ) (t : Table) → let c = Call.new k timeout m tf bf in step c t .answer ≡ Answer.New → Conserved (entryOf c (step c t) ∷ []) (step c t .table)
 unfolding step

@@ -15,17 +15,20 @@ use Rattle.model.specs.Table.{Table, EntryKind, Answer, Effect, failsTableFilte
 use Rattle.model.specs.Call.{Call, KeyCall, isOne, optional, valueOf}
 use Rattle.model.specs.Listing.{applyAll, applies}
 use Rattle.model.specs.Question.{firstFailed, keyArguments, kindFits}
+use Rattle.model.specs.Saved.{loadedNodes, loadedTable}
 use Rattle.model.specs.Step
 use Rattle.model.specs.Step.{Outcome, onKey, ownAnswer, effect, takeOldest, act, questions, unlessRefused, step}
 use Rattle.laws.proofs.Tests.{same-true, clash, cases}
-use Rattle.laws.proofs.Questions.{accepted}
+use Rattle.laws.proofs.Questions.{Accepted, accepted}
+use Rattle.laws.proofs.Loaded.{Loads, loads}
 use Rattle.log.specs.Log.{Log, Naming, naming, nodeOf, group, isRefused, role}
-use Rattle.theorem.proofs.Fold.{fresh, enterRecords, gaveBy, enterRole, enter}
+use Rattle.theorem.proofs.Fold.{fresh, enterRecords, gaveBy, enterLoaded, enterRole, enter}
 use Rattle.theorem.proofs.Keys.{Distinct}
 use Rattle.theorem.proofs.Records.{records-distinct, records-settings, records-append, Quiet, nothing-quiet, status-quiet, insert-quiet, updateNode-quiet, insertOrUpdate-quiet, quiet}
 use Rattle.theorem.proofs.Agree.{Agree, Gives}
 use Rattle.theorem.proofs.Frame.{Frame-trans, agree-frame, agree-skip}
 use Rattle.theorem.proofs.Ops.{gives, Settled, Goes, apply-ok, apply-settled}
+use Rattle.theorem.proofs.Load.{load-distinct, load-settings, loaded-agrees}
 use Rattle.theorem.proofs.Steps.{own, own-frame, own-only, own-distinct, own-settings, status-call, remove-call, updateNode-call, insertOrUpdate-call, pending-call, absent-call}
 
 -- the whole table agrees with the log
@@ -176,6 +179,10 @@ unfolding act
 new-acts k timeout m tf bf l t =
     entered (Call.new k timeout m tf bf) l (act (Call.new k timeout m tf bf) t) refl (record { settings-agree = refl; distinct = tt; each = λ j. empty-ok (act (Call.new k timeout m tf bf) t .table) j })
 
+load-ok : (bs : List ℕ) (l : Log) (t : Table) → AllAgree l t → Loads bs t → AllAgree (enterLoaded (loadedNodes bs) l) (loadedTable bs t)
+load-ok bs l t z g =
+    record { settings-agree = load-settings (loadedNodes bs) l ∙ z .settings-agree; distinct = load-distinct (loadedNodes bs) l (z .distinct); each = loaded-agrees bs l t g (z .each) }
+
 abbrev NotRefused : Answer → Type 0
 NotRefused a = isRefused a ≡ false
 
@@ -241,21 +248,22 @@ key-ok k c l t z f =
     onKey-ok (number k) (naming c) l t (ownAnswer c) (effect c k t) z (λ h. own-accepted c (kind none h)) (λ i h. effect-ok c k l t i z h (kind (some i) h))
     (indexIn t (number k)) refl
 
-pub act-ok : (c : Call) (l : Log) (t : Table) → AllAgree l t → kindFits c t ≡ true → StepAgrees c l (act c t)
+pub act-ok : (c : Call) (l : Log) (t : Table) → AllAgree l t → Accepted c t → StepAgrees c l (act c t)
 unfolding act kindFits
 act-ok (Call.new k timeout m tf bf) l t z f = new-acts k timeout m tf bf l t
-act-ok (Call.onKey k c) l t z f = let r = key-ok k c l t z f in entered (Call.onKey k c) l (act (Call.onKey k c) t) (r .0) (r .1)
+act-ok (Call.onKey k c) l t z f = let r = key-ok k c l t z (f .kind) in entered (Call.onKey k c) l (act (Call.onKey k c) t) (r .0) (r .1)
 act-ok (Call.list x n now out) l t z f = entered (Call.list x n now out) l (act (Call.list x n now out) t) refl (applyAll-ok now (applies x n now t) l t z)
 act-ok Call.takeAppliedPending l t z f = oldest-ok l t z (t .queue)
+act-ok (Call.read bs) l t z f = entered (Call.read bs) l (act (Call.read bs) t) refl (load-ok bs l t z (loads bs t (f .bytes)))
 
-unlessRefused-ok : (c : Call) (l : Log) (t : Table) → AllAgree l t → (o : Option ℕ) → (o ≡ none → kindFits c t ≡ true) → StepAgrees c l (unlessRefused o c t)
+unlessRefused-ok : (c : Call) (l : Log) (t : Table) → AllAgree l t → (o : Option ℕ) → (o ≡ none → Accepted c t) → StepAgrees c l (unlessRefused o c t)
 unfolding enter
 unlessRefused-ok c l t z (some n) f = z
 unlessRefused-ok c l t z none f = act-ok c l t z (f refl)
 
 pub step-ok : (c : Call) (l : Log) (t : Table) → AllAgree l t → StepAgrees c l (step c t)
 unfolding step
-step-ok c l t z = unlessRefused-ok c l t z (firstFailed (questions c t)) (λ e. accepted c t e .kind)
+step-ok c l t z = unlessRefused-ok c l t z (firstFailed (questions c t)) (accepted c t)
 
 -- an accepted `new`, on any table
 new-unlessRefused : (k : List ℕ) (timeout m tf bf : ℕ) (l : Log) (t : Table) (o : Option ℕ) → unlessRefused o (Call.new k timeout m tf bf) t .answer ≡ Answer.New

@@ -154,6 +154,7 @@ act-ended (Call.new k timeout m tf bf) t = refl
 act-ended (Call.onKey k c) t = key-ended c k t (indexIn t (number k))
 act-ended (Call.list l n now out) t = all-ended now (applies l n now t) t
 act-ended Call.takeAppliedPending t = refl
+act-ended (Call.read bs) t = refl
 
 -- an accepted call
 pub due-ended : (c : Call) (t : Table) → isRefused (step c t .answer) ≡ false → dueEnded c t (step c t .records) ≡ true
@@ -263,6 +264,7 @@ unfolding act
 act-one (Call.new k timeout m tf bf) t = refl
 act-one (Call.onKey k c) t = le-leb (length (onKey t (ownAnswer c) (effect c k t) (indexIn t (number k)) .records)) 1 (key-one t (ownAnswer c) (effect c k t) (effect-one c k t) (indexIn t (number k)))
 act-one (Call.list l n now out) t = refl
+act-one (Call.read bs) t = refl
 act-one Call.takeAppliedPending t = le-leb (length (takeOldest t (t .queue) .records)) 1 (oldest-one t (t .queue))
 
 -- every call, accepted or not

@@ -8,7 +8,7 @@ use Rattle.model.specs.Value.{Value}
 use Rattle.model.specs.Node.{Node, Ending, EndedPending}
 use Rattle.model.specs.Table.{Settings, Answer}
 use Rattle.model.specs.Call.{Call}
-use Rattle.log.specs.Log.{Log, Entry, Naming, Role, role, isRefused, answersFailed, answersRemoved, answersInserted, without, noSettings, noValue}
+use Rattle.log.specs.Log.{Log, Entry, Naming, Role, role, isRefused, answersFailed, answersRemoved, answersInserted, givenOf, without, noSettings, noValue}
 
 abbrev pub mem : ℕ → List ℕ → Bool
 mem k [] = false
@@ -56,11 +56,17 @@ give k u d v l =
 abbrev pub gaveBy : ℕ → Naming → Log → Log
 gaveBy k n l = give k (n .connected) (n .incoming) (n .value) l
 
+-- loaded nodes, in the order read
+abbrev pub enterLoaded : List Node → Log → Log
+enterLoaded [] l = l
+enterLoaded (n ∷ ns) l = enterLoaded ns (place (n .key) (gaveBy (n .key) (givenOf n) l))
+
 abbrev pub enterRole : Role → Answer → Log → Log
 enterRole (Role.names k n) a l =
     cond (answersFailed a) (depart k l)
     (cond (answersRemoved a) (depart k (gaveBy k n l)) (cond (answersInserted a || (n .statusStep && mem k (l .held))) (place k (gaveBy k n l)) (gaveBy k n l)))
 enterRole (Role.empties s) a l = fresh s
+enterRole (Role.loads ns) a l = enterLoaded ns l
 enterRole Role.silent a l = l
 
 unfoldable pub enter : Call → Answer → List EndedPending → Log → Log

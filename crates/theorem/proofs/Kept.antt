@@ -1,7 +1,7 @@
--- A property of a bucket that the bucket's operations keep is kept by every call, and so by every list of calls.
+-- A property of a bucket that the bucket's operations keep, and that loaded buckets have, is kept by every call, and so by every list of calls.
 use Prim.Native.Nat.{ℕ}
-use mathlib.Core.Path.{_≡_}
-use mathlib.Core.Bool.{Bool}
+use mathlib.Core.Path.{_≡_, refl}
+use mathlib.Core.Bool.{Bool, true}
 use mathlib.Core.List.{List, [], _∷_}
 use mathlib.Core.Option.{Option, none, some}
 use native.Mathlib.Omega.{arith}
@@ -16,9 +16,12 @@ use Rattle.model.specs.Table.{Table, Answer, Effect, failsTableFilter, thenStat
 use Rattle.model.specs.Call.{Call, KeyCall, isOne, optional, valueOf}
 use Rattle.model.specs.Listing.{applyAll, applies}
 use Rattle.model.specs.Question.{firstFailed}
+use Rattle.model.specs.Saved.{loadedBucket}
 use Rattle.model.specs.Step
-use Rattle.model.specs.Step.{onKey, effect, takeOldest, act, questions, unlessRefused, step}
+use Rattle.model.specs.Step.{onKey, effect, takeOldest, act, bytesFit, questions, unlessRefused, step}
 use Rattle.laws.proofs.Tests.{cases}
+use Rattle.laws.proofs.Questions.{accepted}
+use Rattle.laws.proofs.Loaded.{Loads, loads}
 use Rattle.log.specs.Claim.{tableAfter}
 
 -- the operations keep Q
@@ -30,6 +33,7 @@ pub record Keeps (Q : BucketSettings → Bucket → Type 0) : Type 0 where
   pub value : (s : BucketSettings) (k : ℕ) (v : Value) (b : Bucket) → Q s b → Q s (updateValue s k v b .1)
   pub pending : (s : BucketSettings) (u d : Bool) (b : Bucket) → Q s b → Q s (updatePending u d b)
   pub remove : (s : BucketSettings) (now k : ℕ) (b : Bucket) → Q s b → Q s (Bucket.remove s now k b .1)
+  pub load : (bs : List ℕ) (t : Table) → Loads bs t → (j : ℕ) → Q (t .settings .bucket) (loadedBucket bs j)
 
 -- every bucket of the table has it
 abbrev pub Every : (BucketSettings → Bucket → Type 0) → Table → Type 0
@@ -84,20 +88,21 @@ module _ (Q : BucketSettings → Bucket → Type 0) (keeps : Keeps Q) where
   effect-keeps (KeyCall.pendingUpdate st dr) k t i b g = keeps .pending _ (isOne st) (isOne dr) b g
   effect-keeps (KeyCall.absentInsert v st dr now) k t i b g = keeps .insert _ now (Step.nodeOf k v st dr) b g
 
-  act-keeps : (c : Call) (t : Table) → Every Q t → Every Q (act c t .table)
+  act-keeps : (c : Call) (t : Table) → bytesFit c t ≡ true → Every Q t → Every Q (act c t .table)
   unfolding act
-  act-keeps (Call.new k timeout m tf bf) t f = λ j. keeps .empty _
-  act-keeps (Call.onKey k c) t f = onKey-keeps t _ _ f (effect-keeps c k t) (indexIn t (number k))
-  act-keeps (Call.list l n now out) t f = applyAll-keeps now (applies l n now t) t f
-  act-keeps Call.takeAppliedPending t f = oldest-keeps t f (t .queue)
+  act-keeps (Call.new k timeout m tf bf) t a f = λ j. keeps .empty _
+  act-keeps (Call.onKey k c) t a f = onKey-keeps t _ _ f (effect-keeps c k t) (indexIn t (number k))
+  act-keeps (Call.list l n now out) t a f = applyAll-keeps now (applies l n now t) t f
+  act-keeps Call.takeAppliedPending t a f = oldest-keeps t f (t .queue)
+  act-keeps (Call.read bs) t a f = keeps .load bs t (loads bs t a)
 
-  unlessRefused-keeps : (c : Call) (t : Table) → Every Q t → (o : Option ℕ) → Every Q (unlessRefused o c t .table)
-  unlessRefused-keeps c t f none = act-keeps c t f
-  unlessRefused-keeps c t f (some n) = f
+  unlessRefused-keeps : (c : Call) (t : Table) → Every Q t → (o : Option ℕ) → (o ≡ none → bytesFit c t ≡ true) → Every Q (unlessRefused o c t .table)
+  unlessRefused-keeps c t f none a = act-keeps c t (a refl) f
+  unlessRefused-keeps c t f (some n) a = f
 
   pub step-keeps : (c : Call) (t : Table) → Every Q t → Every Q (step c t .table)
   unfolding step
-  step-keeps c t f = unlessRefused-keeps c t f (firstFailed (questions c t))
+  step-keeps c t f = unlessRefused-keeps c t f (firstFailed (questions c t)) (λ e. accepted c t e .bytes)
 
   pub run-keeps : (cs : List Call) (t : Table) → Every Q t → Every Q (tableAfter cs t)
   run-keeps [] t f = f

@@ -8,6 +8,7 @@ pub mod Ops
 pub mod Updates
 pub mod Steps
 pub mod Records
+pub mod Load
 pub mod Call
 pub mod Literal
 pub mod Run
@@ -17,4 +18,5 @@ pub mod Limits
 pub mod Closest
 pub mod Due
 pub mod Balance
+pub mod Survives
 pub mod Theorem

@@ -14,6 +14,7 @@ use Rattle.model.specs.Step.{act, queueFits, questions, unlessRefused, step}
 use Rattle.model.specs.Fits.{Formed}
 use Rattle.laws.proofs.KeepFormed.{empty-formed, insert-formed, applyPending-formed, updateStatus-formed, updateValue-formed, updatePending-formed, remove-formed}
 use Rattle.laws.proofs.Questions.{accepted}
+use Rattle.laws.proofs.Loaded.{loaded-well-formed}
 use Rattle.log.specs.Log.{logOf}
 use Rattle.log.specs.Claim.{tableAfter, entries}
 use Rattle.theorem.proofs.Kept.{Keeps, reached-keeps}
@@ -31,6 +32,7 @@ within-kept = record {
   value = λ s k v b w. updateValue-formed s k v b w;
   pending = λ s u d b w. updatePending-formed (s .maxIncoming) u d b w;
   remove = λ s now k b w. remove-formed s now k b w;
+  load = λ bs t g j. loaded-well-formed bs t g j .formed;
 }
 
 -- a call leaves at most 64 records, if it was handed no more

@@ -11,10 +11,11 @@ use Rattle.model.specs.Value.{Value}
 use Rattle.model.specs.Node.{Node, Ending, EndedPending}
 use Rattle.model.specs.Table.{Settings, Answer}
 use Rattle.laws.proofs.Tests.{same-self, same-true, same-sym, clash, cases, split, or-first, or-second, or-rest}
-use Rattle.log.specs.Log.{Entry, Log, Naming, Role, role, isRefused, answersFailed, answersRemoved, answersInserted, Event, heldNow, endingEvents, recordEvents, ownEvents, events, nowGiven, nowSettings, heldOrder, lastPlacement, noValue, logOf, without}
-use Rattle.theorem.proofs.Fold.{mem, withHeld, depart, place, evict, enterEnding, enterRecords, atGiven, gaveBy, enterRole, enter, readFrom, foldOf}
+use Rattle.log.specs.Log.{Entry, Log, Naming, Role, role, isRefused, answersFailed, answersRemoved, answersInserted, Event, heldNow, endingEvents, recordEvents, loadEvents, ownEvents, events, givenOf, loadGiven, nowGiven, nowSettings, heldOrder, lastPlacement, noValue, logOf, without}
+use Rattle.theorem.proofs.Fold.{mem, withHeld, depart, place, evict, enterEnding, enterRecords, atGiven, gaveBy, enterLoaded, enterRole, enter, readFrom, foldOf}
 use Rattle.theorem.proofs.Keys.{Distinct, mem-append, mem-without, mem-without-other, distinct-without, distinct-placed}
 use Rattle.theorem.proofs.Steps.{own-settings}
+use Rattle.theorem.proofs.Load.{load-settings}
 
 -- The list that `heldOrder` makes is the one that the text means: the keys that are held, ..
 pub order-held : (k : ℕ) (es : List Event) → mem k (heldOrder es) ≡ heldNow k es
@@ -144,6 +145,11 @@ cond-or : {A : Type 0} (f r : Bool) (x y : A) → cond (f || r) x y ≡ cond f x
 cond-or true r x y = refl
 cond-or false r x y = refl
 
+load-held : (ns : List Node) (l : Log) (es : List Event) → l .held ≡ heldOrder es → enterLoaded ns l .held ≡ heldOrder (loadEvents ns es)
+load-held [] l es e = e
+load-held (n ∷ ns) l es e =
+    load-held ns (place (n .key) (gaveBy (n .key) (givenOf n) l)) (Event.placement (n .key) ∷ es) (ap (λ (xs : List ℕ). without (n .key) xs ++ (n .key ∷ [])) e)
+
 role-held : (ro : Role) (a : Answer) (l : Log) (es : List Event) → l .held ≡ heldOrder es → enterRole ro a l .held ≡ heldOrder (ownEvents ro a es)
 role-held (Role.names k n) a l es e =
     let t : mem k (l .held) ≡ heldNow k es = ap (mem k) e ∙ order-held k es in
@@ -155,6 +161,7 @@ role-held (Role.names k n) a l es e =
     (both (λ (m : Log). m .held) heldOrder (answersInserted a || (n .statusStep && heldNow k es)) (place k g) g (Event.placement k ∷ es) es (ap (λ (xs : List ℕ). without k xs ++ (k ∷ [])) e) e))
     ∙ ap heldOrder (sym (cond-or (answersFailed a) (answersRemoved a) (Event.departure k ∷ es) p))
 role-held (Role.empties s) a l es e = refl
+role-held (Role.loads ns) a l es e = load-held ns l es e
 role-held Role.silent a l es e = e
 
 given-at : {A : Type 0} (k x : ℕ) (o : Option A) (f : ℕ → A) → atGiven k o f x ≡ cond (same x k) (given o (f x)) (f x)
@@ -173,27 +180,40 @@ names-given f k n o a l x h g =
     (cases (λ (m : Log). f m x ≡ y) (answersRemoved a) (λ _. kept _)
     (λ _. cases (λ (m : Log). f m x ≡ y) (answersInserted a || (n .statusStep && mem k (l .held))) (λ _. kept _) (λ _. p)))
 
+load-given : {A : Type 0} (f : Log → ℕ → A) (pick : Naming → Option A) → ((m : Log) (ks : List ℕ) → f (withHeld ks m) ≡ f m)
+    → ((k : ℕ) (n : Naming) (m : Log) → f (gaveBy k n m) ≡ atGiven k (pick n) (f m)) → (ns : List Node) (l : Log) (x : ℕ)
+    → f (enterLoaded ns l) x ≡ loadGiven pick ns x (f l x)
+load-given f pick h g [] l x = refl
+load-given f pick h g (n ∷ ns) l x =
+    let m : Log = gaveBy (n .key) (givenOf n) l in
+    load-given f pick h g ns (place (n .key) m) x
+    ∙ ap (loadGiven pick ns x) (ap (λ (q : ℕ → _). q x) (h m (without (n .key) (m .held) ++ (n .key ∷ [])) ∙ g (n .key) (givenOf n) l) ∙ given-at (n .key) x (pick (givenOf n)) (f l))
+
 role-connected : (ro : Role) (a : Answer) (l : Log) (x : ℕ)
     → enterRole ro a l .connected x ≡ nowGiven (λ n. n .connected) false ro a x (l .connected x)
 role-connected (Role.names k n) a l x = names-given (λ (m : Log). m .connected) k n (n .connected) a l x (λ m ks. refl) refl
 role-connected (Role.empties s) a l x = refl
+role-connected (Role.loads ns) a l x = load-given (λ (m : Log). m .connected) (λ (n : Naming). n .connected) (λ m ks. refl) (λ k n m. refl) ns l x
 role-connected Role.silent a l x = refl
 
 role-incoming : (ro : Role) (a : Answer) (l : Log) (x : ℕ)
     → enterRole ro a l .incoming x ≡ nowGiven (λ n. n .incoming) false ro a x (l .incoming x)
 role-incoming (Role.names k n) a l x = names-given (λ (m : Log). m .incoming) k n (n .incoming) a l x (λ m ks. refl) refl
 role-incoming (Role.empties s) a l x = refl
+role-incoming (Role.loads ns) a l x = load-given (λ (m : Log). m .incoming) (λ (n : Naming). n .incoming) (λ m ks. refl) (λ k n m. refl) ns l x
 role-incoming Role.silent a l x = refl
 
 role-value : (ro : Role) (a : Answer) (l : Log) (x : ℕ)
     → enterRole ro a l .value x ≡ nowGiven (λ n. n .value) noValue ro a x (l .value x)
 role-value (Role.names k n) a l x = names-given (λ (m : Log). m .value) k n (n .value) a l x (λ m ks. refl) refl
 role-value (Role.empties s) a l x = refl
+role-value (Role.loads ns) a l x = load-given (λ (m : Log). m .value) (λ (n : Naming). n .value) (λ m ks. refl) (λ k n m. refl) ns l x
 role-value Role.silent a l x = refl
 
 role-settings : (ro : Role) (a : Answer) (l : Log) → enterRole ro a l .settings ≡ nowSettings ro (l .settings)
 role-settings (Role.names k n) a l = own-settings k (n .statusStep) a l (gaveBy k n l) refl
 role-settings (Role.empties s) a l = refl
+role-settings (Role.loads ns) a l = load-settings ns l
 role-settings Role.silent a l = refl
 
 pub enter-literal : (e : Entry) (h : List Entry) → enter (e .call) (e .answer) (e .records) (logOf h) ≡ logOf (e ∷ h)

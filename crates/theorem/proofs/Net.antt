@@ -8,16 +8,21 @@ use mathlib.Core.Logic.{_⊎_, inl, inr, ⊎-elim}
 use native.Mathlib.Omega.{arith}
 use lib.ListN.{length}
 use lib.Dec.{leb}
-use borrow.Author.Tests.{leb-false}
-use Rattle.model.specs.Base.{same, isSome}
+use borrow.Author.Tests.{leb-false, not-true}
+use Rattle.model.specs.Base.{same, isSome, anyOf}
 use Rattle.model.specs.Value.{Address, Value, sameValue, sharesNet, hasAddress}
 use Rattle.model.specs.Node.{Node, PendingNode, EndedPending, withStatus, withValue}
 use Rattle.model.specs.Filter.{counts, counted, ipFilterFails, maxNodesPerSubnetBucket}
 use Rattle.model.specs.Result.{FailureReason, BucketInsertResult, UpdateResult, isInserted}
 use Rattle.model.specs.Bucket.{Bucket, BucketSettings, nodes, isFull, get, holds, failsBucketFilter, isMaxIncoming, withPending, only, put, omit, takeOut, insertFull, insert, applyFull, applyDue, applyIfDue, applyPending, reinsert, isFirst, updateIfPending, updateStatusOf, updateStatus, revalue, updateValueOf, updateValue, updatePending, remove}
-use Rattle.laws.proofs.Tests.{clash, cases, split}
+use Rattle.laws.proofs.Tests.{clash, cases, split, and-left, and-right, or-first, or-second, or-rest}
 use Rattle.laws.proofs.Values.{sameValue-true, sameValue-self, sharesNet-sym, sharesNet-trans}
-use Rattle.model.specs.Table.{Settings, Table, Answer}
+use Rattle.model.specs.Table.{Settings, Table, Answer, numBuckets}
+use Rattle.model.specs.Layout.{nodesIn}
+use Rattle.model.specs.Saved.{threeOfANet, loadedBytes, loadedBucket}
+use Rattle.laws.proofs.Lists.{lt-or-le}
+use Rattle.laws.proofs.BucketBack.{nodes-in}
+use Rattle.laws.proofs.Loaded.{Loads, loaded-at, loaded-past}
 use Rattle.model.specs.Call.{Call}
 use Rattle.model.specs.Step.{step}
 use Rattle.log.specs.Log.{logOf}
@@ -249,6 +254,73 @@ module _ (s : BucketSettings) where
     unfolding remove
     remove-spread k b f = cases (λ (r : Bool × Bucket). Spread s (r .1)) (holds k b) (λ _. apply-spread (takeOut k b) (takeOut-spread k b f)) (λ _. f)
 
+-- ---- what question 9 asks: no three different values of one /24
+
+counts-net : (v w : Value) → counts v w ≡ true → sharesNet (v .address) (w .address) ≡ true
+unfolding counts
+counts-net v w e = and-left (sharesNet (v .address) (w .address)) (not (sameValue w v)) e
+
+counts-other : (v w : Value) → counts v w ≡ true → v ≡ w → ⊥
+unfolding counts
+counts-other v w e p =
+    clash (ap (sameValue w) p ∙ sameValue-self w) (not-true (sameValue w v) (and-right (sharesNet (v .address) (w .address)) (not (sameValue w v)) e))
+
+-- some node's value passes a test
+any-value : (p : Value → Bool) (v : Value) (ns : List Node) → HasValue v ns → p v ≡ true → anyOf (λ (n : Node). p (n .value)) ns ≡ true
+any-value p v [] h e = absurd h
+any-value p v (n ∷ ns) (inl q) e = or-first (p (n .value)) _ (ap p q ∙ e)
+any-value p v (n ∷ ns) (inr h) e = or-second (p (n .value)) _ (any-value p v ns h e)
+
+value-any : {A : Type 0} (p : Value → Bool) (ns : List Node) → anyOf (λ (n : Node). p (n .value)) ns ≡ true → ((v : Value) → HasValue v ns → p v ≡ true → A) → A
+value-any p [] e k = clash e refl
+value-any p (n ∷ ns) e k =
+    split (p (n .value)) (λ q. k (n .value) (inl refl) q) (λ q. value-any p ns (or-rest (p (n .value)) _ e q) (λ v h r. k v (inr h) r))
+
+module _ (ns : List Node) where
+  abbrev third : Value → Value → Value → Bool
+  third u v w = counts u w && counts v w
+
+  abbrev second : Value → Value → Bool
+  second u v = counts u v && anyOf (λ (n : Node). third u v (n .value)) ns
+
+  abbrev first : Value → Bool
+  first u = anyOf (λ (n : Node). second u (n .value)) ns
+
+  pub two-of : threeOfANet ns ≡ false → TwoOfANet ns
+  unfolding threeOfANet
+  two-of e u v w hu hv hw nuv nvw =
+      split (sameValue v u) (λ q. inl (sym (sameValue-true v u q)))
+      (λ a. split (sameValue w v) (λ q. inr (inl (sym (sameValue-true w v q))))
+      (λ b. split (sameValue w u) (λ q. inr (inr (sym (sameValue-true w u q))))
+      (λ c.
+      let uw : counts u w ≡ true = counts-of u w (sharesNet-trans (u .address) (v .address) (w .address) nuv nvw) c in
+      let third-there = any-value (third u v) w ns hw (rw (uw, counts-of v w nvw b)) in
+      let second-there = any-value (second u) v ns hv (rw (counts-of u v nuv a, third-there)) in
+      clash (any-value first u ns hu second-there) e)))
+
+  pub no-three : TwoOfANet ns → threeOfANet ns ≡ false
+  unfolding threeOfANet
+  no-three s = split (threeOfANet ns) (λ e. absurd (go e)) (λ e. e)
+    where
+      go : anyOf (λ (n : Node). first (n .value)) ns ≡ true → ⊥
+      go e =
+          value-any first ns e
+          (λ u hu f. value-any (second u) ns f
+          (λ v hv g.
+          let uv : counts u v ≡ true = and-left (counts u v) _ g in
+          value-any (third u v) ns (and-right (counts u v) _ g)
+          (λ w hw h.
+          let uw : counts u w ≡ true = and-left (counts u w) (counts v w) h in
+          let vw : counts v w ≡ true = and-right (counts u w) (counts v w) h in
+          ⊎-elim (counts-other u v uv) (⊎-elim (counts-other v w vw) (counts-other u w uw)) (s u v w hu hv hw (counts-net u v uv) (counts-net v w vw)))))
+
+load-spread : (bs : List ℕ) (t : Table) → Loads bs t → (j : ℕ) → Spread (t .settings .bucket) (loadedBucket bs j)
+load-spread bs t g j on =
+    ⊎-elim
+    (λ l. subst⁻¹ TwoOfANet (ap nodes (loaded-at bs j l) ∙ nodes-in (loadedBytes bs j)) (two-of (nodesIn (loadedBytes bs j)) (g .nets on j l)))
+    (λ l. subst⁻¹ (λ (b : Bucket). TwoOfANet (nodes b)) (loaded-past bs j l) (λ u v w hu. absurd hu))
+    (lt-or-le j numBuckets)
+
 -- in every bucket after every list of calls that follows an accepted `new`
 spread-kept : Keeps Spread
 spread-kept = record {
@@ -259,6 +331,7 @@ spread-kept = record {
   value = value-spread;
   pending = updatePending-spread;
   remove = remove-spread;
+  load = load-spread;
 }
 
 pub two-of-a-net : (k : List ℕ) (timeout m tf bf : ℕ) (t : Table) (cs : List Call) → step (Call.new k timeout m tf bf) t .answer ≡ Answer.New → (i : ℕ)

@@ -125,7 +125,7 @@ module _ (ix : ℕ → Option ℕ) where
   leave-absent : (l : Log) (i k : ℕ) (b : Bucket) → Agree ix l i b → mem k (l .held) ≡ false → Agree ix (depart k l) i b
   leave-absent l i k b a m = subst⁻¹ (λ (x : Log). Agree ix x i b) (depart-absent k l m) a
 
-  holds-agree : (l : Log) (i k : ℕ) (b : Bucket) → Agree ix l i b → ix k ≡ some i → holds k b ≡ mem k (l .held)
+  pub holds-agree : (l : Log) (i k : ℕ) (b : Bucket) → Agree ix l i b → ix k ≡ some i → holds k b ≡ mem k (l .held)
   holds-agree l i k b a h = ap isSome (get-agree ix l i k b a h) ∙ split (mem k (l .held)) (λ m. rw m) (λ m. rw m)
 
   module _ (s : BucketSettings) where

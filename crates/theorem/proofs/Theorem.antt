@@ -1,4 +1,4 @@
--- THE THEOREMS. Demand 3: for every list of calls that follows an accepted `new`, refused calls, further `new` calls and clocks that go
+-- THE THEOREMS. Demand 3: for every list of calls that follows an accepted `new`, refused calls, further `new` calls, reads and clocks that go
 -- back included, every bucket, place by place, is what the log says, and the limits hold. The log reads calls, answers and records, and
 -- no bucket. Then the closest list, and what became of pendings. The statements are those of crates/log, specs/Claim, Closest and Pending.
 use Prim.Native.Nat.{ℕ}

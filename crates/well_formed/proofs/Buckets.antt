@@ -8,16 +8,17 @@ use native.Mathlib.Omega.{arith}
 use lib.Dec.{eqb, leb}
 use lib.ListN.{length, getD}
 use borrow.Author.Tests.{ne-eqb, le-leb, lt-leb}
-use Rattle.model.specs.Base.{allBelow, joined, tabulate}
-use Rattle.model.specs.Bytes.{part, zeros}
+use Rattle.model.specs.Base.{allBelow, tabulate}
+use Rattle.model.specs.Bytes.{part}
 use Rattle.model.specs.Bucket.{maxNodesPerBucket, incomingNodes, emptyBucket}
 use Rattle.model.specs.Table.{numBuckets, maxRecords}
 use Rattle.model.specs.Sizes.{keySize, nodeSize, recordSize, placeAt, bucketSize, maxIncomingAt, tableFilterAt, bucketFilterAt, recordCountAt, paddingAt, paddingSize, recordAt}
-use Rattle.model.specs.Layout.{evictingKind, lastKind, bucketBytes, nodesIn, placeIn}
+use Rattle.model.specs.Layout.{evictingKind, lastKind, nodesIn, placeIn}
 use Rattle.model.specs.Formed as model
 use Rattle.model.specs.Formed.{areZero, keyIn, stateAt, pendingFormed, bucketFormed, recordFormed, headerFormed, formed}
 use Rattle.laws.proofs.Parts.{part-part, getD-part}
 use Rattle.laws.proofs.Zeros.{part-areZero, areZero-within}
+use Rattle.laws.proofs.BucketBytes.{bytes-empty}
 use Rattle.laws.proofs.BucketFormed.{bucket-formed}
 use Rattle.laws.proofs.KeepFormed.{empty-formed}
 use Rattle.laws.proofs.Keep.{empty-fits}
@@ -48,10 +49,6 @@ regroup true i s f n p false z = simp and-false
 regroup false i s f n p c z = refl
 
 -- a bucket
-
-bytes-empty : bucketBytes emptyBucket ≡ zeros bucketSize
-unfolding bucketBytes joined
-bytes-empty = refl
 
 module _ (p : ℕ → Bool) (m : ℕ) (s : List ℕ) (at : ℕ) where
   -- zero bytes are an empty bucket

@@ -1,17 +1,18 @@
 use Prim.Native.Nat.{ℕ}
 use mathlib.Core.Path.{_≡_, sym, subst}
 use mathlib.Core.List.{List}
+use Rattle.model.specs.Result.{Reply}
 use Rattle.model.specs.Explain.{explainBytes}
+use Rattle.on_key.specs.Answers.{Replies}
 use Rattle.explain.specs.declared.PeerCall.{PeerCall}
-use Rattle.explain.specs.declared.ExplainAnswer.{ExplainAnswer}
-use Rattle.explain.specs.Calls.{callOf, Explains}
+use Rattle.explain.specs.Calls.{callOf}
 use borrow.Author.Needs.{needs}
 use Rattle.explain.proofs.explain.Statement.{statement}
 use Rattle.explain.proofs.explain.Tie as tie
 
 -- the call that was matched
-matched : (s key out : List ℕ) {out′ : List ℕ} {c d : PeerCall} {r : ExplainAnswer} → c ≡ d → Explains r out′ (explainBytes key (callOf d) out s) → Explains r out′ (explainBytes key (callOf c) out s)
-matched s key out {out′} {c} {d} {r} e x = subst (λ (y : PeerCall). Explains r out′ (explainBytes key (callOf y) out s)) (sym e) x
+matched : (s key out : List ℕ) {out′ : List ℕ} {c d : PeerCall} {r : Reply ℕ} → c ≡ d → Replies r out′ (explainBytes key (callOf d) out s) → Replies r out′ (explainBytes key (callOf c) out s)
+matched s key out {out′} {c} {d} {r} e x = subst (λ (y : PeerCall). Replies r out′ (explainBytes key (callOf y) out s)) (sym e) x
 
 enum-known-call : tie.Need-enum-known-call
 enum-known-call c = search needs

@@ -1,5 +1,6 @@
 use Rattle.model.specs.Call.{KeyCall}
-use Rattle.codes.proofs.Explained.{short, explained}
+use Rattle.codes.proofs.Told.{told}
+use Rattle.codes.proofs.Explained.{short}
 use borrow.Author.Needs.{needs}
 use Rattle.kbuckets.proofs.kbuckets_explain_pending_update.Statement.{statement}
 use Rattle.kbuckets.proofs.kbuckets_explain_pending_update.Tie as tie
@@ -21,7 +22,7 @@ returns : tie.Need-returns
 returns c =
     let x = c .before .before .before in
     let a = x .before .before .before .before .before .args in
-    explained (a .key .now) (KeyCall.pendingUpdate (a .state) (a .direction)) (a .output .now) (a .storage .now) (x .explain-pending-update .ensures) (c .explain-code .ensures)
+    told (x .explain-pending-update .ensures) (c .explain-code .ensures)
 
 pub kbuckets-explain-pending-update-spec : {M : Type 1} → statement M
 kbuckets-explain-pending-update-spec =

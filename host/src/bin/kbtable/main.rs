@@ -1,6 +1,6 @@
 //! Reads calls and writes the answers of the proved library.
 
-use calls::layout::{self, AloneBytes, KEY, Settings, TableBytes};
+use calls::layout::{self, AloneBytes, BUCKETS, KEY, NODE, Settings, TableBytes};
 use calls::program::{self, Implementation, Unanswered};
 use calls::text::{
     BUCKET_FORMS, BucketCall, Listing, PEER_CALLS, Predicate, RAW_FORMS, RecordCodes, TABLE_FORMS, TableCall, Write,
@@ -53,14 +53,23 @@ Set-up that writes the bytes without asking (I is a bucket's index, or b for the
   ENDING             what became of a pending: '-' where it was placed, KEY VALUE STATE DIRECTION of the node that it evicted, or
                      dropped_place_0, dropped_bucket_filter, dropped_incoming_limit, cleared_inserted, cleared_confirmed
   CALL               {}
-  out=K              after a listing: its output has room for K entries, and not for K + 1; after an explanation: it has K bytes
+  HEX                the bytes behind 'Written': two small hexadecimal digits a byte, '-' for no bytes
+  out=K              after a listing: its output has room for K entries, and not for K + 1; after an explanation or 'write': it has K bytes
   ! CALL             the call gets its storage, or bucket, one byte short
 
 'Refused Q' is a call that changed nothing, since question Q failed: 1 the storage's length, 2 its form, 3 a key's length, 4 a code,
-5 NOW + TIMEOUT, 6 N or the output's length, 7 the entry's kind, 8 room in the queue of records.
+5 NOW + TIMEOUT, 6 N or the output's length, 7 the entry's kind, 8 room in the queue of records, 9 the bytes to be read, or a table that
+holds a node, a pending or a record.
 
 Other answers are sigp/discv5's names; host/CALLS.md has them all, and the form of a dump. 'explain' gives a call's answer before it is made,
 the reason, and the keys behind it: 'Failed BucketFull pending KEY'. The table stays as it is.
+
+'write' gives the held nodes as bytes, 'Written HEX', 256 and 47 for each node; the local key, the settings, pendings and records are not among them.
+'read' loads them into a table that holds no node, no pending and no record: 'Read'. It should have the local key and the settings of the one written.
+A line of a terminal has room for 4,095 characters, so a table goes from one to the other through a file:
+
+  kbtable <old.calls | sed -n 's/^Written /read /p' >peers.calls
+  {{ echo 'new :0 60000 16 1 1'; cat peers.calls; }} | kbtable
 
 An example: a table that holds one node, and the keys nearest to the key 5:
 
@@ -104,7 +113,7 @@ impl Tool {
 
 impl Implementation for Tool {
     fn table_call(&mut self, short: bool, call: &TableCall, out: &mut Vec<u8>) -> Result<(), Unanswered> {
-        let may_write = !matches!(call, TableCall::Explain { .. });
+        let may_write = !matches!(call, TableCall::Explain { .. } | TableCall::Write { .. });
         let run = |storage: &mut [u8], output: &mut Output| table_call(storage, call, output, out);
         self.lent.call(&mut self.table.0, short, may_write, call, run)
     }
@@ -133,7 +142,7 @@ impl Implementation for Tool {
 
 impl Lent {
     /// Runs a call on the bytes, or on all but the last, and looks at what it changed: arguments never, in a refusal nothing, and of its
-    /// output only what it says it wrote. `may_write`: an accepted call may change the bytes; an explanation may not.
+    /// output only what it says it wrote. `may_write`: an accepted call may change the bytes; an explanation and `write` may not.
     fn call<Call: Clone + PartialEq>(
         &mut self,
         bytes: &mut Vec<u8>,
@@ -152,7 +161,7 @@ impl Lent {
         }
         let kept = match &answered {
             Err(Unanswered::Refused(question)) => Some(format!("refused with {question}")),
-            Ok(()) if !may_write => Some("explained".to_string()),
+            Ok(()) if !may_write => Some("only read".to_string()),
             _ => None,
         };
         if let Some(kept) = kept
@@ -201,6 +210,15 @@ fn table_call(storage: &mut [u8], call: &TableCall, output: &mut Output, out: &m
             taken(record, output, out)?;
         }
         TableCall::Explain { call, room } => explain(storage, call, *room, output, out)?,
+        TableCall::Write { room } => write(storage, *room, output, out)?,
+        TableCall::Read { bytes } => {
+            let count = lent::read(storage, bytes)?;
+            if count != held(storage) {
+                let message = format!("it says that it loaded {count} nodes, and the table holds {}", held(storage));
+                return Err(Unanswered::Broken(message));
+            }
+            out.text("Read");
+        }
     }
     Ok(())
 }
@@ -346,6 +364,25 @@ fn explained(written: &[u8], out: &mut Vec<u8>) -> Result<(), Unanswered> {
     Ok(())
 }
 
+/// The nodes of all buckets, by their counts.
+fn held(storage: &[u8]) -> usize {
+    (0..BUCKETS).map(|i| usize::from(storage[layout::bucket_at(i)])).sum()
+}
+
+/// The held nodes as bytes, with an output of as many bytes as `room` says, or of those that it needs and some more.
+fn write(storage: &[u8], room: Option<u64>, output: &mut Output, out: &mut Vec<u8>) -> Result<(), Unanswered> {
+    let needed = (lent::written_bytes(held(storage)) as u64).saturating_add(output.more() * NODE as u64);
+    let lent = output.lend(room.unwrap_or(needed).min(MOST_BYTES as u64) as usize, 1);
+    let length = lent.len();
+    let bytes = lent::written_bytes(lent::write(storage, lent)?);
+    if bytes > length {
+        return Err(Unanswered::Broken(format!("it says that it wrote {bytes} bytes, and the output has {length}")));
+    }
+    out.text("Written ");
+    out.hexadecimal(output.wrote(bytes));
+    Ok(())
+}
+
 fn predicate_codes(predicate: &Predicate) -> PredicateCodes {
     match *predicate {
         Predicate::Code(predicate) => PredicateCodes { predicate, ..PredicateCodes::default() },
@@ -465,7 +502,7 @@ mod tests {
 
     #[test]
     fn a_refusal_changes_nothing() {
-        for question in 1..=8 {
+        for question in 1..=9 {
             let refused = || Err(Unanswered::Refused(question));
             assert_eq!(called(false, |_, _| refused()), refused());
             let storage = called(true, |bytes, _| {
@@ -517,7 +554,7 @@ mod tests {
         };
         for room in [EXPLANATION_BYTES, line.len() + 3] {
             assert_eq!(run(false, 0, room), Ok(()));
-            assert_eq!(run(true, 0, room), broken("explained, and byte 1 of the storage changed"));
+            assert_eq!(run(true, 0, room), broken("only read, and byte 1 of the storage changed"));
             let message = "byte 18 of the output changed; it has";
             let Err(Unanswered::Broken(said)) = run(false, 1, room) else { panic!() };
             assert!(said.starts_with(message), "{said}");

@@ -1,0 +1,3 @@
+-- What the contracts of `loaded` cite beside the model.
+pub mod Answer
+pub mod Load

@@ -1,0 +1,2 @@
+-- What the contracts of `saved` cite beside the model.
+pub mod Fields
