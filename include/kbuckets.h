@@ -5,7 +5,7 @@
  * allocates, blocks or has state of its own: a table is its storage and nothing else.
  *
  * Numbers in the storage are big-endian, and its unused bytes are zero. Keys are 32 bytes. A table's or a bucket's bytes may be copied,
- * written to disk and compared; only the calls write them, and a call finds bytes that are not well-formed (question 2).
+ * written to disk and compared; only the calls write them, and a call finds it where what it reads of them is not well-formed (question 2).
  *
  * What a call returns. KBUCKETS_REFUSED + q: question q failed, the first to fail, and all lent memory keeps its bytes. Otherwise a number
  * below KBUCKETS_REFUSED: the answer's code, the number of entries that a listing found, the number of bytes of an explanation, or the number
@@ -32,7 +32,7 @@
 
 /* The version of this header: 0x00MMmmpp, a byte each for major, minor and patch. */
 #define KBUCKETS_VERSION_MAJOR 0
-#define KBUCKETS_VERSION_MINOR 5
+#define KBUCKETS_VERSION_MINOR 6
 #define KBUCKETS_VERSION_PATCH 0
 #define KBUCKETS_VERSION (KBUCKETS_VERSION_MAJOR * 0x10000 + KBUCKETS_VERSION_MINOR * 0x100 + KBUCKETS_VERSION_PATCH)
 
@@ -117,11 +117,19 @@ enum {
     KBUCKETS_SLOT_EQUALS = 3
 };
 
-/* Refusals. The questions are asked in this order; questions about things that a call lacks are skipped. */
+/* Refusals. The questions are asked in this order; questions about things that a call lacks are skipped.
+ *
+ * Question 2 of a table has two parts. Settings and queue are asked about in its turn; the buckets that the call reads, and no others, right
+ * after question 6. A call on one key reads the key's bucket, and none for the local key; kbuckets_update_node and
+ * kbuckets_insert_or_update read all buckets where the table filter is on and runs, which it does but where the key is held with an equal
+ * value. An explanation reads what its call reads. A listing reads the buckets that it visits, up to the one that has its n-th entry, and
+ * kbuckets_nodes_by_distances those in which it looks for due pendings. kbuckets_write and kbuckets_read read all buckets,
+ * kbuckets_take_applied_pending none. A malformed bucket that is not read stops no call, has no part in its answer and keeps its bytes;
+ * kbuckets_new alone writes it. */
 enum {
     KBUCKETS_REFUSED = 0x10000,
     KBUCKETS_REFUSED_SIZE = KBUCKETS_REFUSED + 1,   /* the storage, or the bucket, has another length */
-    KBUCKETS_REFUSED_FORM = KBUCKETS_REFUSED + 2,   /* it holds no well-formed table, or bucket (not asked by `new`) */
+    KBUCKETS_REFUSED_FORM = KBUCKETS_REFUSED + 2,   /* settings, queue or a bucket that it reads are malformed (not asked by `new`) */
     KBUCKETS_REFUSED_KEY = KBUCKETS_REFUSED + 3,    /* a key is not 32 bytes */
     KBUCKETS_REFUSED_CODE = KBUCKETS_REFUSED + 4,   /* a code is out of range */
     KBUCKETS_REFUSED_TIME = KBUCKETS_REFUSED + 5,   /* now + the pending timeout is above 2^64 - 1 */
@@ -279,7 +287,7 @@ KBUCKETS_MUST_USE uint32_t kbuckets_absent_insert(
 
 /* The listings. Each writes at most n entries to `output`, one behind the other, and answers how many it found. The output has room for n
  * entries (one, in kbuckets_nodes_by_distances at n = 0); bytes past the entries found stay. The due pendings of the buckets visited are
- * applied first. */
+ * applied first; where one of these buckets is malformed none is. */
 
 /* All nodes, bucket by bucket, each in stored order. Questions 1, 2, 5, 6, 8. */
 KBUCKETS_MUST_USE uint32_t kbuckets_iter(uint8_t *storage, size_t storage_len, size_t n, uint64_t now, uint8_t *output, size_t output_len);
@@ -292,8 +300,9 @@ KBUCKETS_MUST_USE uint32_t kbuckets_nodes_by_distances(
     uint8_t *storage, size_t storage_len, const uint64_t *distances, size_t distances_len, size_t n, uint64_t now, uint8_t *output,
     size_t output_len);
 
-/* The keys nearest to the target, nearest first. When the local key and the target are equal or their last bits differ, the node of bucket
- * 0 stands a second time right behind itself; so it does in the two calls below. Questions 1, 2, 3, 5, 6, 8. */
+/* The keys nearest to the target, nearest first, of a table in which no bucket is malformed. When the local key and the target are equal or
+ * their last bits differ, the node of bucket 0 stands a second time right behind itself; so it does in the two calls below. Questions 1, 2, 3,
+ * 5, 6, 8. */
 KBUCKETS_MUST_USE uint32_t kbuckets_closest_keys(
     uint8_t *storage, size_t storage_len, const uint8_t *target, size_t target_len, size_t n, uint64_t now, uint8_t *output,
     size_t output_len);
@@ -402,7 +411,7 @@ KBUCKETS_MUST_USE uint32_t kbuckets_write(const uint8_t *storage, size_t storage
 KBUCKETS_MUST_USE uint32_t kbuckets_read(uint8_t *storage, size_t storage_len, const uint8_t *bytes, size_t bytes_len);
 
 /* A bucket by itself. `bucket` is KBUCKETS_BUCKET_BYTES: what a table stores of a bucket, then pending timeout, max_incoming and filter.
- * Question 2 asks nothing of the index of its keys. It has no queue: what becomes of its pending leaves no record. */
+ * Question 2, all of it in its turn, asks nothing of the index of its keys. It has no queue: what becomes of its pending leaves no record. */
 
 /* Makes the bytes, whatever they were, an empty bucket. max_incoming: 0 to 16. Answers 0. Questions 1, 4. */
 KBUCKETS_MUST_USE uint32_t kbuckets_b_new(

@@ -22,7 +22,7 @@ const EVICTING: u8 = 1;
 
 /// Count, first connected place, the places; then pending flag, pending node, deadline.
 const PENDING_AT: usize = 2 + PLACES * NODE;
-const BUCKET: usize = PENDING_AT + 1 + NODE + TIME;
+pub const BUCKET: usize = PENDING_AT + 1 + NODE + TIME;
 
 /// Local key, pending timeout, max_incoming, table filter, bucket filter, record count, padding, records, buckets.
 const TIMEOUT_AT: usize = KEY;
@@ -274,11 +274,10 @@ impl TableBytes {
         Ok(())
     }
 
-    /// Question 2.
-    pub fn formed(&self) -> bool {
+    /// Question 2, of the settings and the queue.
+    pub fn header_formed(&self) -> bool {
         let settings = self.settings();
         let count = usize::from(self.0[RECORD_COUNT_AT]);
-        let local = self.local();
         usize::from(settings.max_incoming) <= PLACES
             && settings.table_filter <= 1
             && settings.bucket_filter <= 1
@@ -290,7 +289,17 @@ impl TableBytes {
                 EndingCodes::Unplaced(code) => Unplaced::of_code(code).is_some() && all_zero(&bytes[KEY + 1..]),
             })
             && all_zero(&self.0[RECORDS_AT + count * RECORD..BUCKETS_AT])
-            && (0..BUCKETS).all(|i| self.bucket(i).formed(|key| index(&local, key) == Some(i), settings.max_incoming))
+    }
+
+    /// Question 2, of one bucket.
+    pub fn bucket_formed(&self, i: usize) -> bool {
+        let local = self.local();
+        self.bucket(i).formed(|key| index(&local, key) == Some(i), self.settings().max_incoming)
+    }
+
+    /// Question 2, of all of it.
+    pub fn formed(&self) -> bool {
+        self.header_formed() && (0..BUCKETS).all(|i| self.bucket_formed(i))
     }
 
     /// The line of `dump`.

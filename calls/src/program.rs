@@ -11,9 +11,14 @@ use std::process::ExitCode;
 pub enum Unanswered {
     /// It is refused: the number of the question.
     Refused(u8),
+    /// A bucket of the table is malformed, and the implementation answers on tables only that are well formed throughout (02, slip 7).
+    Malformed,
     /// It wrote what no call may write. This ends the program.
     Broken(String),
 }
+
+/// The answer of an implementation that does not answer, since a bucket of the table is malformed.
+pub const MALFORMED: &str = "Malformed";
 
 /// An implementation of the calls, with a table and a bucket by itself.
 pub trait Implementation {
@@ -114,6 +119,7 @@ pub fn answer_line(it: &mut impl Implementation, line: &Line, dumps: bool, out: 
             out.text("Refused ");
             out.number(question.into());
         }
+        Err(Unanswered::Malformed) => out.text(MALFORMED),
         Err(Unanswered::Broken(message)) => {
             out.truncate(start);
             return Err(message);

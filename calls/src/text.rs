@@ -218,6 +218,18 @@ pub enum Raw {
     Byte(u64, u8),
 }
 
+impl Raw {
+    /// Whether it writes the bucket by itself, and not the table.
+    pub fn is_alone(&self) -> bool {
+        match self {
+            Raw::Node(which, _) | Raw::FirstConnected(which, _) | Raw::Pending(which, ..) => {
+                matches!(which, Which::Itself)
+            }
+            Raw::Record(_) | Raw::Byte(..) => false,
+        }
+    }
+}
+
 /// `short`: what the call works on is handed over one byte short.
 #[derive(Clone, Debug)]
 pub enum Line {

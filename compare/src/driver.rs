@@ -1,5 +1,7 @@
 //! The reference behind the text of calls: the questions, then the call on the Rust's table or bucket. A raw line turns the table or
-//! the bucket into its bytes; the next call reads it back where question 2 holds.
+//! the bucket into its bytes; the next call reads it back where question 2 holds of all of them. Where it holds of settings and queue and a
+//! bucket is malformed, the Rust has no such table: `write` and `read`, which read all buckets, are refused with 2, and no other call but
+//! `new` is answered (02, slip 7).
 
 use crate::kbucket::access::{self, KBucket};
 use crate::kbucket::filter::{Filter, IpBucketFilter, IpTableFilter};
@@ -102,7 +104,11 @@ impl Implementation for Driver {
             return Ok(());
         }
         if let Stored::Bytes(bytes) = &self.table {
-            ask(2, bytes.formed())?;
+            ask(2, bytes.header_formed())?;
+            if !bytes.formed() {
+                let reads_all = matches!(call, TableCall::Write { .. } | TableCall::Read { .. });
+                return Err(if reads_all { Unanswered::Refused(2) } else { Unanswered::Malformed });
+            }
             let held = HeldTable::read(bytes);
             debug_assert!(held.bytes().0 == bytes.0);
             self.table = Stored::Held(held);

@@ -326,7 +326,10 @@ fn saved(mut list: Vec<String>, random: &mut Random) -> Vec<String> {
             list.push(list[0].clone());
         }
         match random.below(40) {
-            0 => list.push(format!("raw_record {} -", hex(&local))),
+            // Behind a malformed bucket, where the two need not have the same queue, there may be no room for it.
+            0 if !list.iter().any(|line| line.starts_with("raw_byte ")) => {
+                list.push(format!("raw_record {} -", hex(&local)));
+            }
             1 | 2 => list.push(format!("raw_byte {} 2", layout::HEADER_OFFSETS[2])),
             3 => list
                 .push(format!("insert_or_update 0 {} 0:0.0.0.0:1 0 0", hex(&key_in_bucket(random, &local, 255, true)))),
@@ -613,15 +616,17 @@ impl<'a> World<'a> {
                 self.calls(&LISTINGS, 12);
             }
             Theme::Malformed => {
-                self.new_table();
-                if self.random.percent(50) {
-                    self.fill();
-                } else {
-                    self.raw_table();
-                }
                 for _ in 0..4 {
+                    self.new_table();
+                    if self.random.percent(30) {
+                        self.fill();
+                    } else {
+                        self.raw_table();
+                    }
+                    // A malformed bucket is passed over by the comparison, up to the next new table.
+                    let header = self.random.percent(70);
                     for _ in 0..1 + self.random.below(3) {
-                        self.raw_byte();
+                        self.raw_byte(header);
                     }
                     self.calls(&EVERY, 12);
                 }
@@ -1207,12 +1212,13 @@ impl<'a> World<'a> {
         format!("{} {} {} {}", text(key), self.value(), self.state(), self.direction())
     }
 
-    /// Changes one byte of the storage, mostly one that matters.
-    fn raw_byte(&mut self) {
+    /// Changes one byte of the storage, mostly one that matters; `header`: one of settings and queue.
+    fn raw_byte(&mut self, header: bool) {
         let offset = match self.random.below(8) {
+            0 if header => self.random.below(layout::bucket_at(0) as u64) as usize,
+            _ if header => self.random.pick(&layout::HEADER_OFFSETS),
             0 => self.random.below(layout::STORAGE as u64) as usize,
-            1..=2 => self.random.pick(&layout::HEADER_OFFSETS),
-            3 => layout::bucket_at(self.random.below(256) as usize) + self.random.pick(&layout::BUCKET_OFFSETS),
+            1..=3 => layout::bucket_at(self.random.below(256) as usize) + self.random.pick(&layout::BUCKET_OFFSETS),
             _ => layout::bucket_at(self.random.pick(&self.indices)) + self.random.pick(&layout::BUCKET_OFFSETS),
         };
         let byte = match self.random.below(3) {

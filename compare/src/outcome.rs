@@ -3,6 +3,7 @@
 //! told apart.
 
 use crate::explained::{self, Parts};
+use crate::program::MALFORMED;
 use crate::text::{self, BucketCall, Line, Listing, Predicate, Slot, TableCall, ValueCodes, Write};
 use std::collections::BTreeMap;
 use std::str::Split;
@@ -494,8 +495,11 @@ fn ending(record: &str) -> Option<&str> {
     }
 }
 
-/// The call of a line and the outcome that its answer is.
+/// The call of a line and the outcome that its answer is; none where the reference does not answer.
 pub fn outcome(line: &str, answer: &str) -> Option<(&'static str, String)> {
+    if answer == MALFORMED {
+        return None;
+    }
     if let Some(explanation) = explanation(line, answer) {
         return Some(explanation);
     }
@@ -697,6 +701,11 @@ impl Endings {
             }
         }
         self.queued = Some(records.len());
+    }
+
+    /// A line that was passed over, behind which the queue is not known.
+    pub fn lost(&mut self) {
+        self.queued = None;
     }
 
     /// How often each ending occurred.

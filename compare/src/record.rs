@@ -105,7 +105,8 @@ pub fn answer(driver: &mut Driver, line: &str) -> Result<String, String> {
     program::answer_line(driver, &parsed, false, &mut out)?;
     let mut answer = String::from_utf8(out).map_err(|e| e.to_string())?.trim_end().to_string();
     if let Some(before) = before {
-        let earlier = ["Refused 1", "Refused 2", "Refused 3", "Refused 4", "Refused 5"].contains(&answer.as_str());
+        let earlier = ["Refused 1", "Refused 2", "Refused 3", "Refused 4", "Refused 5", program::MALFORMED];
+        let earlier = earlier.contains(&answer.as_str());
         if !earlier {
             answer = "Refused 6".to_string();
         }

@@ -1,7 +1,8 @@
 //! Runs commands on lists of calls and holds the answers of two against each other.
 
 use crate::explained::{self, Asked};
-use crate::text;
+use crate::program::MALFORMED;
+use crate::text::{self, Line, TableCall};
 use std::io::{BufRead, BufReader, Read, Write};
 use std::process::{Child, ChildStdout, Command, ExitStatus, Stdio};
 use std::thread::JoinHandle;
@@ -21,10 +22,13 @@ pub struct Disagreement {
     pub both_ended: bool,
 }
 
-/// An answer that two programs agree on.
+/// An answer that two programs agree on, or one that was passed over.
 pub struct Answered<'a> {
     pub call: &'a str,
+    /// The first program's.
     pub answer: &'a str,
+    /// The two were not held against each other: the first does not answer on the table as it is.
+    pub passed: bool,
     /// The call stands behind its explanation.
     pub explained: bool,
     /// The dump that stood before the call; nothing where there was none, or raw lines followed it.
@@ -99,8 +103,18 @@ impl Running {
     }
 }
 
+/// Whether a line is about the table, and not about the bucket by itself.
+fn of_table(line: &Line) -> bool {
+    match line {
+        Line::Table { .. } | Line::Dump => true,
+        Line::Raw(raw) => !raw.is_alone(),
+        Line::Bucket { .. } | Line::BucketDump => false,
+    }
+}
+
 /// Feeds a list to both programs, with a dump after each call, and finds where they part, or where they end though answers are due. A call
-/// that stands right behind its explanation must answer as explained. `answered` sees each answer they agree on.
+/// that stands right behind its explanation must answer as explained. Where the first answers `Malformed`, what both say of the table is
+/// passed over up to the next new one. `answered` sees each answer they agree on, and each that is passed over.
 pub fn compare(
     programs: &[Program; 2],
     list: &[String],
@@ -111,13 +125,18 @@ pub fn compare(
     let (mut one, mut two) = (Vec::new(), Vec::new());
     let mut explained: Option<(Asked, String)> = None;
     let (mut before, mut after) = (Vec::new(), Vec::new());
+    let mut malformed = false;
     for (at, call) in list.iter().enumerate() {
-        let lines = text::parse(call).ok().flatten().map_or(0, |line| line.answer_lines());
+        let Some(line) = text::parse(call).ok().flatten() else { continue };
+        let is_new = matches!(line, Line::Table { call: TableCall::New { .. }, .. });
         let mut answer = None;
         after.clear();
-        for _ in 0..lines {
+        let mut passed = malformed && of_table(&line) && !is_new;
+        for _ in 0..line.answer_lines() {
             let (a, b) = (first.line(&mut one)?, second.line(&mut two)?);
-            let Some(both) = a.filter(|_| a == b) else {
+            // What the first answers decides: it is the one that knows no such table.
+            passed |= answer.is_none() && of_table(&line) && a == Some(MALFORMED.as_bytes());
+            let Some(both) = a.filter(|_| a == b || passed && b.is_some()) else {
                 let both_ended = a.is_none() && b.is_none();
                 let (first, second) = (shown(a, first)?, shown(b, second)?);
                 return Ok(Some(Disagreement { at, first, second, both_ended }));
@@ -126,14 +145,29 @@ pub fn compare(
                 None => answer = Some(String::from_utf8_lossy(both).into_owned()),
                 Some(_) => after.extend_from_slice(both),
             }
+            // Of a new table that is refused only the answer is held; the malformed one stays.
+            passed |= malformed && is_new && answer.as_deref() != Some("New");
         }
         let Some(answer) = answer else { continue };
+        malformed = if is_new { malformed && answer != "New" } else { malformed || passed };
+        if passed {
+            answered(&Answered { call, answer: &answer, passed, explained: false, before: &[], after: &[] });
+            (explained, before) = (None, Vec::new());
+            continue;
+        }
         let asked = explained.take().filter(|(asked, _)| asked.call == *call);
         if let Some((_, explanation)) = asked.as_ref().filter(|(a, e)| !explained::holds(a, e, &answer)) {
             let said = format!("explained as \"{explanation}\", and answered \"{answer}\"");
             return parted(at, &said, first, second);
         }
-        answered(&Answered { call, answer: &answer, explained: asked.is_some(), before: &before, after: &after });
+        answered(&Answered {
+            call,
+            answer: &answer,
+            passed,
+            explained: asked.is_some(),
+            before: &before,
+            after: &after,
+        });
         explained = explained::asked(call).map(|asked| (asked, answer));
         // Behind a raw line, which has no dump, the bytes are such as no dump has shown.
         std::mem::swap(&mut before, &mut after);

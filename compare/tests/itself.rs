@@ -32,6 +32,32 @@ fn agrees_with_itself() {
     }
 }
 
+/// Behind a malformed bucket the answers of the two are not held against each other, up to the next new table; a bucket by itself is.
+#[test]
+fn passes_over_malformed_buckets() {
+    use compare::run::{Program, compare};
+    if !has_reference() {
+        return;
+    }
+    let lines = |text: &str| text.lines().map(str::to_string).collect::<Vec<String>>();
+    // Answers Present where the reference does not answer, and SelfEntry where it says Absent.
+    let (reference, script) = (format!("REFERENCE={REFERENCE}"), script("changed.sh"));
+    let edited = ["env", &reference, "EDIT=s/^Malformed$/Present(0\\/0)/;s/^Absent$/SelfEntry/"];
+    let command = edited.into_iter().map(str::to_string).chain(script.split(' ').map(str::to_string));
+    let programs = [Program(vec![REFERENCE.to_string()]), Program(command.collect())];
+    let malformed = "new :0 10 16 0 0\nraw_byte 5168 17\nentry 0 :1\n";
+    let parted = |text: &str| compare(&programs, &lines(text), |_| ()).unwrap().map(|parted| parted.at);
+    assert_eq!(parted("new :0 10 16 0 0\nentry 0 :1"), Some(1));
+    assert_eq!(parted(malformed), None);
+    assert_eq!(parted(&format!("{malformed}raw_byte 5168 0\nentry 0 :1\ntake_applied_pending")), None);
+    assert_eq!(parted(&format!("{malformed}! new :0 10 16 0 0\nraw_byte 5168 0\nentry 0 :1")), None);
+    assert_eq!(parted(&format!("{malformed}new :0 10 16 0 0\nentry 0 :1")), Some(4));
+    let mut passed = Vec::new();
+    let list = lines(&format!("{malformed}b_new 10 16 0\nentry 0 :2\nnew :0 10 16 0 0\nremove 0 :1"));
+    assert!(compare(&programs, &list, |answered| passed.push(answered.passed)).unwrap().is_none());
+    assert_eq!(passed, [false, false, true, false, true, false, false]);
+}
+
 /// The command that runs a script beside this file.
 fn script(name: &str) -> String {
     format!("sh {}", Path::new(env!("CARGO_MANIFEST_DIR")).join("tests").join(name).display())

@@ -10,6 +10,7 @@ use std::fmt;
 #[derive(Clone, Copy, Debug, PartialEq, Eq)]
 pub enum Refusal {
     Size = 1,
+    /// Of a table: its settings and its queue, and, after `Output`, the buckets that the call reads.
     Form,
     Key,
     Code,
@@ -32,7 +33,7 @@ impl fmt::Display for Refusal {
     fn fmt(&self, f: &mut fmt::Formatter<'_>) -> fmt::Result {
         f.write_str(match self {
             Refusal::Size => "the storage, or the bucket, has another length",
-            Refusal::Form => "it holds no well-formed table, or bucket",
+            Refusal::Form => "its settings, its queue or a bucket that the call reads are not well-formed",
             Refusal::Key => "a key is not 32 bytes",
             Refusal::Code => "a code is out of range",
             Refusal::Time => "now + the pending timeout is above 2^64 - 1",

@@ -35,7 +35,7 @@ pub enum Predicate {
 }
 
 /// The routing table. `now` is a count of milliseconds that the caller gives; it may go back. Each method changes nothing where it is
-/// refused.
+/// refused, and reads no other buckets than it needs (include/kbuckets.h, "Refusals").
 #[derive(Clone, PartialEq, Eq)]
 pub struct KBucketsTable {
     storage: Vec<u8>,
@@ -51,7 +51,8 @@ impl KBucketsTable {
         Ok(KBucketsTable { storage })
     }
 
-    /// A table from the bytes of one, as [`KBucketsTable::storage`] gives them. Bytes that are no table's are refused by each call.
+    /// A table from the bytes of one, as [`KBucketsTable::storage`] gives them. Bytes that are no table's are refused by each call that reads
+    /// them; `write` reads all buckets.
     #[must_use]
     pub fn from_storage(storage: Vec<u8>) -> KBucketsTable {
         KBucketsTable { storage }

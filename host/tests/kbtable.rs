@@ -1,5 +1,5 @@
-//! The tool answers the twelve positions and the questions of document 01, explains calls, ends pendings, refuses bad lines, and explains
-//! itself.
+//! The tool answers the twelve positions and the questions of document 01, explains calls, ends pendings, reads no bucket that it need not,
+//! refuses bad lines, and explains itself.
 
 use calls::layout;
 
@@ -39,6 +39,12 @@ fn written_and_read() {
 #[test]
 fn endings() {
     programs::answers_as_written(KBTABLE, "endings.txt");
+}
+
+/// Malformed buckets, those that a call reads and others.
+#[test]
+fn malformed_buckets() {
+    programs::answers_as_written(KBTABLE, "../../host/tests/malformed.txt");
 }
 
 /// A record whose ending is none of the six is shown by its number, and the table is refused.

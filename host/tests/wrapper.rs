@@ -337,7 +337,17 @@ fn refusals() -> Result<(), Refusal> {
         format!("no table: {} bytes", lent::STORAGE_BYTES - 1)
     );
     assert_eq!(KBucketsTable::from_storage(bytes.clone()).take_applied_pending(), Err(Refusal::Size));
+    // The last byte is bucket 255's, and what reads it is refused.
     bytes.push(1);
+    let mut elsewhere = KBucketsTable::from_storage(bytes.clone());
+    assert_eq!(elsewhere.write(), Err(Refusal::Form));
+    assert_eq!(elsewhere.remove(&key(128, 1), 0), Err(Refusal::Form));
+    assert_eq!(elsewhere.iter(2, 0), Err(Refusal::Form));
+    assert_eq!(elsewhere.iter(1, 0)?.len(), 1);
+    assert_eq!(elsewhere.take_applied_pending()?, None);
+    assert!(elsewhere.remove(&key(0, 2), 0)?);
+    assert_eq!(elsewhere.storage().last(), Some(&1));
+    bytes[layout::HEADER_OFFSETS[2]] = 2;
     assert_eq!(KBucketsTable::from_storage(bytes).take_applied_pending(), Err(Refusal::Form));
     Ok(())
 }

@@ -26,8 +26,8 @@ ASSERT_SIZE(KBUCKETS_MAX_NODES, 4047);
 ASSERT_SIZE(KBUCKETS_MAX_WRITTEN_BYTES, 190465);
 
 /* A host may test the header's version while it compiles. */
-#if KBUCKETS_VERSION < 0x000500 || KBUCKETS_VERSION >= 0x010000
-#error "this program is written for versions from 0.5.0 to below 1.0.0"
+#if KBUCKETS_VERSION < 0x000600 || KBUCKETS_VERSION >= 0x010000
+#error "this program is written for versions from 0.6.0 to below 1.0.0"
 #endif
 
 static unsigned checks, failures;
@@ -568,6 +568,48 @@ static void box_swap(void) {
         }
 }
 
+/* Every bucket but 4 and 5 is malformed: calls that read no other are answered, and leave all others as they are. */
+static void malformed_elsewhere(void) {
+    enum { FIRST = KBUCKETS_HEADER_BYTES + 4 * KBUCKETS_STORED_BUCKET_BYTES, BEHIND = FIRST + 2 * KBUCKETS_STORED_BUCKET_BYTES };
+    uint64_t distances[2] = {5, 6}, third[3] = {5, 6, 7};
+    new_table();
+    CHECK(put(16, 0, 0, 0), KBUCKETS_INSERT_INSERTED);
+    CHECK(put(32, 0, 0, 0), KBUCKETS_INSERT_INSERTED);
+    memset(table + KBUCKETS_HEADER_BYTES, UNTOUCHED, FIRST - KBUCKETS_HEADER_BYTES);
+    memset(table + BEHIND, UNTOUCHED, sizeof table - BEHIND);
+    memcpy(before, table, sizeof table);
+    CHECK(put(33, 1, 0, 0), KBUCKETS_INSERT_INSERTED);
+    CHECK(kbuckets_entry(table, sizeof table, of(16), 32, 0), KBUCKETS_ENTRY_PRESENT);
+    CHECK(kbuckets_entry(table, sizeof table, of(0), 32, 0), KBUCKETS_ENTRY_SELF);
+    CHECK(kbuckets_update_node_status(table, sizeof table, of(32), 32, 1, 0, 0), KBUCKETS_UPDATE_UPDATED_AND_PROMOTED);
+    CHECK(kbuckets_closest_keys(table, sizeof table, of(32), 32, 2, 0, output, sizeof output), 2);
+    CHECK(kbuckets_nodes_by_distances(table, sizeof table, distances, 2, 16, 0, output, sizeof output), 3);
+    CHECK(kbuckets_take_applied_pending(table, sizeof table, answer, ANSWER), KBUCKETS_APPLIED_NONE);
+    CHECK(kbuckets_remove(table, sizeof table, of(33), 32, 0), KBUCKETS_REMOVE_REMOVED);
+    CHECK(memcmp(table, before, FIRST), 0);
+    CHECK(memcmp(table + BEHIND, before + BEHIND, sizeof table - BEHIND), 0);
+    memcpy(before, table, sizeof table);
+    CHECK(put(64, 1, 0, 0), KBUCKETS_REFUSED_FORM);
+    CHECK(kbuckets_entry(table, sizeof table, of(64), 31, 0), KBUCKETS_REFUSED_KEY);
+    CHECK(kbuckets_pending_update(table, sizeof table, of(64), 32, 1, 0), KBUCKETS_REFUSED_FORM);
+    CHECK(kbuckets_pending_update(table, sizeof table, of(34), 32, 1, 0), KBUCKETS_REFUSED_KIND);
+    CHECK(kbuckets_explain_remove(table, sizeof table, of(64), 32, 0, output, 2047), KBUCKETS_REFUSED_OUTPUT);
+    CHECK(kbuckets_explain_remove(table, sizeof table, of(64), 32, 0, output, 2048), KBUCKETS_REFUSED_FORM);
+    CHECK(kbuckets_explain_remove(table, sizeof table, of(32), 32, 0, output, 2048), sizeof "true none\n" - 1);
+    CHECK(kbuckets_iter(table, sizeof table, 0, 0, output, sizeof output), 0);
+    CHECK(kbuckets_iter(table, sizeof table, 1, 0, output, sizeof output), KBUCKETS_REFUSED_FORM);
+    CHECK(kbuckets_closest_keys(table, sizeof table, of(32), 32, 2, 0, output, sizeof output), KBUCKETS_REFUSED_FORM);
+    CHECK(kbuckets_nodes_by_distances(table, sizeof table, third, 3, 1, 0, output, sizeof output), KBUCKETS_REFUSED_FORM);
+    CHECK(kbuckets_write(table, sizeof table, output, sizeof output), KBUCKETS_REFUSED_FORM);
+    table[KBUCKETS_PADDING_OFFSET - 3] = KBUCKETS_FILTER_ON;  /* the table filter */
+    before[KBUCKETS_PADDING_OFFSET - 3] = KBUCKETS_FILTER_ON;
+    CHECK(put(34, 1, 0, 0), KBUCKETS_REFUSED_FORM);
+    CHECK(put(32, 1, 0, 0), KBUCKETS_INSERT_UPDATED);
+    CHECK(memcmp(table, before, sizeof table), 0);
+    new_table();
+    CHECK(kbuckets_iter(table, sizeof table, 16, 0, output, sizeof output), 0);
+}
+
 /* Header and library belong together: what a host asks at its start. */
 static inline int same_version(void) { return kbuckets_version() == KBUCKETS_VERSION; }
 
@@ -585,6 +627,7 @@ int main(void) {
     endings();
     explanations();
     box_swap();
+    malformed_elsewhere();
     printf("kbuckets.c: %u of %u checks passed\n", checks - failures, checks);
     return failures != 0;
 }

@@ -98,6 +98,14 @@ enum {
 #pragma weak kbuckets_closest_values
 #pragma weak kbuckets_closest_values_predicate
 #pragma weak kbuckets_take_applied_pending
+#pragma weak kbuckets_explain_update_node_status
+#pragma weak kbuckets_explain_update_node
+#pragma weak kbuckets_explain_insert_or_update
+#pragma weak kbuckets_explain_remove
+#pragma weak kbuckets_explain_present_update
+#pragma weak kbuckets_explain_pending_update
+#pragma weak kbuckets_explain_absent_insert
+#pragma weak kbuckets_write
 #pragma weak kbuckets_b_new
 #pragma weak kbuckets_b_insert
 #pragma weak kbuckets_b_apply_pending
@@ -172,6 +180,28 @@ static uint32_t call(const struct args *a)
     case C_b_update_value: return kbuckets_b_update_value(S, K, V);
     case C_b_update_pending: return kbuckets_b_update_pending(S, a->state, a->direction);
     case C_b_remove: return kbuckets_b_remove(S, K, a->now);
+    default: abort();
+    }
+#undef O
+}
+
+/* The calls that have an explanation, and the explanation in `output`, in place of the call's own. */
+static bool is_explained(enum call c)
+{
+    return c == C_update_node_status || c == C_update_node || c == C_insert_or_update || c == C_remove || c == C_present_update ||
+           c == C_pending_update || c == C_absent_insert;
+}
+static uint32_t explain(const struct args *a, uint8_t *output, size_t output_len)
+{
+#define O output, output_len
+    switch (a->call) {
+    case C_update_node_status: return kbuckets_explain_update_node_status(S, K, a->state, a->direction, a->now, O);
+    case C_update_node: return kbuckets_explain_update_node(S, K, V, a->state, a->now, O);
+    case C_insert_or_update: return kbuckets_explain_insert_or_update(S, K, V, a->state, a->direction, a->now, O);
+    case C_remove: return kbuckets_explain_remove(S, K, a->now, O);
+    case C_present_update: return kbuckets_explain_present_update(S, K, a->state, a->direction, O);
+    case C_pending_update: return kbuckets_explain_pending_update(S, K, a->state, a->direction, O);
+    case C_absent_insert: return kbuckets_explain_absent_insert(S, K, V, a->state, a->direction, a->now, O);
     default: abort();
     }
 #undef S

@@ -1,11 +1,14 @@
-/* Malformed storage at scale: hands the library storages that are well-formed, changed in one to three bytes, random, or of another
- * length, with arguments good and bad, and holds each call to the questions and to what a refusal and an accepted call may write.
+/* Malformed storage at scale: hands the library storages that are well-formed, changed in a few bytes, random, or of another length, with
+ * arguments good and bad, and holds each call to the questions and to what a refusal and an accepted call may write. Malformed buckets, one
+ * and several, stand among those that the call reads and among the others; where they stand elsewhere, the call is made a second time on a
+ * copy in which those are empty, and must do the same.
  *
- * questions.h asks the questions once more, from document 01 and the layout in kbuckets.h, and shares no code with the library.
+ * questions.h asks the questions once more, from documents 01 and 02 and the layout in kbuckets.h, and shares no code with the library.
  *
  *     malformed [--seed N] [--count N] [--seconds N] [--every] [--partial]
  *
- * --every: also every byte of a table changed in turn, and every byte of four buckets by themselves to every other value.
+ * --every: also every byte of a table changed in turn, which the writer reads, and every byte of four buckets by themselves to every other
+ * value.
  * Exit status 1 and a description at the first violation; also where an outcome that must occur did not, unless --partial is given. */
 #define _DEFAULT_SOURCE
 #include <signal.h>
@@ -26,8 +29,9 @@ static const struct args *current;
 static struct change {
     size_t at;
     uint8_t old, new;
-} changes[3];
+} changes[32];
 static int num_changes;
+enum { MOST_CHANGES = sizeof changes / sizeof changes[0] };
 
 static _Noreturn void violation(const char *form, ...)
 {
@@ -60,7 +64,7 @@ static void on_fault(int signal)
 
 /* --- what is lent --- */
 
-static struct arena storages[NUM_PLACINGS], alones[NUM_PLACINGS], keys, outputs, distances;
+static struct arena storages[NUM_PLACINGS], alones[NUM_PLACINGS], keys, outputs, distances, cuts;
 
 /* --- tables and buckets --- */
 
@@ -236,6 +240,15 @@ static struct {
 static unsigned long faults[2][NUM_FAULTS], changed_formed, wrong_lengths;
 static unsigned long endings[KBUCKETS_ENDING_FIRST_CONFIRMED + 1];
 
+/* Malformed buckets beside a call of a table. */
+static struct {
+    unsigned long settings, bucket;       /* refused with 2: of settings or queue, of a bucket that it reads */
+    unsigned long later[2];               /* so refused, and 7 or 8 fails too */
+    unsigned long earlier[7];             /* refused with 3 to 6, and a bucket is malformed; with 2 for one, and another is */
+    unsigned long elsewhere[2], after[2]; /* accepted, or refused with 7 or 8, with one malformed bucket that it does not read; several */
+    unsigned long explained[2];           /* its explanation is refused with 2 for a bucket; is given with one elsewhere */
+} beside[NUM_CALLS];
+
 static struct outlook outlook;
 static struct args args, probing;
 
@@ -391,6 +404,16 @@ static void check_alone(const struct args *a, const uint8_t *before, uint32_t co
         violation("the key is not pending, or the answer is not the key at place 0");
 }
 
+/* The malformed buckets that the call does not read, in storage of a table's length. */
+static int elsewhere(const struct outlook *o, const uint8_t *s, int *list)
+{
+    int count = 0;
+    for (int i = 0; i < BUCKETS; i++)
+        if (!o->read[i] && fault_at(s, i))
+            list[count++] = i;
+    return count;
+}
+
 /* How many bytes of its output the call has written. */
 static size_t written(const struct args *a, uint32_t code)
 {
@@ -401,12 +424,27 @@ static size_t written(const struct args *a, uint32_t code)
     return code == KBUCKETS_INSERT_PENDING ? KEY : 0; /* the same number for a bucket's insert */
 }
 
-/* A call that asks question 2 and is refused by a later one, so that it writes nothing. */
+/* The writer without an output, which reads all buckets: refused with 2 or with 6. */
+static void probe_writer(const struct args *a, const struct arena *r, const char *what)
+{
+    if (kbuckets_write == NULL)
+        return;
+    enum fault f = table_fault(a->storage);
+    shut(r, a->storage, STORAGE);
+    uint32_t want = KBUCKETS_REFUSED + (f ? 2 : 6), code = kbuckets_write(a->storage, STORAGE, outputs.high, 0);
+    reopen(r);
+    if (code != want)
+        violation("%s: write answers %#x, not %#x (%s)", what, code, want, fault_text[f]);
+}
+
+/* Calls that ask question 2, of settings and queue or of all buckets, and are refused by a later one, so that they write nothing. */
 static void probe(const struct args *a, const struct arena *r)
 {
     bool alone = a->call >= FIRST_B;
     static const enum call table_calls[] = {C_take_applied_pending, C_entry, C_update_node_status, C_remove};
     static const enum call alone_calls[] = {C_b_update_status, C_b_remove, C_b_update_value};
+    if (!alone && chance(20))
+        probe_writer(a, r, "the storage that it leaves");
     enum call c = alone ? alone_calls[below(3)] : table_calls[below(4)];
     if (!here[c])
         return;
@@ -417,6 +455,114 @@ static void probe(const struct args *a, const struct arena *r)
         violation("the storage that it leaves: %s answers %#x, not %#x", calls[c].name, code, want);
 }
 
+/* A copy of the storage in which these buckets are empty. */
+static uint8_t *cut(const uint8_t *s, const int *list, int count)
+{
+    uint8_t *copy = cuts.high - STORAGE;
+    memcpy(copy, s, STORAGE);
+    for (int k = 0; k < count; k++)
+        memset(copy + HEADER + list[k] * STORED, 0, STORED);
+    return copy;
+}
+
+/* The call on the storage `before` with its malformed buckets elsewhere emptied: answer, output, settings, records and every bucket but
+ * those are what the call left. */
+static void check_cut(const struct args *a, const uint8_t *before, uint32_t code, const int *list, int count)
+{
+    static uint8_t output[(KBUCKETS_MAX_COUNT + 2) * NODE];
+    static struct args again;
+    bool emptied[BUCKETS] = {false};
+    uint8_t *copy = cut(before, list, count);
+    size_t wrote = code >= KBUCKETS_REFUSED || !has_output(a->call) ? 0 : written(a, code);
+    memcpy(output, a->output, wrote);
+    repair(&outputs, a->output, a->output + wrote);
+    again = *a;
+    again.storage = copy;
+    uint32_t second = guarded_call(&again, &cuts);
+    current = a;
+    if (second != code)
+        violation("answers %#x, and %#x once the %d malformed buckets elsewhere are emptied", code, second, count);
+    if (memcmp(output, a->output, wrote) != 0 || !patterned(&outputs, outputs.low, a->output) ||
+        !patterned(&outputs, a->output + wrote, outputs.high))
+        violation("another output once the malformed buckets elsewhere are emptied");
+    for (int k = 0; k < count; k++)
+        emptied[list[k]] = true;
+    if (memcmp(copy, a->storage, HEADER) != 0)
+        violation("other settings or records once the malformed buckets elsewhere are emptied");
+    for (int i = 0; i < BUCKETS; i++)
+        if (emptied[i] ? !zero(bucket_of(copy, i), STORED) : memcmp(bucket_of(copy, i), bucket_of(a->storage, i), STORED) != 0)
+            violation("bucket %d is another once the malformed buckets elsewhere are emptied", i);
+}
+
+static uint32_t guarded_explanation(const struct args *a, const struct arena *r, uint8_t *out, size_t out_len)
+{
+    shut(r, a->storage, a->storage_len);
+    shut(&keys, a->key, a->key_len);
+    shut(&outputs, out, out_len);
+    uint32_t code = explain(a, out, out_len);
+    reopen(r);
+    reopen(&keys);
+    reopen(&outputs);
+    return code;
+}
+
+/* The explanation of the call that is about to be made: refused as the call is, and it writes nothing but its line. */
+static void explain_held(const struct args *a, const struct arena *r, uint8_t *stands, size_t size, const uint8_t *before)
+{
+    static struct outlook o;
+    static uint8_t line[KBUCKETS_EXPLANATION_BYTES];
+    static struct args again;
+    size_t more = chance(50) ? 0 : below(1000);
+    size_t room = chance(85) ? KBUCKETS_EXPLANATION_BYTES + more : KBUCKETS_EXPLANATION_BYTES - 1 - 2 * more;
+    uint8_t *out = chance(50) ? outputs.high - room : outputs.low;
+    foresee_explanation(&o, stands, a, room);
+    uint32_t code = guarded_explanation(a, r, out, room);
+    if ((code >= KBUCKETS_REFUSED) != (o.refusal != 0) || (o.refusal && code != KBUCKETS_REFUSED + o.refusal))
+        violation("its explanation answers %#x, question %u foreseen (%s)", code, o.refusal, fault_text[o.fault]);
+    if (memcmp(stands, before, size) != 0)
+        violation("its explanation changes the storage");
+    size_t wrote = o.refusal ? 0 : code;
+    if (!o.refusal && (code == 0 || code > sizeof line || out[code - 1] != '\n' || memchr(out, '\n', code) != out + code - 1))
+        violation("its explanation answers %u, which is no length of a line", code);
+    if (!patterned(&outputs, outputs.low, out) || !patterned(&outputs, out + wrote, outputs.high))
+        violation("its explanation changes bytes behind or around its line");
+    memcpy(line, out, wrote);
+    repair(&outputs, out, out + wrote);
+    beside[a->call].explained[0] += o.refusal == 2 && o.malformed >= 0;
+    int list[BUCKETS], count = o.refusal == 0 ? elsewhere(&o, before, list) : 0;
+    if (count == 0)
+        return;
+    again = *a;
+    again.storage = cut(before, list, count);
+    uint32_t second = guarded_explanation(&again, &cuts, out, room);
+    if (second != code || memcmp(line, out, wrote) != 0)
+        violation("another explanation once the malformed buckets elsewhere are emptied");
+    repair(&outputs, out, out + wrote);
+    beside[a->call].explained[1]++;
+}
+
+/* Counts what stood beside a call of a table that has the right length, and holds it to the cut copy. */
+static void check_beside(const struct args *a, const uint8_t *before, uint32_t code)
+{
+    unsigned refusal = outlook.refusal;
+    int list[BUCKETS], count;
+    if (!(calls[a->call].questions & Q(2)))
+        return;
+    if (refusal == 2) {
+        *(outlook.malformed < 0 ? &beside[a->call].settings : &beside[a->call].bucket) += 1;
+        for (int k = 0; k < 2; k++)
+            beside[a->call].later[k] += outlook.also[k];
+    }
+    count = refusal == 2 && outlook.malformed < 0 ? 0 : elsewhere(&outlook, before, list);
+    if (count == 0)
+        return;
+    if (refusal >= 2 && refusal <= 6)
+        beside[a->call].earlier[refusal]++;
+    else
+        (refusal ? beside[a->call].after : beside[a->call].elsewhere)[count > 1]++;
+    check_cut(a, before, code, list, count);
+}
+
 /* Makes the call in `args` on bytes that are equal to `before`, and checks all of it. Answers whether it was accepted. */
 static bool held_to(const struct arena *r, uint8_t *stands, size_t size, const uint8_t *before)
 {
@@ -425,9 +571,11 @@ static bool held_to(const struct arena *r, uint8_t *stands, size_t size, const u
     uint8_t lent_key[128];
     static uint64_t lent_distances[BUCKETS];
     current = a;
-    foresee(&outlook, a);
+    foresee(&outlook, a->storage, a);
     memcpy(lent_key, a->key, a->key_len);
     memcpy(lent_distances, a->distances, 8 * a->distances_len);
+    if (is_explained(a->call) && kbuckets_explain_remove != NULL && chance(40))
+        explain_held(a, r, stands, size, before);
     uint32_t code = guarded_call(a, r);
     uint32_t want = outlook.refusal ? KBUCKETS_REFUSED + outlook.refusal : 0;
     bool refused = code >= KBUCKETS_REFUSED;
@@ -436,7 +584,7 @@ static bool held_to(const struct arena *r, uint8_t *stands, size_t size, const u
 
     if (refused != (want != 0) || (refused && code != want)) {
         if (want)
-            violation("answers %#x, question %u foreseen (%s)", code, outlook.refusal, fault_text[outlook.fault]);
+            violation("answers %#x, question %u foreseen (%s, bucket %d)", code, outlook.refusal, fault_text[outlook.fault], outlook.malformed);
         violation("answers %#x, no question fails", code);
     }
     if (memcmp(lent_key, a->key, a->key_len) != 0 || memcmp(lent_distances, a->distances, 8 * a->distances_len) != 0)
@@ -453,6 +601,8 @@ static bool held_to(const struct arena *r, uint8_t *stands, size_t size, const u
         outcomes[a->call].refused[code - KBUCKETS_REFUSED]++;
         if (memcmp(stands, before, size) != 0)
             violation("refused with %u, and the storage changed", code - KBUCKETS_REFUSED);
+        if (!alone && outlook.refusal != 1)
+            check_beside(a, before, code);
         return false;
     }
     if (is_listing(a->call)) {
@@ -463,10 +613,14 @@ static bool held_to(const struct arena *r, uint8_t *stands, size_t size, const u
         outcomes[a->call].answered[code]++;
     }
     (alone ? check_alone : check_table)(a, before, code);
+    if (!alone)
+        check_beside(a, before, code);
     repair(&outputs, a->output, a->output + wrote);
-    enum fault f = alone ? alone_fault(stands) : table_fault(stands);
+    enum fault f = alone ? alone_fault(stands) : a->call == C_new ? table_fault(stands) : header_fault(stands);
+    for (int i = 0; !alone && !f && i < BUCKETS; i++)
+        f = outlook.touched[i] ? fault_at(stands, i) : FORMED;
     if (f)
-        violation("it leaves a storage that is not well-formed: %s", fault_text[f]);
+        violation("it leaves what is not well-formed: %s", fault_text[f]);
     probe(a, r);
     return true;
 }
@@ -476,7 +630,7 @@ static bool held_to(const struct arena *r, uint8_t *stands, size_t size, const u
 /* Changes one byte, to this value or, where it has that already, to another. */
 static void change(uint8_t *base, size_t at, uint8_t value)
 {
-    if (num_changes == 3)
+    if (num_changes == MOST_CHANGES)
         return;
     if (value == base[at])
         value ^= (uint8_t)(1 << below(8));
@@ -527,7 +681,7 @@ static void equate(uint8_t *base, size_t at, const uint8_t *local)
         int differ = 0;
         for (int i = 0; i < KEY; i++)
             differ += base[x + i] != y[i];
-        if (differ == 0 || differ > 3 - num_changes)
+        if (differ == 0 || differ > 3 || differ > MOST_CHANGES - num_changes)
             continue;
         for (int i = 0; i < KEY; i++)
             if (base[x + i] != y[i])
@@ -596,6 +750,32 @@ static void change_table(uint8_t *s, int index)
     }
 }
 
+/* Makes bucket i malformed, or tries to: by its count, which nobody may go by then, or by any byte. */
+static void damage(uint8_t *s, int i)
+{
+    size_t at = HEADER + (size_t)i * STORED;
+    if (chance(25))
+        change(s, at, (uint8_t)(PLACES + 1 + below(256 - PLACES - 1)));
+    for (int tries = 0; tries < 6 && !fault_at(s, i); tries++)
+        change_bucket(s, at, s);
+}
+
+/* Makes one bucket malformed, or several: around the end of what a listing visits, or any. */
+static void damage_some(uint8_t *s, const struct args *a)
+{
+    static struct outlook o;
+    int order[2 * BUCKETS], count = 0;
+    if (is_listing(a->call) && (!has_key(a->call) || a->key_len == KEY) && a->storage_len == STORAGE && header_fault(s) == FORMED) {
+        foresee(&o, s, a);
+        count = visit_order(s, a, order);
+    }
+    for (int k = chance(50) ? 1 : 2 + (int)below(5); k; k--) {
+        int near = o.visits - 3 + (int)below(5);
+        near = near < 0 ? 0 : near < count ? near : count - 1;
+        damage(s, count && chance(60) ? order[near] : chance(50) ? some_bucket(s) : (int)below(BUCKETS));
+    }
+}
+
 /* --- rounds --- */
 
 /* `asks`: one that asks question 2. */
@@ -644,16 +824,23 @@ static void table_round(long at)
         table = (int)below(NUM_TABLES);
     bool at_random = at < 0 && chance(2);
     uint8_t *base = tables[at_random ? NUM_TABLES : table], *stands = standing(r, placing, STORAGE);
+    int index = some_bucket(tables[table]);
 
     if (at_random) {
         if (chance(50))
             memcpy(base, tables[table], STORAGE);
         else
             memset(base, chance(50) ? 0 : (int)below(256), STORAGE);
-        switch (below(4)) {
+        switch (below(6)) {
         case 0: noise(base, STORAGE); break;
         case 1: noise(base, HEADER); break;
         case 2: noise(base + HEADER + below(BUCKETS) * STORED, STORED); break;
+        case 3:
+        case 4: /* all buckets but a few */
+            for (int i = 0; i < BUCKETS; i++)
+                if (i != index && !chance(3))
+                    noise(base + HEADER + i * STORED, STORED);
+            break;
         default: noise(base + below(STORAGE - 64), below(64)); break;
         }
     }
@@ -662,15 +849,13 @@ static void table_round(long at)
         r->holds = at_random ? -1 : table;
     }
 
-    int index = some_bucket(base);
     num_changes = 0;
+    bool others = at < 0 && !at_random && chance(50); /* malformed buckets, behind the choice of the arguments */
     if (at >= 0)
         change(base, (size_t)at, (uint8_t)draw());
-    else if (!at_random && chance(85))
+    else if (!at_random && chance(others ? 30 : 85))
         for (int k = 1 + (chance(40) ? 1 + (int)below(2) : 0); k; k--)
             change_table(base, index);
-    for (int k = 0; k < num_changes; k++)
-        stands[changes[k].at] = base[changes[k].at];
 
     memset(&args, 0, sizeof args);
     args.call = some_call(false, at >= 0);
@@ -681,10 +866,18 @@ static void table_round(long at)
         aim_at_pending(&args, bucket_of(base, index));
     if (at < 0 && chance(3))
         wrong_size(r, placing, STORAGE);
+    if (others)
+        damage_some(base, &args);
+    for (int k = 0; k < num_changes; k++)
+        stands[changes[k].at] = base[changes[k].at];
+    if (at >= 0) {
+        current = &args;
+        probe_writer(&args, r, "a byte changed");
+    }
     bool accepted = held_to(r, stands, STORAGE, base);
     changed_formed += num_changes && outlook.refusal != 1 && outlook.fault == FORMED && calls[args.call].questions & Q(2);
 
-    if (accepted && table >= NUM_MADE && !at_random && args.call != C_new && chance(30)) {
+    if (accepted && table >= NUM_MADE && !at_random && args.call != C_new && chance(30) && table_fault(stands) == FORMED) {
         memcpy(base, stands, STORAGE); /* the pool goes on from here */
         num_changes = 0;
         for (int i = 0; i < NUM_PLACINGS; i++)
@@ -823,6 +1016,41 @@ static double seconds(void)
     return (double)t.tv_sec + (double)t.tv_nsec / 1e9;
 }
 
+/* Malformed buckets beside the calls of a table; answers how many of the cases that must occur did not. */
+static int report_beside(void)
+{
+    int missing = 0;
+    printf("malformed buckets: 2 of settings or queue, of a bucket read (another malformed too; 7 or 8 fails too); 3 to 6 before it; elsewhere,\n"
+           "one and several: accepted, refused with 7 or 8; explanations refused with 2, given\n");
+    for (int c = 0; c < FIRST_B; c++) {
+        unsigned q = calls[c].questions;
+        if (!here[c] || !(q & Q(2)))
+            continue;
+        bool reads_any = c != C_take_applied_pending;
+        printf("    %-25s %lu, %lu (%lu; %lu %lu);", calls[c].name, beside[c].settings, beside[c].bucket, beside[c].earlier[2], beside[c].later[0],
+               beside[c].later[1]);
+        missing += !beside[c].settings + (reads_any && (!beside[c].bucket || !beside[c].earlier[2]));
+        missing += (q & Q(7) && !beside[c].later[0]) + (is_listing((enum call)c) && !beside[c].later[1]);
+        for (int n = 3; n <= 6; n++)
+            if (q & Q(n)) {
+                printf(" %d:%lu", n, beside[c].earlier[n]);
+                missing += !beside[c].earlier[n];
+            }
+        printf("; %lu %lu", beside[c].elsewhere[0], beside[c].elsewhere[1]);
+        missing += !beside[c].elsewhere[0] + !beside[c].elsewhere[1];
+        if (q & (Q(7) | Q(8))) {
+            printf(", %lu %lu", beside[c].after[0], beside[c].after[1]);
+            missing += !beside[c].after[0] + !beside[c].after[1];
+        }
+        if (is_explained((enum call)c) && kbuckets_explain_remove != NULL) {
+            printf("; %lu, %lu", beside[c].explained[0], beside[c].explained[1]);
+            missing += !beside[c].explained[0] + !beside[c].explained[1];
+        }
+        putchar('\n');
+    }
+    return missing;
+}
+
 /* What happened; answers how many of the outcomes that must occur did not. */
 static int report(bool tables_here, bool alones_here)
 {
@@ -850,6 +1078,7 @@ static int report(bool tables_here, bool alones_here)
         }
         putchar('\n');
     }
+    missing += report_beside();
     printf("question 2, by what it found first (tables, buckets by themselves):\n");
     for (int f = 0; f < NUM_FAULTS; f++) {
         bool of_table = f == F_TABLE_FILTER || (f >= F_PADDING && f <= F_RECORD_UNUSED) || f == F_INDEX || f == F_LOCAL ||
@@ -867,7 +1096,7 @@ static int report(bool tables_here, bool alones_here)
         printf(" %d:%lu", k, endings[k]);
         missing += tables_here && !endings[k];
     }
-    printf("\nchanged and still well-formed: %lu; of another length: %lu\n", changed_formed, wrong_lengths);
+    printf("\nchanged, and nothing malformed that the call asks about: %lu; of another length: %lu\n", changed_formed, wrong_lengths);
     for (int c = 0, first = 1; c < NUM_CALLS; c++)
         if (!here[c]) {
             printf("%s%s", first ? "not in the library: " : ", ", calls[c].name);
@@ -925,6 +1154,7 @@ int main(int argc, char **argv)
     keys = arena(128);
     outputs = arena((KBUCKETS_MAX_COUNT + 2) * NODE + 1024);
     distances = arena(8 * BUCKETS);
+    cuts = arena(STORAGE);
     double start = seconds(), told = start;
     make_pool();
 

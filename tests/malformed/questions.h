@@ -1,5 +1,6 @@
-/* Document 01's questions once more, in plain C: question 2 of a table and of a bucket by itself, the other questions in turn, and what an
- * accepted call may write. Nothing here is shared with the library. */
+/* Document 01's questions once more, in plain C, as 02's slip 7 has them: question 2 of settings and queue, of each bucket and of a bucket by
+ * itself, the buckets that a call reads, the other questions in turn, and what an accepted call may write. Nothing here is shared with the
+ * library. */
 #ifndef QUESTIONS_H
 #define QUESTIONS_H
 
@@ -174,7 +175,10 @@ static enum fault record_fault(const uint8_t *record)
     return code ? (enum fault)(F_RECORD_STATE + code - 1) : FORMED;
 }
 
-static enum fault table_fault(const uint8_t *s)
+static const uint8_t *bucket_of(const uint8_t *s, int i) { return s + HEADER + i * STORED; }
+
+/* Of the settings and the queue. */
+static enum fault header_fault(const uint8_t *s)
 {
     unsigned records = s[COUNT_AT];
     enum fault f;
@@ -191,12 +195,18 @@ static enum fault table_fault(const uint8_t *s)
     for (unsigned i = 0; i < records; i++)
         if ((f = record_fault(s + RECORDS_AT + i * RECORD)))
             return f;
-    if (!zero(s + RECORDS_AT + records * RECORD, (RECORDS - records) * RECORD))
-        return F_RECORD_UNUSED;
-    for (int i = 0; i < BUCKETS; i++)
-        if ((f = bucket_fault(s + HEADER + i * STORED, s, i, s[MAX_INCOMING_AT])))
-            return f;
-    return FORMED;
+    return zero(s + RECORDS_AT + records * RECORD, (RECORDS - records) * RECORD) ? FORMED : F_RECORD_UNUSED;
+}
+
+static enum fault fault_at(const uint8_t *s, int i) { return bucket_fault(bucket_of(s, i), s, i, s[MAX_INCOMING_AT]); }
+
+/* Of all of it. */
+static enum fault table_fault(const uint8_t *s)
+{
+    enum fault f = header_fault(s);
+    for (int i = 0; !f && i < BUCKETS; i++)
+        f = fault_at(s, i);
+    return f;
 }
 
 static enum fault alone_fault(const uint8_t *b)
@@ -272,12 +282,29 @@ static bool is_placed(uint8_t ending) { return ending <= KBUCKETS_ENDING_REPLACE
 struct outlook {
     unsigned refusal; /* 0: accepted */
     enum fault fault;
+    int malformed;        /* the bucket of `fault`; -1: settings or queue */
+    bool also[2];         /* with a malformed bucket that it reads: the questions 7 and 8 fail too, as far as that can be said */
     unsigned records;     /* that it adds */
     size_t found;         /* by a listing */
-    bool touched[BUCKETS]; /* buckets that it may write */
+    bool read[BUCKETS];    /* up to the first that is malformed */
+    bool touched[BUCKETS]; /* buckets that it may write: of those that it reads */
     int visit[2 * BUCKETS];
     int visits; /* of a listing, in order, as far as it reads nodes */
 };
+
+/* One more bucket that the call reads; false, and refused with 2, where it is malformed. Nothing of it is looked at before. */
+static bool asks_bucket(struct outlook *o, const uint8_t *s, int i)
+{
+    if (o->read[i])
+        return true;
+    o->read[i] = true;
+    o->fault = fault_at(s, i);
+    if (o->fault) {
+        o->refusal = 2;
+        o->malformed = i;
+    }
+    return !o->fault;
+}
 
 /* The records that a call adds, in order. */
 static uint8_t added[BUCKETS][RECORD];
@@ -293,15 +320,23 @@ static void add_record(struct outlook *o, const uint8_t *b, uint8_t ending)
         memcpy(record + EVICTED_AT, b + NODES_AT, NODE);
 }
 
-static const uint8_t *bucket_of(const uint8_t *s, int i) { return s + HEADER + i * STORED; }
 static uint8_t ending_at(const uint8_t *s, int i) { return due_ending(bucket_of(s, i), s[MAX_INCOMING_AT], s[BUCKET_FILTER_AT]); }
 
-/* Whether the table filter fails for a call on this key: ten of the other held values. It is skipped where the key has an equal value. */
-static bool table_filter_fails(const uint8_t *s, const uint8_t *key, const uint8_t *value, const uint8_t *own)
+/* The table filter is on and runs: it is skipped where the key is held with an equal value. b: the key's bucket. */
+static bool table_filter_runs(const uint8_t *s, const uint8_t *b, const struct args *a)
+{
+    if (!s[TABLE_FILTER_AT] || (a->call != C_update_node && a->call != C_insert_or_update))
+        return false;
+    uint8_t value[KBUCKETS_VALUE_BYTES];
+    int at = place(b, a->key);
+    value_of(a, value);
+    return at < 0 || memcmp(b + NODES_AT + at * NODE + VALUE_AT, value, sizeof value) != 0;
+}
+
+/* Whether the table filter, which runs, fails for a call on this key: ten of the other held values. */
+static bool table_filter_fails(const uint8_t *s, const uint8_t *key, const uint8_t *value)
 {
     unsigned near = 0;
-    if (!s[TABLE_FILTER_AT] || (own && memcmp(own + VALUE_AT, value, KBUCKETS_VALUE_BYTES) == 0))
-        return false;
     for (int i = 0; i < BUCKETS; i++)
         near += counted(bucket_of(s, i), value, key);
     return near >= 10;
@@ -324,7 +359,7 @@ static int step_ending(const uint8_t *s, const uint8_t *b, const struct args *a)
     default: return -1;
     }
     value_of(a, value);
-    if (table_filter_fails(s, a->key, value, own))
+    if (table_filter_runs(s, b, a) && table_filter_fails(s, a->key, value))
         return -1;
     if (own) {
         /* the value of update_node comes before its status; that of insert_or_update behind it */
@@ -338,75 +373,87 @@ static int step_ending(const uint8_t *s, const uint8_t *b, const struct args *a)
     return inserted ? KBUCKETS_ENDING_INSERTED : -1;
 }
 
-/* One visit of iter and of the closest calls; false once n are found. */
-static bool visit(struct outlook *o, const uint8_t *s, int i, const struct args *a)
+/* The buckets in the order of a listing, as far as it may go; answers how many. No more than BUCKETS distances are given here. */
+static int visit_order(const uint8_t *s, const struct args *a, int *order)
 {
-    if (o->found >= a->n)
-        return false;
-    const uint8_t *b = bucket_of(s, i);
-    bool due = is_due(b, a->now);
-    if (due && !o->touched[i])
-        add_record(o, b, ending_at(s, i));
-    o->touched[i] = true;
-    o->visit[o->visits++] = i;
-    o->found += b[0] + (due && ending_at(s, i) == KBUCKETS_ENDING_PLACED);
-    return true;
-}
-
-static void foresee_listing(struct outlook *o, const uint8_t *s, const struct args *a)
-{
+    int count = 0;
     if (a->call == C_iter) {
-        for (int i = 0; i < BUCKETS && visit(o, s, i, a); i++)
-            ;
+        while (count < BUCKETS)
+            order[count] = count, count++;
     } else if (a->call == C_nodes_by_distances) {
-        size_t held = 0, most = a->n ? a->n : 1;
-        bool more[BUCKETS] = {false};
-        for (size_t k = 0; k < a->distances_len; k++) {
-            uint64_t d = a->distances[k];
-            if (d < 1 || d > BUCKETS)
-                continue;
-            int i = (int)d - 1;
-            bool first = !o->touched[i];
-            o->touched[i] = true;
-            if (!first || !is_due(bucket_of(s, i), a->now))
-                continue;
-            uint8_t ending = ending_at(s, i);
-            add_record(o, bucket_of(s, i), ending);
-            more[i] = ending == KBUCKETS_ENDING_PLACED;
-            if (is_placed(ending)) { /* a drop neither counts nor stops the pass */
-                held += (size_t)bucket_of(s, i)[0] + more[i];
-                if (held >= a->n)
-                    break;
-            }
-        }
-        for (size_t k = 0; k < a->distances_len && o->found < most; k++) {
-            uint64_t d = a->distances[k];
-            if (d < 1 || d > BUCKETS)
-                continue;
-            int count = bucket_of(s, (int)d - 1)[0];
-            o->visit[o->visits++] = (int)d - 1;
-            o->found += count + more[d - 1];
-        }
-        if (o->found > most)
-            o->found = most;
-        return;
+        for (size_t k = 0; k < a->distances_len; k++)
+            if (a->distances[k] >= 1 && a->distances[k] <= BUCKETS)
+                order[count++] = (int)a->distances[k] - 1;
     } else {
         int high = bucket_index(s, a->key);
         bool set[BUCKETS];
         for (int i = 0; i < BUCKETS; i++)
             set[i] = (s[KEY - 1 - i / 8] ^ a->key[KEY - 1 - i / 8]) >> (i % 8) & 1;
-        bool more = visit(o, s, high < 0 ? 0 : high, a);
-        for (int i = high - 1; more && i >= 0; i--)
+        order[count++] = high < 0 ? 0 : high;
+        for (int i = high - 1; i >= 0; i--)
             if (set[i])
-                more = visit(o, s, i, a);
-        if (more)
-            more = visit(o, s, 0, a);
-        for (int i = 1; more && i < BUCKETS; i++)
+                order[count++] = i;
+        order[count++] = 0;
+        for (int i = 1; i < BUCKETS; i++)
             if (!set[i])
-                more = visit(o, s, i, a);
+                order[count++] = i;
     }
-    if (o->found > a->n)
-        o->found = a->n;
+    return count;
+}
+
+/* What bucket i holds once its due pending is applied. */
+static int held_then(const uint8_t *s, int i, uint64_t now)
+{
+    const uint8_t *b = bucket_of(s, i);
+    return b[0] + (is_due(b, now) && ending_at(s, i) == KBUCKETS_ENDING_PLACED);
+}
+
+/* A bucket that a listing comes to: read, and its due pending ended; false where it is malformed. `ending`: of the pending, -1 for none. */
+static bool comes_to(struct outlook *o, const uint8_t *s, int i, const struct args *a, int *ending)
+{
+    bool first = !o->read[i];
+    *ending = -1;
+    if (!asks_bucket(o, s, i))
+        return false;
+    if (first && is_due(bucket_of(s, i), a->now)) {
+        *ending = ending_at(s, i);
+        add_record(o, bucket_of(s, i), (uint8_t)*ending);
+    }
+    o->touched[i] = true;
+    return true;
+}
+
+static void foresee_listing(struct outlook *o, const uint8_t *s, const struct args *a)
+{
+    int order[2 * BUCKETS], count = visit_order(s, a, order), ending;
+    size_t held = 0, most = a->n;
+    bool applies[BUCKETS] = {false};
+    if (a->call == C_nodes_by_distances) {
+        /* the applying pass: a drop neither counts nor stops it */
+        for (int k = 0; k < count && (held == 0 || held < a->n); k++) {
+            if (!comes_to(o, s, order[k], a, &ending))
+                return;
+            applies[order[k]] = true;
+            held += ending >= 0 && is_placed((uint8_t)ending) ? (size_t)held_then(s, order[k], a->now) : 0;
+        }
+        most = a->n ? a->n : 1;
+        for (int k = 0; k < count && o->found < most; k++) {
+            o->visit[o->visits++] = order[k];
+            o->found += (size_t)held_then(s, order[k], a->now);
+        }
+        for (int k = 0; k < o->visits; k++)
+            if (!applies[o->visit[k]])
+                abort(); /* what is listed was come to by the pass before */
+    } else {
+        for (int k = 0; k < count && o->found < a->n; k++) {
+            if (!comes_to(o, s, order[k], a, &ending))
+                return;
+            o->visit[o->visits++] = order[k];
+            o->found += (size_t)held_then(s, order[k], a->now);
+        }
+    }
+    if (o->found > most)
+        o->found = most;
 }
 
 static bool value_codes(const struct args *a) { return a->flag == 1 || (a->flag == 0 && zero(a->octet, 4)); }
@@ -441,19 +488,49 @@ static bool room(const struct args *a)
     return a->output_len >= entries * calls[a->call].entry;
 }
 
-/* The questions in turn, and what an accepted call may write. */
-static void foresee(struct outlook *o, const struct args *a)
+/* The entry actions: the key, as it is stored, is of the call's kind. i: its bucket. */
+static bool is_of_kind(const uint8_t *s, int i, const struct args *a)
+{
+    bool held = i >= 0 && place(bucket_of(s, i), a->key) >= 0, pending = i >= 0 && is_pending(bucket_of(s, i), a->key);
+    return a->call == C_present_update ? held : a->call == C_pending_update ? pending : i >= 0 && !held && !pending;
+}
+
+/* A call on one key from its buckets' part of question 2 on. */
+static void foresee_on_key(struct outlook *o, const uint8_t *s, const struct args *a)
 {
     unsigned q = calls[a->call].questions;
-    const uint8_t *s = a->storage;
+    int i = bucket_index(s, a->key);
+    bool good = i < 0 || asks_bucket(o, s, i), all = good && i >= 0 && table_filter_runs(s, bucket_of(s, i), a);
+    for (int j = 0; good && all && j < BUCKETS; j++)
+        good = asks_bucket(o, s, j);
+    bool sized = i >= 0 && bucket_of(s, i)[0] <= PLACES; /* else nothing can be said of the keys in it */
+    if (q & Q(7) && (good || sized) && !is_of_kind(s, i, a)) {
+        if (good)
+            o->refusal = 7;
+        else
+            o->also[0] = true;
+    }
+    if (o->refusal || i < 0)
+        return;
+    const uint8_t *b = bucket_of(s, i);
+    int ending = q & Q(5) && !(q & Q(7)) && is_due(b, a->now) ? ending_at(s, i) : step_ending(s, b, a);
+    o->touched[i] = true;
+    if (ending >= 0)
+        add_record(o, b, (uint8_t)ending);
+}
+
+/* The questions in turn on storage s, and what an accepted call may write. `fits`: question 6 holds. */
+static void foresee_asking(struct outlook *o, const uint8_t *s, const struct args *a, unsigned q, bool fits)
+{
     bool alone = a->call >= FIRST_B;
     memset(o, 0, sizeof *o);
+    o->malformed = -1;
     if (a->storage_len != (alone ? ALONE : STORAGE)) {
         o->refusal = 1;
         return;
     }
     if (q & Q(2)) {
-        o->fault = alone ? alone_fault(s) : table_fault(s);
+        o->fault = alone ? alone_fault(s) : header_fault(s);
         if (o->fault) {
             o->refusal = 2;
             return;
@@ -471,34 +548,30 @@ static void foresee(struct outlook *o, const struct args *a)
         o->refusal = 5;
         return;
     }
-    if (q & Q(6) && !room(a)) {
+    if (q & Q(6) && !fits) {
         o->refusal = 6;
         return;
     }
     if (alone || a->call == C_new || a->call == C_take_applied_pending)
         return;
-    if (is_listing(a->call)) {
-        foresee_listing(o, s, a);
-    } else {
-        int i = bucket_index(s, a->key);
-        if (q & Q(7)) {
-            bool held = i >= 0 && place(bucket_of(s, i), a->key) >= 0, pending = i >= 0 && is_pending(bucket_of(s, i), a->key);
-            bool kind = a->call == C_present_update ? held : a->call == C_pending_update ? pending : i >= 0 && !held && !pending;
-            if (!kind) {
-                o->refusal = 7;
-                return;
-            }
-        }
-        if (i >= 0) {
-            const uint8_t *b = bucket_of(s, i);
-            int ending = q & Q(5) && !(q & Q(7)) && is_due(b, a->now) ? ending_at(s, i) : step_ending(s, b, a);
-            o->touched[i] = true;
-            if (ending >= 0)
-                add_record(o, b, (uint8_t)ending);
-        }
+    (is_listing(a->call) ? foresee_listing : foresee_on_key)(o, s, a);
+    if (q & Q(8) && s[COUNT_AT] + o->records > RECORDS) {
+        if (!o->refusal)
+            o->refusal = 8;
+        else if (o->refusal == 2)
+            o->also[1] = true;
     }
-    if (q & Q(8) && s[COUNT_AT] + o->records > RECORDS)
-        o->refusal = 8;
+}
+
+static void foresee(struct outlook *o, const uint8_t *s, const struct args *a)
+{
+    foresee_asking(o, s, a, calls[a->call].questions, !has_output(a->call) || room(a));
+}
+
+/* Of the explanation of the call: refused as the call is, but that question 6 is about its own output. */
+static void foresee_explanation(struct outlook *o, const uint8_t *s, const struct args *a, size_t output_len)
+{
+    foresee_asking(o, s, a, calls[a->call].questions | Q(6), output_len >= KBUCKETS_EXPLANATION_BYTES);
 }
 
 #endif

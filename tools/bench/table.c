@@ -1,6 +1,6 @@
-// Nanoseconds per call of the table's exports. A plain sum (sum.c, sum.rs) and question 2: the least time of all rounds. A call beyond
-// question 2: the median, over all calls of all rounds, of its time less that of question 2 just before and after it. An empty queue's
-// take_applied_pending asks questions 1 and 2 and does nothing more.
+// Nanoseconds per call of the table's exports, whole calls with all their questions, in passes of CALLS: the least and the median of all
+// passes. Of a plain sum (sum.c, sum.rs) and of question 2 of the whole table the least: kbuckets_write without an output asks questions 1
+// and 2, of all buckets, and is refused with 6.
 #include <stddef.h>
 #include <stdint.h>
 #include <stdio.h>
@@ -86,17 +86,18 @@ static const struct {
 static volatile uint64_t sink;
 static sum_function *chosen;
 static void run_sum(int i) { (void)i; sink += chosen(storage, sizeof storage); }
-static void run_question_2(int i) { (void)i; sink += kbuckets_take_applied_pending(storage, sizeof storage, answer, sizeof answer); }
+static void run_question_2(int i) { (void)i; sink += kbuckets_write(storage, sizeof storage, output, 0); }
+static void run_take(int i) { (void)i; sink += kbuckets_take_applied_pending(storage, sizeof storage, answer, sizeof answer); }
 
-// The key of a call stands in one buffer, as in the message that a host took it from; it is put there before the clock starts. With the word
-// 'list' on the command line it stays in the list of all keys, and the call is the first to read it.
-static uint8_t message[32];
-static const uint8_t *key = message;
+// The keys of a pass stand in one buffer, as in the messages that a host took them from; they are put there before the clock starts. With the
+// word 'list' on the command line they stay in the list of all keys, and the call is the first to read its key.
+static uint8_t messages[CALLS][32];
+static const uint8_t *keys[CALLS], *key;
 static int from_list;
 static void take_key(int i) {
     const uint8_t *from = held[(unsigned)i * 2654435761u % (unsigned)held_count];
-    if (from_list) key = from;
-    else memcpy(message, from, sizeof message);
+    if (!from_list) from = memcpy(messages[i % CALLS], from, 32);
+    keys[i % CALLS] = from;
 }
 static void run_status(int i) { (void)i; sink += kbuckets_update_node_status(storage, sizeof storage, key, 32, 1, 0, 0); }
 static void run_held(int i) { (void)i; sink += put(key); }
@@ -129,31 +130,33 @@ static double best(void (*f)(int)) {
 
 static int ascending(const void *a, const void *b) { return (*(const double *)a > *(const double *)b) - (*(const double *)a < *(const double *)b); }
 
-// A round is CALLS calls with question 2 before and after each; then their undoing, which is not timed.
-static void measure_call(const char *name, void (*f)(int), void (*undo)(int)) {
-    static double beyond[ROUNDS * CALLS];
-    for (int r = 0; r < ROUNDS; r++) {
-        double before = timed(run_question_2, 0);
-        for (int i = r * CALLS; i < (r + 1) * CALLS; i++) {
-            take_key(i);
-            double took = timed(f, i), after = timed(run_question_2, 0);
-            beyond[i] = took - (before + after) / 2;
-            before = after;
-        }
-        for (int i = r * CALLS; undo && i < (r + 1) * CALLS; i++) {
-            take_key(i);
-            undo(i);
-        }
+static void pass(void (*f)(int), int r) {
+    for (int i = 0; i < CALLS; i++) {
+        key = keys[i];
+        f(r * CALLS + i);
     }
-    qsort(beyond, ROUNDS * CALLS, sizeof beyond[0], ascending);
-    printf("  %-42s beyond question 2 %6.0f ns\n", name, beyond[ROUNDS * CALLS / 2]);
+}
+
+// A round is a pass of CALLS calls; then their undoing, which is not timed.
+static void measure_call(const char *name, void (*f)(int), void (*undo)(int)) {
+    static double whole[ROUNDS];
+    for (int r = 0; r < ROUNDS; r++) {
+        for (int i = r * CALLS; i < (r + 1) * CALLS; i++) take_key(i);
+        double start = now_ns();
+        pass(f, r);
+        whole[r] = (now_ns() - start) / CALLS;
+        if (undo) pass(undo, r);
+    }
+    qsort(whole, ROUNDS, sizeof whole[0], ascending);
+    printf("  %-42s %9.0f ns, median %6.0f\n", name, whole[0], whole[ROUNDS / 2]);
 }
 
 static double measure(const char *name, int first, int most) {
     fill(first, most);
     double question_2 = best(run_question_2);
-    printf("%s, %d nodes\n  %-42s %9.0f ns\n", name, held_count, "question 2", question_2);
+    printf("%s, %d nodes\n  %-42s %9.0f ns\n", name, held_count, "question 2 of the whole table", question_2);
     if (held_count == 0) return question_2;
+    measure_call("take_applied_pending, empty queue", run_take, 0);
     measure_call("update_node_status", run_status, 0);
     measure_call("present_update", run_present, 0);
     measure_call("update_node, another value", run_update, 0);
@@ -164,15 +167,16 @@ static double measure(const char *name, int first, int most) {
     return question_2;
 }
 
-// For a count of instructions (tools/bench/instructions): CALLS calls of closest_keys and as many of question 2, on a table as `fill` makes it.
+// For a count of instructions (tools/bench/instructions): CALLS calls of closest_keys and as many of update_node_status, on a table as `fill`
+// makes it.
 static int counted(int first, int most) {
     fill(first, most);
     for (int i = 0; i < CALLS; i++) {
-        if (held_count == 0) random_key(message, 255);
+        if (held_count == 0) random_key(messages[i], 255), keys[i] = messages[i];
         else take_key(i);
-        run_closest(i);
-        run_question_2(i);
     }
+    pass(run_closest, 0);
+    pass(run_status, 0);
     return held_count;
 }
 

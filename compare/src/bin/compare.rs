@@ -2,6 +2,7 @@
 
 use compare::generate::Generator;
 use compare::outcome::{Counts, Endings, outcome};
+use compare::program::MALFORMED;
 use compare::run::{self, Answered, Disagreement, Program};
 use compare::shrink::shrink;
 use std::process::ExitCode;
@@ -11,7 +12,9 @@ const HELP: &str = "compare [OPTIONS] [FIRST] SECOND
 compare [OPTIONS] --replay-out FILE [FIRST]
 
 Feeds seeded random lists of calls to two commands, each started with --dump, and holds their answers and dumps against each other
-line by line. Most of the calls that can be explained stand behind their explanation, and must answer as it says. FIRST is the `reference` beside this program where it is not given. A command may have arguments, parted by spaces.
+line by line. Most of the calls that can be explained stand behind their explanation, and must answer as it says. FIRST is the `reference`
+beside this program where it is not given. A command may have arguments, parted by spaces. Where FIRST answers 'Malformed', since a bucket
+of the table is, the table's lines are passed over up to the next new table, and are not counted.
 Exits with 0 where they agree on all calls, with 2 where it cannot run, and with 1 otherwise: after a disagreement, which is shrunk to its
 fewest lines, and a command that ends before its answers are through is one, whatever the other does; where fewer calls or explanations
 ran than were asked for; and, from 200,000 calls on, where an outcome of a call or an explanation, two slots that differ in some one byte
@@ -117,7 +120,7 @@ fn compare(options: &Options, programs: &[Program; 2]) -> Result<bool, String> {
     let (mut counts, mut explained, mut asked) = (Counts::outcomes(), Counts::explained(), Counts::asked());
     let (mut saved, mut slots) = (Counts::saved(), Counts::slots());
     let mut endings = Endings::new();
-    let (mut calls, mut explanations) = (0, 0);
+    let (mut calls, mut explanations, mut passed) = (0, 0, 0);
     let mut shown = start;
     while (calls < wanted || explanations < options.explanations) && start.elapsed() < limit {
         let mut list = Vec::new();
@@ -126,6 +129,11 @@ fn compare(options: &Options, programs: &[Program; 2]) -> Result<bool, String> {
         }
         let disagreement = run::compare(programs, &list, |answered: &Answered| {
             let Answered { call, answer, .. } = answered;
+            if answered.passed {
+                passed += u64::from(is_call(call));
+                endings.lost();
+                return;
+            }
             calls += u64::from(is_call(call));
             explanations += u64::from(answered.explained);
             counts.add_outcome(call, answer);
@@ -161,6 +169,7 @@ fn compare(options: &Options, programs: &[Program; 2]) -> Result<bool, String> {
     let totals = endings.totals();
     let ended: Vec<String> = totals.iter().map(|(ending, count)| format!("{ending} {count}")).collect();
     println!("Pendings ended, in all: {}", ended.join(", "));
+    println!("Passed over, on tables with a malformed bucket: {passed} calls");
     let (seed, seconds) = (options.seed, start.elapsed().as_secs_f64());
     let missing = |counts: &Counts, from| if wanted < from { 0 } else { counts.rare(1).len() };
     let missing = missing(&counts, ALL_OUTCOMES)
@@ -236,8 +245,12 @@ fn replay(options: &Options, program: &Program, file: &str) -> Result<bool, Stri
         } else if calls >= wanted {
             break;
         }
-        for (line, answer) in list.iter().zip(program.answers(&list)?) {
-            counts.add_outcome(line, &answer);
+        let answers = program.answers(&list)?;
+        if answers.iter().any(|answer| answer == MALFORMED) {
+            continue;
+        }
+        for (line, answer) in list.iter().zip(&answers) {
+            counts.add_outcome(line, answer);
         }
         calls += count_calls(&list);
         list.push(if list[0].starts_with("b_") { "bdump" } else { "dump" }.to_string());

@@ -27,6 +27,7 @@ mod list {
     use compare::generate::{Generator, Random};
     use compare::layout::{KEY, PADDING_AT, RECORDS_AT};
     use compare::outcome::{Counts, outcome};
+    use compare::program::MALFORMED;
     use compare::record::{self, ANSWER, ANSWERING};
     use compare::shrink::shrink;
     use compare::text::Slot;
@@ -89,7 +90,11 @@ missing.
             } else if count_calls(&lines) >= calls {
                 break;
             }
-            add(&mut counts, &list, &answers(&list)?);
+            let given = answers(&list)?;
+            if given.iter().any(|answer| answer == MALFORMED) {
+                continue;
+            }
+            add(&mut counts, &list, &given);
             lines.extend(list);
         }
         let missing = missing(&counts);

@@ -41,12 +41,11 @@ mod measure {
 
     const HELP: &str = "speed [ROUNDS]
 
-Prints nanoseconds per call of the proved library and of sigp/discv5. Question 2 and the reference: the least time of ROUNDS (60)
-rounds. Rest: the median, over all calls of all rounds, of the call's time less question 2's just before and after it. Library: the
-sum of question 2 and rest. A call of the reference is too short to be timed by itself; a pass of 64 (32, 4) calls is.
+Prints nanoseconds per call of the proved library and of sigp/discv5: whole calls, with all their questions, in passes of 64 (32 inserts or
+removes, 4 of iter), the least time of ROUNDS (60) rounds. Then the most that a call on one key takes of the reference's time, filters off, and
+what closest_keys takes on 1,008 nodes in 63 buckets.
 
-On the tables of 1,008 nodes also the explanations of these calls: question 2, the rest, and how many times the call's own rest that is. Their
-lines name no key.";
+On the tables of 1,008 nodes also the explanations of these calls, and how many times the call's own time they take. Their lines name no key.";
 
     const ROUNDS: usize = 60;
     /// Calls in a timed pass: on one key, of `iter`.
@@ -61,6 +60,9 @@ lines name no key.";
     const EXPLANATION: usize = 2048;
     /// The nodes of the tables on which explanations are timed.
     const EXPLAINED_NODES: usize = 1008;
+    /// What is wanted of the library's time divided by the reference's: a call on one key, and closest_keys on 1,008 nodes in 63 buckets.
+    const MOST_ON_KEY: f64 = 10.0;
+    const MOST_CLOSEST: f64 = 0.5;
     const NOW: u64 = 1;
     const TIMEOUT: u64 = 60_000;
 
@@ -206,11 +208,6 @@ lines name no key.";
         }
     }
 
-    fn median(numbers: &mut [f64]) -> f64 {
-        numbers.sort_by(f64::total_cmp);
-        numbers[numbers.len() / 2]
-    }
-
     /// A key and its value, in the forms of both sides.
     struct Peer {
         key: [u8; KEY],
@@ -221,21 +218,29 @@ lines name no key.";
 
     /// The calls that are timed. Nodes are connected and outgoing. Answers are the library's codes.
     trait Side {
-        type Times: Default;
-
-        /// Makes and times the call for each of the peers; its answers are kept.
+        /// Makes the call for each of the peers, and times the whole pass: a call is too short to be timed by itself. Its answers are kept.
         fn pass(
             &mut self,
             peers: &[Peer],
             answers: &mut Vec<u32>,
-            times: &mut Self::Times,
-            call: impl FnMut(&mut Self, &Peer) -> u32,
-        );
+            times: &mut Least,
+            mut call: impl FnMut(&mut Self, &Peer) -> u32,
+        ) {
+            answers.clear();
+            let start = Instant::now();
+            for peer in peers {
+                answers.push(call(self, black_box(peer)));
+            }
+            times.note(nanoseconds(start) / peers.len() as f64);
+        }
+
         fn insert_or_update(&mut self, peer: &Peer, slot: Slot) -> u32;
         fn update_node_status(&mut self, peer: &Peer) -> u32;
         fn remove(&mut self, peer: &Peer) -> u32;
         fn closest_keys(&mut self, target: &Peer, output: &mut [u8]) -> u32;
         fn iter(&mut self, output: &mut [u8]) -> u32;
+        /// On an empty queue.
+        fn take_applied_pending(&mut self) -> u32;
     }
 
     struct Library {
@@ -281,50 +286,9 @@ lines name no key.";
                 }
             }
         }
-
-        /// The queue is empty: take_applied_pending asks questions 1 and 2 and does nothing more.
-        fn question_2(&mut self) -> f64 {
-            let start = Instant::now();
-            let answer = unsafe {
-                kbuckets_take_applied_pending(self.storage.as_mut_ptr(), STORAGE, self.answer.as_mut_ptr(), ANSWER)
-            };
-            let took = nanoseconds(start);
-            assert!(answer == 0);
-            took
-        }
-    }
-
-    /// The least time of question 2, and what each call takes beyond it.
-    #[derive(Default)]
-    struct LibraryTimes {
-        question_2: Least,
-        rest: Vec<f64>,
     }
 
     impl Side for Library {
-        type Times = LibraryTimes;
-
-        /// Question 2 is timed before and after each call.
-        fn pass(
-            &mut self,
-            peers: &[Peer],
-            answers: &mut Vec<u32>,
-            times: &mut LibraryTimes,
-            mut call: impl FnMut(&mut Library, &Peer) -> u32,
-        ) {
-            answers.clear();
-            let mut before = self.question_2();
-            for peer in peers {
-                let start = Instant::now();
-                answers.push(call(self, black_box(peer)));
-                let took = nanoseconds(start);
-                let after = self.question_2();
-                times.question_2.note(after);
-                times.rest.push(took - (before + after) / 2.0);
-                before = after;
-            }
-        }
-
         fn insert_or_update(&mut self, peer: &Peer, slot: Slot) -> u32 {
             let [a, b, c, d] = peer.octets;
             let (storage, key, answer) = (self.storage.as_mut_ptr(), peer.key.as_ptr(), self.answer.as_mut_ptr());
@@ -351,6 +315,12 @@ lines name no key.";
         fn iter(&mut self, output: &mut [u8]) -> u32 {
             unsafe { kbuckets_iter(self.storage.as_mut_ptr(), STORAGE, ALL, NOW, output.as_mut_ptr(), output.len()) }
         }
+
+        fn take_applied_pending(&mut self) -> u32 {
+            unsafe {
+                kbuckets_take_applied_pending(self.storage.as_mut_ptr(), STORAGE, self.answer.as_mut_ptr(), ANSWER)
+            }
+        }
     }
 
     const STATUS: NodeStatus =
@@ -368,24 +338,6 @@ lines name no key.";
     }
 
     impl Side for Table {
-        type Times = Least;
-
-        /// A call is too short to be timed by itself.
-        fn pass(
-            &mut self,
-            peers: &[Peer],
-            answers: &mut Vec<u32>,
-            times: &mut Least,
-            mut call: impl FnMut(&mut Table, &Peer) -> u32,
-        ) {
-            answers.clear();
-            let start = Instant::now();
-            for peer in peers {
-                answers.push(call(self, black_box(peer)));
-            }
-            times.note(nanoseconds(start) / peers.len() as f64);
-        }
-
         fn insert_or_update(&mut self, peer: &Peer, slot: Slot) -> u32 {
             let value = Value { address: Some(peer.octets.into()), slot };
             match Table::insert_or_update(self, &peer.reference_key, value, STATUS) {
@@ -436,6 +388,10 @@ lines name no key.";
             }
             count
         }
+
+        fn take_applied_pending(&mut self) -> u32 {
+            Table::take_applied_pending(self).is_some().into()
+        }
     }
 
     struct Random(u64);
@@ -478,10 +434,11 @@ lines name no key.";
         Remove,
         ClosestKeys,
         Iter,
+        Take,
     }
 
     impl Call {
-        const EACH: [Call; 8] = [
+        const EACH: [Call; 9] = [
             Call::UpdateNodeStatus,
             Call::SameValue,
             Call::OtherValue,
@@ -490,6 +447,7 @@ lines name no key.";
             Call::Remove,
             Call::ClosestKeys,
             Call::Iter,
+            Call::Take,
         ];
 
         fn name(self) -> &'static str {
@@ -502,7 +460,12 @@ lines name no key.";
                 Call::Remove => "remove",
                 Call::ClosestKeys => "closest_keys, 16",
                 Call::Iter => "iter, n 4096",
+                Call::Take => "take_applied_pending, empty queue",
             }
+        }
+
+        fn on_key(self) -> bool {
+            !matches!(self, Call::ClosestKeys | Call::Iter | Call::Take)
         }
 
         /// The line of its explanation, where it has one.
@@ -514,7 +477,7 @@ lines name no key.";
                 Call::Insert => Some("Inserted none\n"),
                 Call::Full => Some("Failed BucketFull all connected\n"),
                 Call::Remove => Some("true none\n"),
-                Call::ClosestKeys | Call::Iter => None,
+                Call::ClosestKeys | Call::Iter | Call::Take => None,
             }
         }
 
@@ -531,6 +494,7 @@ lines name no key.";
         reference: Table,
         reference_bytes: usize,
         held: usize,
+        filter: u8,
         /// Held, drawn at random.
         drawn: Vec<Peer>,
         /// Of different buckets; all held, or none where no node is held.
@@ -543,9 +507,16 @@ lines name no key.";
 
     struct Row {
         call: Call,
-        library: LibraryTimes,
+        library: Least,
         reference: Least,
-        explanation: LibraryTimes,
+        explanation: Least,
+    }
+
+    impl Row {
+        /// The library's time divided by the reference's.
+        fn times(&self) -> f64 {
+            self.library.0 / self.reference.0
+        }
     }
 
     impl Setup {
@@ -614,9 +585,9 @@ lines name no key.";
                 .filter(|call| filter == 0 || call.filtered())
                 .map(|call| Row {
                     call,
-                    library: LibraryTimes::default(),
+                    library: Least::default(),
                     reference: Least::default(),
-                    explanation: LibraryTimes::default(),
+                    explanation: Least::default(),
                 })
                 .collect();
             let buckets = peers.len();
@@ -625,7 +596,7 @@ lines name no key.";
                 if held == 0 { String::new() } else { format!(", at most {most} in each of {buckets} buckets") },
                 if filter == 0 { "off" } else { "on" }
             );
-            Setup { name, library, reference, reference_bytes, held, drawn, changing, outside, targets, rows }
+            Setup { name, library, reference, reference_bytes, held, filter, drawn, changing, outside, targets, rows }
         }
 
         /// One round: each call on one side, then on the other.
@@ -673,7 +644,7 @@ lines name no key.";
 
     impl Peers<'_> {
         /// Two passes. The table is at rest again afterwards, up to the order of its buckets, which is the same on both sides.
-        fn timed<S: Side>(&self, side: &mut S, call: Call, output: &mut Output, times: &mut S::Times) {
+        fn timed<S: Side>(&self, side: &mut S, call: Call, output: &mut Output, times: &mut Least) {
             let Output { answers, bytes } = output;
             for other in [1 << (Slot::BITS - 1), 0] {
                 match call {
@@ -683,8 +654,8 @@ lines name no key.";
                         side.pass(self.drawn, answers, times, |s, p| s.insert_or_update(p, p.slot ^ other))
                     }
                     Call::Full => side.pass(self.outside, answers, times, |s, p| s.insert_or_update(p, p.slot)),
-                    Call::Insert => self.changes(side, answers, times, &mut S::Times::default()),
-                    Call::Remove => self.changes(side, answers, &mut S::Times::default(), times),
+                    Call::Insert => self.changes(side, answers, times, &mut Least::default()),
+                    Call::Remove => self.changes(side, answers, &mut Least::default(), times),
                     Call::ClosestKeys => {
                         bytes.fill(0);
                         let keys = &mut bytes[..CLOSEST * KEY];
@@ -694,20 +665,14 @@ lines name no key.";
                         bytes.fill(0);
                         side.pass(&self.targets[..ITER_CALLS], answers, times, |s, _| s.iter(bytes))
                     }
+                    Call::Take => side.pass(self.targets, answers, times, |s, _| s.take_applied_pending()),
                 }
             }
         }
 
         /// A pass of explanations, each of which must write this line. Where a new key is to be inserted, the changing peers are out meanwhile.
-        fn explained(
-            &self,
-            library: &mut Library,
-            call: Call,
-            line: &str,
-            answers: &mut Vec<u32>,
-            times: &mut LibraryTimes,
-        ) {
-            let untimed = &mut LibraryTimes::default();
+        fn explained(&self, library: &mut Library, call: Call, line: &str, answers: &mut Vec<u32>, times: &mut Least) {
+            let untimed = &mut Least::default();
             let of_call = match call {
                 Call::Insert | Call::Remove => self.changing,
                 Call::Full => self.outside,
@@ -727,7 +692,7 @@ lines name no key.";
         }
 
         /// Takes the changing peers out and puts them in again, or the other way round where no node is held.
-        fn changes<S: Side>(&self, side: &mut S, answers: &mut Vec<u32>, insert: &mut S::Times, remove: &mut S::Times) {
+        fn changes<S: Side>(&self, side: &mut S, answers: &mut Vec<u32>, insert: &mut Least, remove: &mut Least) {
             if !self.held {
                 side.pass(self.changing, answers, insert, |s, p| s.insert_or_update(p, p.slot));
             }
@@ -736,11 +701,6 @@ lines name no key.";
                 side.pass(self.changing, answers, insert, |s, p| s.insert_or_update(p, p.slot));
             }
         }
-    }
-
-    #[inline(never)]
-    fn plain_sum(bytes: &[u8]) -> u64 {
-        bytes.iter().map(|byte| u64::from(*byte)).sum()
     }
 
     pub fn main() -> ExitCode {
@@ -763,16 +723,9 @@ lines name no key.";
             Setup::new(0, PLACES, 1),
         ];
         let mut outputs = [(); 2].map(|_| Output { answers: Vec::new(), bytes: vec![0; ALL * NODE] });
-        let (mut sum, mut reading) = (Least::default(), Least::default());
         for _ in 0..rounds {
             for setup in &mut setups {
                 setup.round(&mut outputs);
-                for _ in 0..CALLS {
-                    let start = Instant::now();
-                    black_box(plain_sum(black_box(&setup.library.storage)));
-                    sum.note(nanoseconds(start));
-                    reading.note(nanoseconds(Instant::now()));
-                }
             }
         }
         for setup in &mut setups {
@@ -780,46 +733,32 @@ lines name no key.";
             let found = [setup.library.iter(&mut one.bytes), Side::iter(&mut setup.reference, &mut other.bytes)];
             assert!(found == [setup.held as u32; 2] && one.bytes == other.bytes, "{}: the tables differ", setup.name);
         }
-        let Least(reading) = reading;
-        println!(
-            "ns per call, {rounds} rounds; a plain sum of the {STORAGE} bytes (rustc, 64-bit): {:.0}",
-            sum.0 - reading
-        );
-        for setup in &mut setups {
+        println!("ns per whole call, the least of {rounds} rounds");
+        for setup in &setups {
             println!("\n{}", setup.name);
-            println!(
-                "  {:<40} {:>8} {:>10} {:>8} {:>9} {:>10} {:>11}",
-                "", "library", "question 2", "rest", "reference", "rest / ref", "whole / ref"
-            );
-            for row in &mut setup.rows {
-                let (question_2, rest) = (row.library.question_2.0 - reading, median(&mut row.library.rest));
-                let (whole, reference) = (question_2 + rest, row.reference.0);
-                println!(
-                    "  {:<40} {whole:>8.0} {question_2:>10.0} {rest:>8.0} {reference:>9.0} {:>10.2} {:>11.1}",
-                    row.call.name(),
-                    rest / reference,
-                    whole / reference
-                );
+            println!("  {:<40} {:>8} {:>9} {:>19}", "", "library", "reference", "library / reference");
+            for row in &setup.rows {
+                let (library, reference) = (row.library.0, row.reference.0);
+                println!("  {:<40} {library:>8.0} {reference:>9.0} {:>19.2}", row.call.name(), row.times());
             }
             println!("  bytes: library {STORAGE}, reference {}", setup.reference_bytes);
             if setup.held == EXPLAINED_NODES {
-                println!(
-                    "  {:<40} {:>8} {:>10} {:>8} {:>18}",
-                    "explained", "library", "question 2", "rest", "rest / call's rest"
-                );
-                for row in setup.rows.iter_mut().filter(|row| row.call.line().is_some()) {
-                    let (question_2, rest) =
-                        (row.explanation.question_2.0 - reading, median(&mut row.explanation.rest));
-                    let of_call = median(&mut row.library.rest);
-                    let whole = question_2 + rest;
-                    println!(
-                        "  {:<40} {whole:>8.0} {question_2:>10.0} {rest:>8.0} {:>18.2}",
-                        row.call.name(),
-                        rest / of_call
-                    );
+                println!("  {:<40} {:>8} {:>29}", "explained", "library", "explained / call");
+                for row in setup.rows.iter().filter(|row| row.call.line().is_some()) {
+                    let (explanation, call) = (row.explanation.0, row.library.0);
+                    println!("  {:<40} {explanation:>8.0} {:>29.2}", row.call.name(), explanation / call);
                 }
             }
         }
+        let unfiltered = || setups.iter().filter(|setup| setup.filter == 0);
+        let on_key = unfiltered().flat_map(|setup| &setup.rows).filter(|row| row.call.on_key());
+        let most = on_key.max_by(|one, other| one.times().total_cmp(&other.times())).unwrap();
+        let (name, times) = (most.call.name(), most.times());
+        println!("\nlibrary / reference, filters off");
+        println!("  a call on one key: at most {times:.2} ({name}), wanted at most {MOST_ON_KEY}");
+        let full = unfiltered().find(|setup| setup.held == EXPLAINED_NODES).unwrap();
+        let closest = full.rows.iter().find(|row| row.call == Call::ClosestKeys).unwrap();
+        println!("  closest_keys, 16, {}: {:.2}, wanted at most {MOST_CLOSEST}", full.name, closest.times());
         ExitCode::SUCCESS
     }
 }

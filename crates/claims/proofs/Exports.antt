@@ -15,6 +15,7 @@ use Rattle.model.specs.Listing.{found}
 use Rattle.model.specs.Saved.{savedCount}
 use Rattle.model.specs.Question.{firstFailed, maxCount, withRoom}
 use Rattle.model.specs.Layout.{tableOf}
+use Rattle.model.specs.Formed.{formed}
 use Rattle.model.specs.Step.{act}
 use Rattle.model.specs.StepBytes
 use Rattle.model.specs.StepBytes.{allQuestions, outputOf, stepBytes}
@@ -116,16 +117,16 @@ load-read r s bs = go (firstFailed (allQuestions (Call.read r) s)) refl
         let m : k ≤ maxCount = read-few r s k (ap (λ (o : Option ℕ). StepBytes.unlessRefusedBytes o (Call.read r) s .answer) e) in
         ap (λ (b : Bool). cond b (Answer.Refused (k - refusedCode 0)) (Answer.Read k)) (lt-leb (refusedCode 0) k (omega arith))
 
--- the closest list, with the answer as the host reads it; x is the target of the call
+-- the closest list on storage that is well formed throughout, with the answer as the host reads it; x is the target of the call
 pub export-closest-list : {l : Listing} {n time : ℕ} {out answer s : List ℕ} {code : ℕ} {s′ out′ : List ℕ} → Called (Call.list l n time out) answer s code s′ out′ → (x : List ℕ)
-    → target l ≡ some x → Bytes s → isRefused (answerOf (Call.list l n time out) code out′) ≡ false
+    → target l ≡ some x → Bytes s → formed s ≡ true → isRefused (answerOf (Call.list l n time out) code out′) ≡ false
     → ClosestList l x n time out s (answerOf (Call.list l n time out) code out′) out′
 unfolding exported
-export-closest-list {l} {n} {time} {out} {s = s} {code} {out′ = out′} run x e b h =
+export-closest-list {l} {n} {time} {out} {s = s} {code} {out′ = out′} run x e b f h =
     let w = sees run in
     let r : answerOf (Call.list l n time out) code out′ ≡ stepBytes (Call.list l n time out) s .answer =
     ap (λ (y : ℕ). answerOf (Call.list l n time out) y out′) (w .code) ∙ list-read l n time out s out′ in
-    let c : ClosestClaim l x n time out s = theorem-closest l x n time out s e b (sym (ap isRefused r) ∙ h) in
+    let c : ClosestClaim l x n time out s = theorem-closest l x n time out s e b f (sym (ap isRefused r) ∙ h) in
     record { answer = r ∙ c .answer; output = w .output ∙ c .output; sorted = c .sorted; all-there = c .all-there }
 
 -- a call that finds nodes is a listing, and finds at most 4,096

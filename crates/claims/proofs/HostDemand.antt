@@ -55,27 +55,36 @@ pub record Short (s : List ℕ) (code : ℕ) (s′ : List ℕ) : Type 0 where
   pub code-is : code ≡ refusedCode question
   pub storage : s′ ≡ s
 
-pub told : {c : Call} {answer s : List ℕ} {code : ℕ} {s′ out′ : List ℕ} → Called c answer s code s′ out′ → Answered c s code s′ out′ ⊎ Short s code s′
+-- with room for the answer it is carried out
+pub carried-out : {c : Call} {answer s : List ℕ} {code : ℕ} {s′ out′ : List ℕ} → Called c answer s code s′ out′ → (carries c ≡ true → answerSize ≤ length answer)
+    → Answered c s code s′ out′
 unfolding exported
+carried-out {c} {answer} {s} {code} {s′} {out′} run l = by (carries c) refl (sees run)
+  where
+    by : (b : Bool) → carries c ≡ b → Writes code s′ out′ (cond b (exportedWith c answer s) (exported c s)) → Answered c s code s′ out′
+    by false e w = record { code-is = w .code; storage = w .storage; front = λ t. clash t e }
+    by true e w =
+        let a = stepBytes c s .answer in
+        let z = Thin.carries c s answer (l e) {a = a} (record { answer = refl; storage = refl }) refl refl in
+        record {
+          code-is = w .code ∙ sym (z .code);
+          storage = w .storage ∙ sym (z .storage);
+          front = λ _.
+              ap (λ (o : List ℕ). part o 0 (length (answerBytes a))) (w .output ∙ sym (z .output))
+              ∙ part-splice-same answer 0 (answerBytes a) (omega (arith, answer-short a, l e));
+        }
+
+pub told : {c : Call} {answer s : List ℕ} {code : ℕ} {s′ out′ : List ℕ} → Called c answer s code s′ out′ → Answered c s code s′ out′ ⊎ Short s code s′
 told {c} {answer} {s} {code} {s′} {out′} run = by (carries c) refl (sees run)
   where
     room : (length answer < answerSize) ⊎ (answerSize ≤ length answer) → Writes code s′ out′ (exportedWith c answer s) → Answered c s code s′ out′ ⊎ Short s code s′
     room (inl l) w =
         let z = too-short c s answer l refl refl in
         inr (record { question = given (firstFailed (upToFive c s)) 6; code-is = w .code ∙ sym (z .code); storage = w .storage ∙ sym (z .storage) })
-    room (inr l) w =
-        let a = stepBytes c s .answer in
-        let z = Thin.carries c s answer l {a = a} (record { answer = refl; storage = refl }) refl refl in
-        inl (record {
-          code-is = w .code ∙ sym (z .code);
-          storage = w .storage ∙ sym (z .storage);
-          front = λ _.
-              ap (λ (o : List ℕ). part o 0 (length (answerBytes a))) (w .output ∙ sym (z .output))
-              ∙ part-splice-same answer 0 (answerBytes a) (omega (arith, answer-short a, l));
-        })
+    room (inr l) w = inl (carried-out run (λ _. l))
 
     by : (b : Bool) → carries c ≡ b → Writes code s′ out′ (cond b (exportedWith c answer s) (exported c s)) → Answered c s code s′ out′ ⊎ Short s code s′
-    by false e w = inl (record { code-is = w .code; storage = w .storage; front = λ t. clash t e })
+    by false e w = inl (carried-out run (λ t. clash t e))
     by true e w = room (lt-or-le (length answer) answerSize) w
 
 -- what the host reads is what the call answered

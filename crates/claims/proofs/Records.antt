@@ -31,7 +31,8 @@ taken : (t : Table) (q : List EndedPending) → t .queue ≡ q → behind q (tak
 taken t [] e = ap (behind []) e
 taken t (a ∷ q) e = one-less a q
 
-of-act : (c : Call) (t : Table) → behind (t .queue) (act c t .table .queue) ≡ act c t .records
+-- the same of the call's work
+pub of-act : (c : Call) (t : Table) → behind (t .queue) (act c t .table .queue) ≡ act c t .records
 unfolding act
 of-act (Call.new k timeout m tf bf) t = nothing-behind (t .queue)
 of-act (Call.onKey k c) t = on-key t _ _ (indexIn t (number k))

@@ -1,5 +1,5 @@
 -- The answers that each call can give; what demands 1 and 3, and what became of pendings, are stated with, for the code and for a host; that
--- every call returns; the promise of a member's own old record; the writer and the reader.
+-- every call returns; the promise of a member's own old record; the writer and the reader; what a call reads.
 pub mod Listed
 pub mod Ran
 pub mod Runs
@@ -9,3 +9,4 @@ pub mod Exports
 pub mod HostFunctions
 pub mod OwnRecord
 pub mod Saved
+pub mod CheckingLess

@@ -39,9 +39,9 @@ pub record Refusal (n : ℕ) (c : Call) (s : List ℕ) (a : Answer) (s′ out′
   pub storage : s′ ≡ s
   pub output : out′ ≡ outputOf c
 
--- demand 3, the closest list: the first n of all held nodes as if every bucket's due pending had been applied, nearest first, each once,
--- bucket 0's node a second time where 01 says so, with what the call gives of each node; the count found is its length; the bytes of the
--- output behind it stay
+-- demand 3, the closest list, on a storage that is well formed throughout (02, slip 7): the first n of all held nodes as if every bucket's due
+-- pending had been applied, nearest first, each once, bucket 0's node a second time where 01 says so, with what the call gives of each node;
+-- the count found is its length; the bytes of the output behind it stay
 pub record ClosestList (l : Listing) (x : List ℕ) (n time : ℕ) (out s : List ℕ) (a : Answer) (out′ : List ℕ) : Type 0 where
   pub answer : a ≡ Answer.Found (length (closestNodes x n time (tableOf s)))
   pub output : out′ ≡ written (map (item l) (closestNodes x n time (tableOf s))) out

@@ -1,7 +1,7 @@
 -- What nodes_by_distances answers and leaves, by its questions and its passes.
-use mathlib.Core.Path.{_≡_, refl, sym, ap, _∙_, subst}
-use mathlib.Core.Bool.{Bool, true, cond, _&&_}
-use mathlib.Core.List.{List, [], _∷_, _++_, map}
+use mathlib.Core.Path.{_≡_, refl, sym, ap, ap₂, _∙_}
+use mathlib.Core.Bool.{Bool, true, false, cond, _&&_}
+use mathlib.Core.List.{List, [], _∷_, _++_, map, append-nil}
 use mathlib.Core.Option.{Option, none, some}
 use Prim.Native.Nat.{ℕ, zero, suc, _+_, _-_, _*_, _≤_, _<_}
 use native.Mathlib.Omega.{arith}
@@ -17,23 +17,25 @@ use Rattle.model.specs.Sizes.{nodeSize, storageSize}
 use Rattle.model.specs.Call.{Call, Listing}
 use Rattle.model.specs.Listing.{item, applyAll, appliedPass, bucketsAt, atLeastOne, found}
 use Rattle.model.specs.Question.{firstFailed, deadlineFits, maxCount, keysFit, codesInRange, clockFits, outputFits, kindFits}
-use Rattle.model.specs.Step.{Outcome, act, questions, queueFits, step}
-use Rattle.model.specs.Layout.{nodeBytes, itemBytes, bytesOf, tableOf}
-use Rattle.model.specs.Formed.{formed}
-use Rattle.model.specs.StepBytes.{allQuestions, unlessRefusedBytes, stepBytes}
-use Rattle.model.specs.Fits.{Fits}
+use Rattle.model.specs.Step.{act, queueFits}
+use Rattle.model.specs.Layout.{nodeBytes, itemBytes, tableOf}
+use Rattle.model.specs.Formed.{headerFormed, bucketsFormed}
+use Rattle.model.specs.StepBytes.{allQuestions, restore, unlessRefusedBytes, stepBytes}
 use Rattle.laws.proofs.Tests.{and-left, and-right}
 use Rattle.laws.proofs.Applied.{apply-all-queue}
 use Rattle.laws.proofs.Lists.{joined-map}
-use Rattle.laws.proofs.KeepStep.{step-accepted, step-fits}
-use Rattle.laws.proofs.TableBytes.{length-bytesOf, table-there, formed-there, table-back, fits-back}
-use Rattle.laws.proofs.TableStep.{step-bytes}
+use Rattle.laws.proofs.ReadBack.{header-fits}
 use Rattle.laws.proofs.Listing.{most-few}
+use Rattle.laws.proofs.DistanceReads.{found-reads}
+use Rattle.laws.proofs.Questions as asked
+use Rattle.laws.proofs.Questions.{front-fails, front-passes}
 use Rattle.on_key.specs.Answers.{firstThree, failedOfThree, Timely}
-use Rattle.laws.proofs.Questions.{passed, front-fails, front-passes, accepted-bytes}
+use Rattle.visit.specs.Passes.{appliedIn}
+use Rattle.visit.proofs.Applying.{Appliable, Applying, applying-done, applying-size, applying-header, applying-table, applying-formed}
 use Rattle.items.specs.Lists.{Lists}
-use Rattle.distances.specs.Passes.{distancePass, Holds, listedNodes}
+use Rattle.distances.specs.Passes.{tableAt, distancePass, passed, Taken, Holds, listedNodes}
 use Rattle.distances.specs.Early.{early, failedEarly}
+use Rattle.distances.proofs.Passes.{pass-appliable}
 
 -- n, or 1 where it is 0
 pub one-of-none : (n : ℕ) → n ≡ 0 → 1 ≡ atLeastOne n
@@ -73,7 +75,7 @@ module _ (now n room : ℕ) (s : List ℕ) where
 
   pub record Passed : Type 0 where
     pub size : length s ≡ storageSize
-    pub formed : formed s ≡ true
+    pub header : headerFormed s ≡ true
     pub timely : Timely s now
     pub few : n ≤ maxCount
     pub most-few : atLeastOne n ≤ maxCount
@@ -82,15 +84,15 @@ module _ (now n room : ℕ) (s : List ℕ) where
   pub passed-early : failedEarly now n room s ≡ none → Passed
   unfolding failedEarly
   passed-early e =
-      let p = passed 1 (eqb (length s) storageSize) ((2, formed s) ∷ (5, clock) ∷ (6, fits) ∷ []) e in
-      let q = passed 2 (formed s) ((5, clock) ∷ (6, fits) ∷ []) (p .1) in
-      let r = passed 5 clock ((6, fits) ∷ []) (q .1) in
-      let u = passed 6 fits [] (r .1) .0 in
+      let p = asked.passed 1 (eqb (length s) storageSize) ((2, headerFormed s) ∷ (5, clock) ∷ (6, fits) ∷ []) e in
+      let q = asked.passed 2 (headerFormed s) ((5, clock) ∷ (6, fits) ∷ []) (p .1) in
+      let r = asked.passed 5 clock ((6, fits) ∷ []) (q .1) in
+      let u = asked.passed 6 fits [] (r .1) .0 in
       let c = leb-true (now + tableOf s .settings .bucket .pendingTimeout) 18446744073709551615 (r .0) in
       let m : n ≤ maxCount = leb-true n maxCount (and-left (leb n maxCount) (leb (atLeastOne n * nodeSize) room) u) in
       record {
         size = eqb-true _ _ (p .0);
-        formed = q .0;
+        header = q .0;
         timely = omega (arith, c);
         few = m;
         most-few = most-few (Listing.nodesByDistances []) n m;
@@ -109,7 +111,10 @@ module _ (s : List ℕ) (ds : List ℕ) (n now : ℕ) (out : List ℕ) where
   abbrev t : Table
   t = tableOf s
 
-  asked-are : firstFailed (allQuestions c s) ≡ firstFailed (early now n (length out) s ++ ((8, queueFits c t) ∷ []))
+  abbrev formedBuckets : Bool
+  formedBuckets = bucketsFormed s (passed now n ds t)
+
+  asked-are : firstFailed (allQuestions c s) ≡ firstFailed (early now n (length out) s ++ ((2, formedBuckets) ∷ (8, queueFits c t) ∷ []))
   unfolding keysFit codesInRange clockFits outputFits kindFits
   asked-are = refl
 
@@ -124,7 +129,7 @@ module _ (s : List ℕ) (ds : List ℕ) (n now : ℕ) (out : List ℕ) where
 
   pub refused-early : (q : ℕ) → failedEarly now n (length out) s ≡ some q → Lists (Answer.Refused q) s out (stepBytes c s)
   unfolding failedEarly
-  refused-early q e = refused q (asked-are ∙ front-fails (early now n (length out) s) ((8, queueFits c t) ∷ []) q e)
+  refused-early q e = refused q (asked-are ∙ front-fails (early now n (length out) s) ((2, formedBuckets) ∷ (8, queueFits c t) ∷ []) q e)
 
   abbrev left : Table
   left = distancePass now n 0 ds t .0
@@ -142,9 +147,9 @@ module _ (s : List ℕ) (ds : List ℕ) (n now : ℕ) (out : List ℕ) where
 
   module _ (e : failedEarly now n (length out) s ≡ none) where
     pub queue-few : Bytes s → length (t .queue) ≤ maxRecords
-    queue-few b = let p = passed-early now n (length out) s e in fits-back s b (p .size) (p .formed) .queue
+    queue-few b = let p = passed-early now n (length out) s e in header-fits s b (p .size) (p .header) .queue
 
-    -- question 8, by the records that the queue holds and those that the dry run counts
+    -- question 8, by the records that the queue holds and those that the survey counts
     module _ (b : Bytes s) {held more : ℕ} (f : held ≡ length (t .queue)) (g : more ≡ length (distancePass now n 0 ds t .1)) where
       pub queue-full : maxRecords - held < more → maxRecords < length (left .queue)
       queue-full h = omega (arith, queue-is)
@@ -152,60 +157,72 @@ module _ (s : List ℕ) (ds : List ℕ) (n now : ℕ) (out : List ℕ) where
       pub queue-room : more ≤ maxRecords - held → length (left .queue) ≤ maxRecords
       queue-room h = omega (arith, queue-is, queue-few b)
 
-    asked-last : firstFailed (allQuestions c s) ≡ cond (queueFits c t) none (some 8)
+    asked-last : firstFailed (allQuestions c s) ≡ cond formedBuckets (cond (queueFits c t) none (some 8)) (some 2)
     unfolding failedEarly
-    asked-last = asked-are ∙ front-passes (early now n (length out) s) ((8, queueFits c t) ∷ []) e
+    asked-last = asked-are ∙ front-passes (early now n (length out) s) ((2, formedBuckets) ∷ (8, queueFits c t) ∷ []) e
 
-    pub refused-full : maxRecords < length (left .queue) → Lists (Answer.Refused 8) s out (stepBytes c s)
-    refused-full h = refused 8 (asked-last ∙ rw (fits-are, lt-leb (length (left .queue)) maxRecords h))
+    pub refused-malformed : formedBuckets ≡ false → Lists (Answer.Refused 2) s out (stepBytes c s)
+    refused-malformed f = refused 2 (asked-last ∙ rw f)
 
-    module _ (h : length (left .queue) ≤ maxRecords) (b : Bytes s) where
-      accepted : firstFailed (allQuestions c s) ≡ none
-      accepted = asked-last ∙ rw (fits-are, le-leb (length (left .queue)) maxRecords h)
+    module _ (f : formedBuckets ≡ true) where
+      pub refused-full : maxRecords < length (left .queue) → Lists (Answer.Refused 8) s out (stepBytes c s)
+      refused-full h = refused 8 (asked-last ∙ rw (f, fits-are, lt-leb (length (left .queue)) maxRecords h))
 
-      answered : firstFailed (questions c t) ≡ none
-      answered = accepted-bytes c s accepted .passes
+      module _ (h : length (left .queue) ≤ maxRecords) {taken records : ℕ} (k : Taken now n ds t taken records) where
+        abbrev is : List ℕ
+        is = bucketsAt (take taken ds)
 
-      abbrev p : Passed now n (length out) s
-      p = passed-early now n (length out) s e
+        accepted : firstFailed (allQuestions c s) ≡ none
+        accepted = asked-last ∙ rw (f, fits-are, le-leb (length (left .queue)) maxRecords h)
 
-      fits-here : Fits t
-      fits-here = fits-back s b (p .size) (p .formed)
+        pub taken-formed : bucketsFormed s is ≡ true
+        taken-formed = ap (bucketsFormed s) (k .buckets) ∙ f
 
-      table-is : step c t .table ≡ left
-      unfolding act distancePass
-      table-is = ap (λ (o : Outcome). o .table) (step-accepted c t answered)
+        pub taken-room : length (tableAt now ds taken t .queue) ≤ maxRecords
+        unfolding tableAt distancePass
+        taken-room = let q = ap (λ (js : List ℕ). length (applyAll now js t .0 .queue)) (k .buckets) in omega arith
 
-      left-fits : Fits left
-      left-fits = subst (λ (x : Table). Fits x) table-is (step-fits c t tt fits-here)
+        pub taken-records : records ≡ length (applyAll now is t .1)
+        unfolding distancePass
+        taken-records = k .given ∙ ap (λ (js : List ℕ). length (applyAll now js t .1)) (sym (k .buckets))
 
-      -- the storage once the pass has been made
-      module _ {s′ : List ℕ} (w : s′ ≡ bytesOf left) where
-        pub holds-left : Holds s′
-        holds-left = record { size = ap length w ∙ length-bytesOf left left-fits; formed = ap formed w ∙ formed-there left left-fits }
+        -- the storage once the pass has been made
+        module _ (b : Bytes s) {s′ : List ℕ} (v : s′ ≡ appliedIn s now is) where
+          p : Appliable s now is
+          p = let q = passed-early now n (length out) s e in pass-appliable s now ds taken b (record { size = q .size; header = q .header }) (q .timely) taken-formed taken-room
 
-        there : tableOf s′ ≡ left
-        there = ap tableOf w ∙ table-there left left-fits
+          w : Applying s now is s′ []
+          w = applying-done s now is p v
 
-        found-is : listedNodes (tableOf s′) (atLeastOne n) ds ≡ found l n now t
-        unfolding listedNodes found distancePass
-        found-is = ap (λ (u : Table). take (atLeastOne n) (joined (λ i. nodes (u .buckets i)) (bucketsAt ds))) there
+          pub holds-left : Holds s′
+          holds-left = record { size = applying-size s now is p s′ [] w; header = applying-header s now is p s′ [] w }
 
-        items-are : (ns : List Node) → joined nodeBytes ns ≡ joined itemBytes (map (item l) ns)
-        unfolding itemBytes
-        items-are ns = sym (joined-map itemBytes (item l) ns)
+          pub formed-left : bucketsFormed s′ is ≡ true
+          formed-left = applying-formed s now is p s′ [] w is (p .below) taken-formed
 
-        pub lists-found : {k : ℕ} {out′ : List ℕ} → k ≡ length (listedNodes (tableOf s′) (atLeastOne n) ds)
-            → out′ ≡ splice out 0 (joined nodeBytes (listedNodes (tableOf s′) (atLeastOne n) ds)) → Lists (Answer.Found k) s′ out′ (stepBytes c s)
-        unfolding stepBytes act
-        lists-found {k} {out′} g o =
-            let back : bytesOf t ≡ s = table-back s b (p .size) (p .formed) in
-            let z = step-bytes c t tt fits-here in
-            let a : k ≡ length (found l n now t) = g ∙ ap length found-is in
-            record {
-              answer = ap Answer.Found a ∙ ap (λ (q : Option ℕ). unlessRefusedBytes q c s .answer) (sym accepted);
-              storage = w ∙ ap bytesOf (sym table-is) ∙ sym (z .storage) ∙ ap (λ (r : List ℕ). stepBytes c r .storage) back;
-              output =
-                  o ∙ ap (λ (ns : List Node). splice out 0 (joined nodeBytes ns)) found-is
-                  ∙ ap (splice out 0) (items-are (found l n now t)) ∙ ap (λ (q : Option ℕ). unlessRefusedBytes q c s .output) (sym accepted);
-            }
+          there : tableOf s′ ≡ left
+          unfolding distancePass
+          there = applying-table s now is p s′ [] w ∙ ap (λ (js : List ℕ). applyAll now js t .0) (sym (append-nil (w .done)) ∙ sym (w .all) ∙ k .buckets)
+
+          found-is : listedNodes (tableOf s′) (atLeastOne n) (take taken ds) ≡ found l n now t
+          unfolding listedNodes distancePass
+          found-is =
+              ap₂ (λ (u : Table) (js : List ℕ). take (atLeastOne n) (joined (λ i. nodes (u .buckets i)) js)) there (k .buckets)
+              ∙ sym (found-reads l n now t)
+
+          items-are : (ns : List Node) → joined nodeBytes ns ≡ joined itemBytes (map (item l) ns)
+          unfolding itemBytes
+          items-are ns = sym (joined-map itemBytes (item l) ns)
+
+          pub lists-found : {m : ℕ} {out′ : List ℕ} → m ≡ length (listedNodes (tableOf s′) (atLeastOne n) (take taken ds))
+              → out′ ≡ splice out 0 (joined nodeBytes (listedNodes (tableOf s′) (atLeastOne n) (take taken ds))) → Lists (Answer.Found m) s′ out′ (stepBytes c s)
+          unfolding stepBytes act appliedIn
+          lists-found {m} {out′} g o =
+              let a : m ≡ length (found l n now t) = g ∙ ap length found-is in
+              record {
+                answer = ap Answer.Found a ∙ ap (λ (q : Option ℕ). unlessRefusedBytes q c s .answer) (sym accepted);
+                storage = v ∙ ap (λ (js : List ℕ). restore s js (applyAll now js t .0)) (k .buckets) ∙ ap (λ (q : Option ℕ). unlessRefusedBytes q c s .storage) (sym accepted);
+                output =
+                    o ∙ ap (λ (ns : List Node). splice out 0 (joined nodeBytes ns)) found-is
+                    ∙ ap (splice out 0) (items-are (found l n now t)) ∙ ap (λ (q : Option ℕ). unlessRefusedBytes q c s .output) (sym accepted);
+              }

@@ -7,7 +7,7 @@ use native.Mathlib.Nat.{zero-add, add-mul, mul-le-mul-right}
 use native.Mathlib.Numerals.{add-one}
 use native.Mathlib.Omega.{arith}
 use lib.ListN.{length, getD, take, length-take, length-append}
-use lib.Seq.{take-suc, take-nil, take-all}
+use lib.Seq.{take-suc, take-nil}
 use Rattle.model.specs.Base.{joined}
 use Rattle.model.specs.Bytes.{splice}
 use Rattle.model.specs.Node.{Node}
@@ -103,10 +103,9 @@ module _ (t : Table) where
       pub count-most : k ≤ n
       count-most = omega (arith, w .count, length-listed (take p ds))
 
-      pub writing-ends : length ds ≤ p → (k ≡ length (listedNodes t n ds)) × (out ≡ splice o 0 (joined nodeBytes (listedNodes t n ds)))
-      writing-ends h =
-          let e : take p ds ≡ ds = take-all p ds h in
-          (w .count ∙ ap (λ (l : List ℕ). length (listedNodes t n l)) e, w .there ∙ ap (λ (l : List ℕ). splice o 0 (joined nodeBytes (listedNodes t n l))) e)
+      pub writing-ends : (taken : ℕ) → p ≡ taken → (k ≡ length (listedNodes t n (take taken ds))) × (out ≡ splice o 0 (joined nodeBytes (listedNodes t n (take taken ds))))
+      writing-ends taken e =
+          (w .count ∙ ap (λ (m : ℕ). length (listedNodes t n (take m ds))) e, w .there ∙ ap (λ (m : ℕ). splice o 0 (joined nodeBytes (listedNodes t n (take m ds)))) e)
 
       pub writing-next : {k′ : ℕ} {out′ : List ℕ} → p < length ds → n * nodeSize ≤ length o → length out′ ≡ length out
           → k′ ≡ k + length (listedNodes t (n - k) (getD ds p 0 ∷ [])) → out′ ≡ splice out (k * nodeSize) (joined nodeBytes (listedNodes t (n - k) (getD ds p 0 ∷ [])))

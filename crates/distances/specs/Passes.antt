@@ -11,10 +11,12 @@ use Rattle.model.specs.Node.{Node, EndedPending, placedOf}
 use Rattle.model.specs.Bucket.{maxNodesPerBucket, nodes, numEntries, applyPending}
 use Rattle.model.specs.Table.{Table}
 use Rattle.model.specs.Sizes.{storageSize}
-use Rattle.model.specs.Formed.{formed}
+use Rattle.model.specs.Layout.{tableOf}
+use Rattle.model.specs.Formed.{headerFormed, bucketsFormed}
 use Rattle.model.specs.Listing.{applyAll, applied, appliedPass, bucketsAt}
 use Rattle.visit.specs.declared.Given.{Given}
 use Rattle.visit.specs.Passes.{visitOne}
+use Rattle.distances.specs.declared.pass.Tally.{Tally}
 
 -- the distance d stands among the first p
 unfoldable pub standsBefore : List ℕ → ℕ → ℕ → Bool
@@ -53,10 +55,25 @@ tableAt now ds p t = applyAll now (bucketsAt (take p ds)) t .0
 unfoldable pub distancePass : ℕ → ℕ → ℕ → List ℕ → Table → Table × List EndedPending
 distancePass now n seen ds t = applyAll now (appliedPass now n seen (bucketsAt ds) t) t
 
--- storage that holds a table
+-- the buckets of the pass
+abbrev pub passed : ℕ → ℕ → List ℕ → Table → List ℕ
+passed now n ds t = appliedPass now n 0 (bucketsAt ds) t
+
+-- the pass takes the first distances, and gives so many records
+pub record Taken (now n : ℕ) (ds : List ℕ) (t : Table) (taken records : ℕ) : Type 0 where
+  pub within : taken ≤ length ds
+  pub buckets : bucketsAt (take taken ds) ≡ passed now n ds t
+  pub given : records ≡ length (distancePass now n 0 ds t .1)
+
+-- 02, slip 7: question 2 of the buckets of the pass, and where it passes how far the pass goes
+pub record Surveyed (now n : ℕ) (ds s : List ℕ) (r : Tally) : Type 0 where
+  pub formed : r .formed ≡ bucketsFormed s (passed now n ds (tableOf s))
+  pub passes : r .formed ≡ Bool.true → Taken now n ds (tableOf s) (r .taken) (r .records)
+
+-- storage whose settings and queue pass question 2
 pub record Holds (s : List ℕ) : Type 0 where
   pub size : length s ≡ storageSize
-  pub formed : formed s ≡ Bool.true
+  pub header : headerFormed s ≡ Bool.true
 
 -- the first n nodes of the buckets named
 unfoldable pub listedNodes : Table → ℕ → List ℕ → List Node

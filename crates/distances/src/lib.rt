@@ -22,7 +22,7 @@ fn at_least_one(n: usize) -> usize
     n
 }
 
-// The first failed question of 1, 2, 5 and 6, or 0. room: the bytes of output.
+// The first failed question of 1, 2 (the settings and the queue), 5 and 6, or 0. room: the bytes of output.
 fn asked_early(s: &[u8], n: usize, time: u64, room: usize) -> u8
     ensures { λ r. ⌜ failedEarly time n room (now (s .entry)) ≡ refusal r ⌝ }
 {
@@ -41,7 +41,7 @@ fn asked_early(s: &[u8], n: usize, time: u64, room: usize) -> u8
 
 // The nodes of the buckets at the distances, in the order given, up to n, or one where n is 0: each bucket in stored order, written to
 // `out` as the bytes of a node. Distances outside 1 to 256 are dropped. Due pendings are applied first, up to the placed one whose
-// bucket makes n. Refused by questions 1, 2, 5, 6 and 8.
+// bucket makes n, and no bucket behind it is read. Refused by questions 1, 2, 5, 6 and 8; then nothing was applied.
 pub fn nodes_by_distances(
     s: &mut [u8],
     distances: &[u64],
@@ -56,12 +56,17 @@ pub fn nodes_by_distances(
     if q != 0 {
         return ListAnswer::Refused(q);
     }
-    let records = crate::pass::count_records(s, distances, n, time);
+    let y = crate::pass::survey(s, distances, n, time);
+    if !y.formed {
+        return ListAnswer::Refused(2);
+    }
+    let records = y.records;
     if Layout::MAX_RECORDS - header::record_count(s) < records {
         return ListAnswer::Refused(8);
     }
-    crate::pass::apply_pass(s, distances, n, time);
+    let taken = y.taken;
+    crate::pass::apply_pass(s, distances, taken, time, records);
     let most = at_least_one(n);
-    let count = crate::pass::put_all(s, distances, out, most);
+    let count = crate::pass::put_all(s, distances, taken, out, most);
     ListAnswer::Found(count)
 }

@@ -1,5 +1,5 @@
 -- The query, by the questions, by the key's index, and by what the call does to the key's bucket.
-use Prim.Native.Nat.{ℕ, _+_, _≤_, _<_}
+use Prim.Native.Nat.{ℕ, _+_}
 use native.Mathlib.Nat.{add-zero}
 use mathlib.Core.Path.{_≡_, sym, ap, _∙_, subst}
 use mathlib.Core.Bool.{Bool, true, false, cond, and-true}
@@ -7,7 +7,6 @@ use mathlib.Core.List.{List, [], _∷_, _++_}
 use mathlib.Core.Option.{Option, none, some}
 use lib.ListN.{length, length-append}
 use lib.Dec.{leb}
-use borrow.Author.Tests.{le-leb, lt-leb}
 use Rattle.model.specs.Bytes.{number, splice}
 use Rattle.model.specs.Node.{EndedPending}
 use Rattle.model.specs.Bucket.{Bucket, BucketSettings}
@@ -17,45 +16,69 @@ use Rattle.model.specs.Call.{Call, KeyCall}
 use Rattle.model.specs.Question.{firstFailed, withRoom, keyArguments, kindOfKey, keysFit, codesInRange, clockFits, outputFits, kindFits}
 use Rattle.model.specs.Step.{Outcome, onKey, ownAnswer, effect, act, queueFits, late}
 use Rattle.model.specs.Layout.{tableOf}
-use Rattle.model.specs.StepBytes.{Replied, allQuestions}
+use Rattle.model.specs.Formed.{bucketsFormed}
+use Rattle.model.specs.StepBytes.{Replied, reads, allQuestions}
 use Rattle.model.specs.Explain.{Told, told, Reason, bucketReason, keyReason, reason, Explanation, explanation, line, explanationRoom, lineUnlessRefused, explainBytes}
 use Rattle.laws.proofs.Questions.{front-fails, front-passes}
 use Rattle.bucket.specs.declared.KBucket.{KBucket}
 use Rattle.bucket.specs.Bucket.{bucketOf, settingsOf, Becomes}
+use Rattle.on_key.specs.declared.Start.{Start}
 use Rattle.on_key.specs.Answers.{Replies, firstFive, failedOfFive, roomFor}
+use Rattle.on_key.specs.Start.{keyFormed, Located}
+use Rattle.on_key.proofs.Questions.{stricter-fails}
+use Rattle.on_key.proofs.OneKey.{ReadFormed, read-own}
+use Rattle.on_key.proofs.Steps.{begun-at}
 use Rattle.explanation.specs.declared.Why.{Why}
 use Rattle.explanation.specs.Explanation.{whyOf}
 use Rattle.explain.specs.declared.ExplainAnswer.{ExplainAnswer}
 use Rattle.reasons.specs.Reasons.{Tells}
-use Rattle.explain.specs.Calls.{Explains, lastThree}
+use Rattle.explain.specs.Calls.{Explains, failedAtOpening, Opened, lastTwo}
 
--- the last three questions, in turn
+-- the last two questions, in turn
 
 module _ (kind room : Bool) (l out : List ℕ) where
-  pub refused-room : length out < explanationRoom → Explains (ExplainAnswer.Refused 6) out (lastThree kind room l out)
-  unfolding lastThree
-  refused-room h = let e = lt-leb explanationRoom (length out) h in record { answer = rw e; output = rw e }
+  pub refused-kind : kind ≡ false → Explains (ExplainAnswer.Refused 7) out (lastTwo kind room l out)
+  unfolding lastTwo
+  refused-kind k = record { answer = rw k; output = rw k }
 
-  module _ (h : explanationRoom ≤ length out) where
-    pub refused-kind : kind ≡ false → Explains (ExplainAnswer.Refused 7) out (lastThree kind room l out)
-    unfolding lastThree
-    refused-kind k = let e = le-leb explanationRoom (length out) h in record { answer = rw (e, k); output = rw (e, k) }
+  module _ (k : kind ≡ true) where
+    pub refused-queue : room ≡ false → Explains (ExplainAnswer.Refused 8) out (lastTwo kind room l out)
+    unfolding lastTwo
+    refused-queue q = record { answer = rw (k, q); output = rw (k, q) }
 
-    module _ (k : kind ≡ true) where
-      pub refused-queue : room ≡ false → Explains (ExplainAnswer.Refused 8) out (lastThree kind room l out)
-      unfolding lastThree
-      refused-queue q = let e = le-leb explanationRoom (length out) h in record { answer = rw (e, k, q); output = rw (e, k, q) }
+    pub answered : room ≡ true → {n : ℕ} {out′ : List ℕ} → n ≡ length l → out′ ≡ splice out 0 l → Explains (ExplainAnswer.Answered n) out′ (lastTwo kind room l out)
+    unfolding lastTwo
+    answered q {n} {out′} p w = record { answer = ap (λ (m : ℕ). Reply.Answered m) p ∙ rw (k, q); output = w ∙ rw (k, q) }
 
-      pub answered : room ≡ true → {n : ℕ} {out′ : List ℕ} → n ≡ length l → out′ ≡ splice out 0 l → Explains (ExplainAnswer.Answered n) out′ (lastThree kind room l out)
-      unfolding lastThree
-      answered q {n} {out′} p w =
-          let e = le-leb explanationRoom (length out) h in
-          record { answer = ap (λ (m : ℕ). Reply.Answered m) p ∙ rw (e, k, q); output = w ∙ rw (e, k, q) }
+-- how it starts, by what was asked in turn
+
+module _ (s key : List ℕ) (codes : Bool) (now : Option ℕ) (room : Bool) where
+  pub opened-refused : (n : ℕ) → failedOfFive key codes now s ≡ some n → failedAtOpening key codes now room s ≡ some n
+  unfolding failedOfFive failedAtOpening
+  opened-refused n e = front-fails (firstFive key codes now s) ((6, room) ∷ (2, keyFormed s key) ∷ []) n e
+
+  module _ (e : failedOfFive key codes now s ≡ none) where
+    opened-then : failedAtOpening key codes now room s ≡ firstFailed ((6, room) ∷ (2, keyFormed s key) ∷ [])
+    unfolding failedOfFive failedAtOpening
+    opened-then = front-passes (firstFive key codes now s) ((6, room) ∷ (2, keyFormed s key) ∷ []) e
+
+    pub opened-short : room ≡ false → failedAtOpening key codes now room s ≡ some 6
+    opened-short f = opened-then ∙ rw f
+
+    pub opened-at : room ≡ true → (r : Start) → Located s key r → Opened s key codes now room r
+    opened-at f (Start.Refused q) l =
+        opened-then ∙ ap (λ (b : Bool). firstFailed ((6, b) ∷ (2, keyFormed s key) ∷ [])) f ∙ ap (λ (b : Bool). cond b none (some 2)) (l .1) ∙ ap some (sym (l .0))
+    opened-at f Start.Local l = (f, begun-at s key codes now e Start.Local l)
+    opened-at f (Start.At k i) l = (f, begun-at s key codes now e (Start.At k i) l)
+
+-- how a call started, by the codes that it is asked and by what was answered
+pub opened : (s key : List ℕ) (now : Option ℕ) (room : Bool) {codes codes′ : Bool} {r v : Start} → codes ≡ codes′ → Opened s key codes now room r → r ≡ v → Opened s key codes′ now room v
+opened s key now room {codes} {codes′} {r} {v} e b f = subst (Opened s key codes′ now room) f (subst (λ (q : Bool). Opened s key q now room r) e b)
 
 -- a reason under another name
 pub as-reason : {r : Reply ℕ} {out′ : List ℕ} (kind room : Bool) (d : Told) (out : List ℕ) {w w′ : Reason} → w ≡ w′
-    → Replies r out′ (lastThree kind room (line (record { told = d; reason = w })) out) → Replies r out′ (lastThree kind room (line (record { told = d; reason = w′ })) out)
-as-reason {r} {out′} kind room d out e x = subst (λ (v : Reason). Replies r out′ (lastThree kind room (line (record { told = d; reason = v })) out)) e x
+    → Replies r out′ (lastTwo kind room (line (record { told = d; reason = w })) out) → Replies r out′ (lastTwo kind room (line (record { told = d; reason = w′ })) out)
+as-reason {r} {out′} kind room d out e x = subst (λ (v : Reason). Replies r out′ (lastTwo kind room (line (record { told = d; reason = v })) out)) e x
 
 -- a call on one key
 
@@ -72,38 +95,57 @@ module _ (s key : List ℕ) (c : KeyCall) (out : List ℕ) where
   abbrev room : Bool
   room = leb explanationRoom (length out)
 
-  asked-are : firstFailed (withRoom room (allQuestions call s)) ≡ firstFailed (firstFive key (keyArguments c .codes) (keyArguments c .now) s ++ ((6, room) ∷ late call t))
+  asked-are : firstFailed (withRoom room (allQuestions call s))
+      ≡ firstFailed (firstFive key (keyArguments c .codes) (keyArguments c .now) s ++ ((6, room) ∷ (2, bucketsFormed s (reads call t)) ∷ late call t))
   unfolding keysFit codesInRange clockFits outputFits
   asked-are = rw and-true
 
-  pub refused-early : {n : ℕ} → failed ≡ some n → Explains (ExplainAnswer.Refused n) out (explainBytes key c out s)
-  unfolding explainBytes failedOfFive
-  refused-early {n} e =
-      let f = sym (asked-are ∙ front-fails (firstFive key (keyArguments c .codes) (keyArguments c .now) s) ((6, room) ∷ late call t) n e) in
+  refused : {n : ℕ} → firstFailed (withRoom room (allQuestions call s)) ≡ some n → Explains (ExplainAnswer.Refused n) out (explainBytes key c out s)
+  unfolding explainBytes
+  refused e =
       record {
-        answer = ap (λ (o : Option ℕ). lineUnlessRefused o (line (explanation c key t)) out .answer) f;
-        output = ap (λ (o : Option ℕ). lineUnlessRefused o (line (explanation c key t)) out .output) f;
+        answer = ap (λ (o : Option ℕ). lineUnlessRefused o (line (explanation c key t)) out .answer) (sym e);
+        output = ap (λ (o : Option ℕ). lineUnlessRefused o (line (explanation c key t)) out .output) (sym e);
       }
 
-  module _ (e : failed ≡ none) where
-    asked-last : explainBytes key c out s ≡ lastThree (keyArguments c .kind (kindOfKey key t)) (queueFits call t) (line (explanation c key t)) out
-    unfolding explainBytes lastThree failedOfFive kindFits
+  pub refused-early : {n : ℕ} → failedAtOpening key (keyArguments c .codes) (keyArguments c .now) room s ≡ some n → Explains (ExplainAnswer.Refused n) out (explainBytes key c out s)
+  unfolding failedAtOpening
+  refused-early {n} e =
+      refused
+      (asked-are
+      ∙ stricter-fails (firstFive key (keyArguments c .codes) (keyArguments c .now) s ++ ((6, room) ∷ [])) 2 (keyFormed s key) (bucketsFormed s (reads call t)) (late call t)
+      (read-own s key c) n e)
+
+  module _ (h : room ≡ true) (e : failed ≡ none) where
+    asked-then : firstFailed (withRoom room (allQuestions call s)) ≡ firstFailed ((2, bucketsFormed s (reads call t)) ∷ late call t)
+    unfolding failedOfFive
+    asked-then =
+        asked-are ∙ front-passes (firstFive key (keyArguments c .codes) (keyArguments c .now) s) ((6, room) ∷ (2, bucketsFormed s (reads call t)) ∷ late call t) e
+        ∙ ap (λ (b : Bool). firstFailed ((6, b) ∷ (2, bucketsFormed s (reads call t)) ∷ late call t)) h
+
+    -- a bucket that the table filter reads
+    pub refused-read : bucketsFormed s (reads call t) ≡ false → Explains (ExplainAnswer.Refused 2) out (explainBytes key c out s)
+    refused-read d = refused (asked-then ∙ rw d)
+
+  module _ (h : room ≡ true) (e : failed ≡ none) (f : ReadFormed s key c) where
+    asked-last : explainBytes key c out s ≡ lastTwo (keyArguments c .kind (kindOfKey key t)) (queueFits call t) (line (explanation c key t)) out
+    unfolding explainBytes lastTwo kindFits
     asked-last =
         ap (λ (o : Option ℕ). lineUnlessRefused o (line (explanation c key t)) out)
-        (asked-are ∙ front-passes (firstFive key (keyArguments c .codes) (keyArguments c .now) s) ((6, room) ∷ late call t) e)
+        (asked-then h e ∙ ap (λ (b : Bool). firstFailed ((2, b) ∷ late call t)) f)
 
     -- by what was asked and explained
     module _ {kind : Bool} (k : kind ≡ keyArguments c .kind (kindOfKey key t)) {d : Told} {w : Reason} {r : Reply ℕ} {out′ : List ℕ} where
       ends : {fits : Bool} → fits ≡ queueFits call t → d ≡ told (act call t .answer) → w ≡ reason c key t
-          → Replies r out′ (lastThree kind fits (line (record { told = d; reason = w })) out) → Replies r out′ (explainBytes key c out s)
+          → Replies r out′ (lastTwo kind fits (line (record { told = d; reason = w })) out) → Replies r out′ (explainBytes key c out s)
       unfolding explanation
       ends {fits} f p q x =
-          let z : lastThree kind fits (line (record { told = d; reason = w })) out ≡ explainBytes key c out s = rw (k, f, p, q) (sym asked-last) in
+          let z : lastTwo kind fits (line (record { told = d; reason = w })) out ≡ explainBytes key c out s = rw (k, f, p, q) (sym asked-last) in
           record { answer = x .answer ∙ ap (λ (y : Replied). y .answer) z; output = x .output ∙ ap (λ (y : Replied). y .output) z }
 
       -- the local key
       pub ends-local : indexIn t (number key) ≡ none → d ≡ told (ownAnswer c) → w ≡ Reason.LocalKey
-          → Replies r out′ (lastThree kind (roomFor s []) (line (record { told = d; reason = w })) out) → Replies r out′ (explainBytes key c out s)
+          → Replies r out′ (lastTwo kind (roomFor s []) (line (record { told = d; reason = w })) out) → Replies r out′ (explainBytes key c out s)
       unfolding queueFits roomFor act reason
       ends-local i p q x =
           let a = ap (onKey t (ownAnswer c) (effect c key t)) (sym i) in
@@ -113,7 +155,7 @@ module _ (s key : List ℕ) (c : KeyCall) (out : List ℕ) where
       -- any other key
       pub ends-at : {i : ℕ} → indexIn t (number key) ≡ some i → {rs : List EndedPending} → rs ≡ effect c key t i (t .buckets i) .records
           → d ≡ told (effect c key t i (t .buckets i) .answer) → w ≡ bucketReason c key t i
-          → Replies r out′ (lastThree kind (roomFor s rs) (line (record { told = d; reason = w })) out) → Replies r out′ (explainBytes key c out s)
+          → Replies r out′ (lastTwo kind (roomFor s rs) (line (record { told = d; reason = w })) out) → Replies r out′ (explainBytes key c out s)
       unfolding queueFits roomFor act reason
       ends-at {i} j {rs} m p q x =
           let a = ap (onKey t (ownAnswer c) (effect c key t)) (sym j) in

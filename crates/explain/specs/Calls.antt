@@ -1,16 +1,18 @@
 -- The calls that are explained, what the query answers, and what it owes.
 use Prim.Native.Nat.{ℕ}
-use mathlib.Core.Bool.{Bool}
-use mathlib.Core.List.{List, [], _∷_}
-use lib.ListN.{length}
-use lib.Dec.{leb}
+use mathlib.Core.Path.{_≡_}
+use mathlib.Core.Bool.{Bool, true}
+use mathlib.Core.List.{List, [], _∷_, _++_}
+use mathlib.Core.Option.{Option, some}
 use Rattle.model.specs.Result.{Reply}
 use Rattle.model.specs.Call.{KeyCall}
 use Rattle.model.specs.Question.{firstFailed}
-use Rattle.model.specs.Explain.{explanationRoom, lineUnlessRefused}
+use Rattle.model.specs.Explain.{lineUnlessRefused}
 use Rattle.model.specs.StepBytes.{Replied}
 use Rattle.node.specs.Node.{argumentOf}
-use Rattle.on_key.specs.Answers.{Replies}
+use Rattle.on_key.specs.declared.Start.{Start}
+use Rattle.on_key.specs.Answers.{Replies, firstFive}
+use Rattle.on_key.specs.Start.{keyFormed, Begun}
 use Rattle.explain.specs.declared.PeerCall.{PeerCall}
 use Rattle.explain.specs.declared.ExplainAnswer.{ExplainAnswer}
 
@@ -30,6 +32,16 @@ explainAnswerOf (ExplainAnswer.Answered n) = Reply.Answered n
 abbrev pub Explains : ExplainAnswer → List ℕ → Replied → Type 0
 Explains r out x = Replies (explainAnswerOf r) out x
 
--- 01, questions 6 to 8, and the line where none of them fails
-unfoldable pub lastThree : (kind room : Bool) (line output : List ℕ) → Replied
-lastThree kind room l out = lineUnlessRefused (firstFailed ((6, leb explanationRoom (length out)) ∷ (7, kind) ∷ (8, room) ∷ [])) l out
+-- questions 1 to 5 of the call, 6 of the output, then 2 of the key's bucket
+unfoldable pub failedAtOpening : List ℕ → Bool → Option ℕ → (room : Bool) → List ℕ → Option ℕ
+failedAtOpening key codes now room s = firstFailed (firstFive key codes now s ++ ((6, room) ∷ (2, keyFormed s key) ∷ []))
+
+-- how an explanation starts: as its call, with 6 asked in its turn
+abbrev pub Opened : List ℕ → List ℕ → Bool → Option ℕ → (room : Bool) → Start → Type 0
+Opened s key codes now room (Start.Refused q) = failedAtOpening key codes now room s ≡ some q
+Opened s key codes now room Start.Local = (room ≡ true) × Begun s key codes now Start.Local
+Opened s key codes now room (Start.At k i) = (room ≡ true) × Begun s key codes now (Start.At k i)
+
+-- 01, questions 7 and 8, and the line where none of them fails
+unfoldable pub lastTwo : (kind room : Bool) (line output : List ℕ) → Replied
+lastTwo kind room l out = lineUnlessRefused (firstFailed ((7, kind) ∷ (8, room) ∷ [])) l out

@@ -3,20 +3,22 @@
 ghost use mathlib.Core.Path.{_≡_};
 ghost use mathlib.Core.Bool.{Bool, true};
 ghost use mathlib.Core.List.{[]};
+ghost use mathlib.Core.Option.{none, some};
+ghost use Prim.Native.Nat.{_≤_};
 ghost use lib.ListN.{length};
 ghost use Rattle.model.specs.Sizes.{storageSize};
 ghost use Rattle.model.specs.Layout.{tableOf};
-ghost use Rattle.model.specs.Formed.{formed};
+ghost use Rattle.model.specs.Formed.{headerFormed};
 ghost use Rattle.model.specs.Call.{KeyCall};
 ghost use Rattle.model.specs.Explain as model;
-ghost use Rattle.model.specs.Explain.{line, explainBytes};
+ghost use Rattle.model.specs.Explain.{explanationRoom, line, explainBytes};
 ghost use Rattle.node.specs.Node.{argumentOf};
 ghost use Rattle.bucket.specs.Bucket.{Sound};
 ghost use Rattle.bucket.specs.Calls.{recordsOf};
 ghost use Rattle.on_key.specs.Answers.{roomFor};
-ghost use Rattle.explanation.specs.Explanation.{toldOf, whyOf};
+ghost use Rattle.explanation.specs.Explanation.{toldOf, whyOf, TableRead};
 ghost use Rattle.reasons.specs.Reasons.{Tells};
-ghost use Rattle.explain.specs.Calls.{callOf, Explains, lastThree};
+ghost use Rattle.explain.specs.Calls.{callOf, Explains, Opened, lastTwo};
 use bucket::EndedPending;
 use bucket::FailureReason;
 use bucket::KBucket;
@@ -48,7 +50,35 @@ pub enum ExplainAnswer {
 // The bytes that an output has at the least.
 pub const ROOM: usize = 2048;
 
-// How an explanation ends: questions 6 to 8, then the line. `kind` is question 7's answer, `applied` the record of the call.
+// How an explanation starts: questions 1 to 4 of a call without a time, 6 of the output (`room`), then 2 of the key's bucket.
+fn begin(s: &[u8], key: &[u8], codes: bool, room: bool) -> Start
+    ensures { λ r. ⌜ Opened (now (s .entry)) (now (key .entry)) codes none room r ⌝ }
+{
+    let q = on_key::asked(s, key, codes);
+    if q != 0 {
+        return Start::Refused(q);
+    }
+    if !room {
+        return Start::Refused(6);
+    }
+    on_key::located(s, key)
+}
+
+// The same of a call with a time.
+fn begin_at(s: &[u8], key: &[u8], codes: bool, time: u64, room: bool) -> Start
+    ensures { λ r. ⌜ Opened (now (s .entry)) (now (key .entry)) codes (some time) room r ⌝ }
+{
+    let q = on_key::asked_at(s, key, codes, time);
+    if q != 0 {
+        return Start::Refused(q);
+    }
+    if !room {
+        return Start::Refused(6);
+    }
+    on_key::located(s, key)
+}
+
+// How an explanation ends: questions 7 and 8, then the line. `kind` is question 7's answer, `applied` the record of the call.
 fn ended(
     s: &[u8],
     out: &mut [u8],
@@ -57,13 +87,11 @@ fn ended(
     told: Told,
     why: Why,
 ) -> ExplainAnswer
-    requires { ⌜ (length (now s) ≡ storageSize) × (formed (now s) ≡ true) ⌝ }
+    requires { ⌜ (length (now s) ≡ storageSize) × (headerFormed (now s) ≡ true) × TableRead (now s) why ⌝ }
     requires { ⌜ Sound (why .bucket) ⌝ }
-    ensures { λ r. ⌜ Explains r (now (out .exit)) (lastThree kind (roomFor (now (s .entry)) (recordsOf applied)) (line (record { told = toldOf told; reason = whyOf (tableOf (now (s .entry)) .buckets) why })) (now (out .entry))) ⌝ }
+    requires { ⌜ explanationRoom ≤ length (now out) ⌝ }
+    ensures { λ r. ⌜ Explains r (now (out .exit)) (lastTwo kind (roomFor (now (s .entry)) (recordsOf applied)) (line (record { told = toldOf told; reason = whyOf (tableOf (now (s .entry)) .buckets) why })) (now (out .entry))) ⌝ }
 {
-    if out.len() < ROOM {
-        return ExplainAnswer::Refused(6);
-    }
     if !kind {
         return ExplainAnswer::Refused(7);
     }
@@ -90,8 +118,9 @@ fn local_why() -> Why
 
 // How the explanation of a call on the local key ends: it looks at no bucket.
 fn ended_local(s: &[u8], out: &mut [u8], kind: bool, told: Told) -> ExplainAnswer
-    requires { ⌜ (length (now s) ≡ storageSize) × (formed (now s) ≡ true) ⌝ }
-    ensures { λ r. ⌜ Explains r (now (out .exit)) (lastThree kind (roomFor (now (s .entry)) []) (line (record { told = toldOf told; reason = model.Reason.LocalKey })) (now (out .entry))) ⌝ }
+    requires { ⌜ (length (now s) ≡ storageSize) × (headerFormed (now s) ≡ true) ⌝ }
+    requires { ⌜ explanationRoom ≤ length (now out) ⌝ }
+    ensures { λ r. ⌜ Explains r (now (out .exit)) (lastTwo kind (roomFor (now (s .entry)) []) (line (record { told = toldOf told; reason = model.Reason.LocalKey })) (now (out .entry))) ⌝ }
 {
     let nothing = EndedPending::Nothing;
     let why = local_why();
@@ -102,7 +131,8 @@ fn ended_local(s: &[u8], out: &mut [u8], kind: bool, told: Told) -> ExplainAnswe
 pub fn explain_remove(s: &[u8], key: &[u8], time: u64, out: &mut [u8]) -> ExplainAnswer
     ensures { λ r. ⌜ Explains r (now (out .exit)) (explainBytes (now (key .entry)) (KeyCall.remove time) (now (out .entry)) (now (s .entry))) ⌝ }
 {
-    let start = on_key::begin_at(s, key, true, time);
+    let room = ROOM <= out.len();
+    let start = begin_at(s, key, true, time, room);
     match start {
         Start::Refused(q) => ExplainAnswer::Refused(q),
         Start::Local => {
@@ -133,7 +163,8 @@ pub fn explain_update_node_status(
     ensures { λ r. ⌜ Explains r (now (out .exit)) (explainBytes (now (key .entry)) (KeyCall.updateNodeStatus state direction time) (now (out .entry)) (now (s .entry))) ⌝ }
 {
     let codes = (state <= 1) & (direction <= 2);
-    let start = on_key::begin_at(s, key, codes, time);
+    let room = ROOM <= out.len();
+    let start = begin_at(s, key, codes, time, room);
     match start {
         Start::Refused(q) => ExplainAnswer::Refused(q),
         Start::Local => {
@@ -169,7 +200,8 @@ pub fn explain_update_node(
     ensures { λ r. ⌜ Explains r (now (out .exit)) (explainBytes (now (key .entry)) (KeyCall.updateNode (argumentOf value) state time) (now (out .entry)) (now (s .entry))) ⌝ }
 {
     let codes = value.in_range() & (state <= 2);
-    let start = on_key::begin_at(s, key, codes, time);
+    let room = ROOM <= out.len();
+    let start = begin_at(s, key, codes, time, room);
     match start {
         Start::Refused(q) => ExplainAnswer::Refused(q),
         Start::Local => {
@@ -177,7 +209,11 @@ pub fn explain_update_node(
             ended_local(s, out, true, told)
         }
         Start::At(k, i) => {
-            let fails = table_filter::table_filter_fails(s, i, k, value);
+            let filter = table_filter::asked_filter(s, i, k, value);
+            if table_filter::is_malformed(filter) {
+                return ExplainAnswer::Refused(2);
+            }
+            let fails = table_filter::has_failed(filter);
             let a = on_key::apply_at(s, i, time);
             let applied = a.applied;
             let b = a.bucket;
@@ -207,7 +243,8 @@ pub fn explain_insert_or_update(
     ensures { λ r. ⌜ Explains r (now (out .exit)) (explainBytes (now (key .entry)) (KeyCall.insertOrUpdate (argumentOf value) state direction time) (now (out .entry)) (now (s .entry))) ⌝ }
 {
     let codes = value.in_range() & ((state <= 1) & (direction <= 1));
-    let start = on_key::begin_at(s, key, codes, time);
+    let room = ROOM <= out.len();
+    let start = begin_at(s, key, codes, time, room);
     match start {
         Start::Refused(q) => ExplainAnswer::Refused(q),
         Start::Local => {
@@ -215,7 +252,11 @@ pub fn explain_insert_or_update(
             ended_local(s, out, true, told)
         }
         Start::At(k, i) => {
-            let fails = table_filter::table_filter_fails(s, i, k, value);
+            let filter = table_filter::asked_filter(s, i, k, value);
+            if table_filter::is_malformed(filter) {
+                return ExplainAnswer::Refused(2);
+            }
+            let fails = table_filter::has_failed(filter);
             let a = on_key::apply_at(s, i, time);
             let applied = a.applied;
             let b = a.bucket;
@@ -249,7 +290,8 @@ pub fn explain_present_update(
     ensures { λ r. ⌜ Explains r (now (out .exit)) (explainBytes (now (key .entry)) (KeyCall.presentUpdate state direction) (now (out .entry)) (now (s .entry))) ⌝ }
 {
     let codes = (state <= 1) & (direction <= 2);
-    let start = on_key::begin(s, key, codes);
+    let room = ROOM <= out.len();
+    let start = begin(s, key, codes, room);
     match start {
         Start::Refused(q) => ExplainAnswer::Refused(q),
         Start::Local => {
@@ -285,7 +327,8 @@ pub fn explain_pending_update(
     ensures { λ r. ⌜ Explains r (now (out .exit)) (explainBytes (now (key .entry)) (KeyCall.pendingUpdate state direction) (now (out .entry)) (now (s .entry))) ⌝ }
 {
     let codes = (state <= 1) & (direction <= 1);
-    let start = on_key::begin(s, key, codes);
+    let room = ROOM <= out.len();
+    let start = begin(s, key, codes, room);
     match start {
         Start::Refused(q) => ExplainAnswer::Refused(q),
         Start::Local => {
@@ -317,7 +360,8 @@ pub fn explain_absent_insert(
     ensures { λ r. ⌜ Explains r (now (out .exit)) (explainBytes (now (key .entry)) (KeyCall.absentInsert (argumentOf value) state direction time) (now (out .entry)) (now (s .entry))) ⌝ }
 {
     let codes = value.in_range() & ((state <= 1) & (direction <= 1));
-    let start = on_key::begin_at(s, key, codes, time);
+    let room = ROOM <= out.len();
+    let start = begin_at(s, key, codes, time, room);
     match start {
         Start::Refused(q) => ExplainAnswer::Refused(q),
         Start::Local => {

@@ -1,6 +1,6 @@
 -- Keys put one behind the other, as far as there is room, of nodes that pass a test.
-use mathlib.Core.Path.{_≡_, refl, _∙_}
-use mathlib.Core.Bool.{Bool}
+use mathlib.Core.Path.{_≡_, refl, ap, _∙_}
+use mathlib.Core.Bool.{Bool, true}
 use mathlib.Core.List.{List, [], _∷_, _++_, map, map-append, append-nil}
 use Prim.Native.Nat.{ℕ, _+_, _*_, _-_, _≤_, _<_}
 use native.Mathlib.Numerals.{add-one}
@@ -10,7 +10,7 @@ use lib.Seq.{take-nil, take-suc, take-all}
 use Rattle.model.specs.Base.{select, joined, tabulate}
 use Rattle.model.specs.Bytes.{splice}
 use Rattle.model.specs.Node as model
-use Rattle.model.specs.Bucket.{nodes}
+use Rattle.model.specs.Bucket.{Bucket, nodes}
 use Rattle.model.specs.Value.{Value}
 use Rattle.model.specs.Filter.{counted}
 use Rattle.model.specs.Table.{heldNodes}
@@ -20,12 +20,17 @@ use Rattle.laws.proofs.Lists.{joined-append, length-joined, tabulate-one-more}
 use Rattle.laws.proofs.KeepLists.{select-append}
 use Rattle.laws.proofs.Join.{take-append}
 use Rattle.node.specs.declared.Node.{Node}
-use Rattle.node.specs.Node.{nodeOf}
+use Rattle.key.specs.declared.Key.{Key}
+use Rattle.node.specs.Node.{nodeOf, valueOf}
 use Rattle.places.proofs.Model.{map-take}
 use Rattle.bucket.specs.declared.KBucket.{KBucket}
 use Rattle.bucket.specs.Bucket.{bucketOf, heldOf}
 use Rattle.well_formed.specs.Tests.{nodeAt}
 use Rattle.explanation.specs.declared.Room.{Room}
+use Rattle.explanation.specs.declared.Reason.{Reason}
+use Rattle.explanation.specs.declared.Reason.the-variants as reason
+use Rattle.explanation.specs.declared.Why.{Why}
+use Rattle.explanation.specs.Explanation.{reasonOf, whyOf, ofTable}
 use Rattle.explanation.specs.Put.{Put, PutKeys, spacedKeySize}
 use Rattle.explanation.proofs.Text.{put-none, put-then, length-key-text}
 
@@ -120,3 +125,8 @@ unfolding filterKeys
 filter-text limit v ns p q h =
     let ks : List ℕ = keysOf (counted v ns) in
     rw (map-take (λ (n : model.Node). n .key) limit (counted v ns)) (put-then p q (omega (arith, length-keys-text (take limit ks), length-take limit ks)))
+
+-- the table filter as the reason
+pub table-filter-why : (bs : ℕ → Bucket) (w : Why) {k : Key} → w .reason ≡ reason.TableFilter k → ofTable (whyOf bs w) ≡ true
+unfolding whyOf
+table-filter-why bs w e = ap (λ (r : Reason). ofTable (reasonOf bs (bucketOf (w .bucket)) (valueOf (w .value)) r)) e

@@ -1,8 +1,12 @@
 -- What the types stand for.
 use Prim.Native.Nat.{ℕ}
+use mathlib.Core.Path.{_≡_}
+use mathlib.Core.Bool.{Bool, true, false}
 use mathlib.Core.List.{List, _++_}
 use Rattle.model.specs.Value as model
 use Rattle.model.specs.Bucket.{Bucket}
+use Rattle.model.specs.Layout.{tableOf}
+use Rattle.model.specs.Formed.{formed}
 use Rattle.model.specs.Explain as explain
 use Rattle.model.specs.Explain.{tableFilterReason, bucketFilterReason, incomingLimitReason, reasonText, reasonKeys, keysText}
 use Rattle.key.specs.Key.{num}
@@ -46,6 +50,22 @@ reasonOf bs b v reason.LocalKey = explain.Reason.LocalKey
 
 unfoldable pub whyOf : (ℕ → Bucket) → Why → explain.Reason
 whyOf bs w = reasonOf bs (bucketOf (w .bucket)) (valueOf (w .value)) (w .reason)
+
+-- the reason whose keys are those of the whole table
+abbrev pub ofTable : explain.Reason → Bool
+ofTable explain.Reason.None = false
+ofTable (explain.Reason.TableFilter ks) = true
+ofTable (explain.Reason.BucketFilter ks) = false
+ofTable (explain.Reason.IncomingLimit ks) = false
+ofTable explain.Reason.NewcomerDisconnected = false
+ofTable explain.Reason.AllConnected = false
+ofTable (explain.Reason.Pending k) = false
+ofTable explain.Reason.NoSuchKey = false
+ofTable explain.Reason.LocalKey = false
+
+-- 02, slip 7: the whole table is read for that reason alone, and has passed question 2
+abbrev pub TableRead : List ℕ → Why → Type 0
+TableRead s w = ofTable (whyOf (tableOf s .buckets) w) ≡ true → formed s ≡ true
 
 -- the text of a reason and its keys
 unfoldable pub whyText : explain.Reason → List ℕ

@@ -18,7 +18,7 @@ ghost use Rattle.node.specs.Node.{valueOf, nodeOf};
 ghost use Rattle.bucket.specs.Bucket.{bucketOf, Sound};
 ghost use Rattle.bucket.specs.Calls.{failureReasonOf, updateResultOf, insertResultOf};
 ghost use Rattle.bucket_update.specs.Results.{tableInsertResultOf};
-ghost use Rattle.explanation.specs.Explanation.{toldOf, whyOf, whyText};
+ghost use Rattle.explanation.specs.Explanation.{toldOf, whyOf, TableRead, whyText};
 ghost use Rattle.explanation.specs.Put.{Put, PutKeys, passes, keyTextSize, spacedKeySize, longestTold, longestFailure, longestFlag};
 use bucket::FailureReason;
 use bucket::KBucket;
@@ -376,7 +376,7 @@ fn put_pending(out: &mut [u8], at: usize, key: Key) -> usize
 
 // The reason and the keys behind it, put at `at`.
 fn put_why(s: &[u8], out: &mut [u8], at: usize, why: Why) -> usize
-    requires { ⌜ (length (now s) ≡ storageSize) × (formed (now s) ≡ true) ⌝ }
+    requires { ⌜ (length (now s) ≡ storageSize) × TableRead (now s) why ⌝ }
     requires { ⌜ Sound (why .bucket) ⌝ }
     requires { ⌜ (at ≤ longestTold + 1) × (explanationRoom ≤ length (now out)) ⌝ }
     ensures { λ r. ⌜ Put (whyText (whyOf (tableOf (now (s .entry)) .buckets) why)) (now (out .entry)) at (now (out .exit)) r ⌝ }
@@ -399,7 +399,7 @@ fn put_why(s: &[u8], out: &mut [u8], at: usize, why: Why) -> usize
 
 // Internal: the line, put at the front. It answers its length.
 pub fn put_line(s: &[u8], out: &mut [u8], told: Told, why: Why) -> usize
-    requires { ⌜ (length (now s) ≡ storageSize) × (formed (now s) ≡ true) ⌝ }
+    requires { ⌜ (length (now s) ≡ storageSize) × TableRead (now s) why ⌝ }
     requires { ⌜ Sound (why .bucket) ⌝ }
     requires { ⌜ explanationRoom ≤ length (now out) ⌝ }
     ensures { λ r. ⌜ Put (line (record { told = toldOf told; reason = whyOf (tableOf (now (s .entry)) .buckets) why })) (now (out .entry)) 0 (now (out .exit)) r ⌝ }

@@ -18,7 +18,7 @@ use node::Value;
 pub extern "C" fn kbuckets_version() -> u32
     ensures { λ r. ⌜ r ≡ version ⌝ }
 {
-    0x0000_0500
+    0x0000_0600
 }
 
 // The table.

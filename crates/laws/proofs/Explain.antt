@@ -1,6 +1,6 @@
 -- The explanation of a call on a storage (02, slip 1): where it is answered, what stands in the output and what holds of it.
 use Prim.Native.Nat.{ℕ, _+_, _≤_}
-use mathlib.Core.Path.{_≡_, refl, sym, ap, _∙_}
+use mathlib.Core.Path.{_≡_, refl, sym, ap, _∙_, subst}
 use mathlib.Core.Bool.{Bool, true, false}
 use mathlib.Core.List.{List, _++_}
 use mathlib.Core.Option.{Option, none, some}
@@ -14,12 +14,13 @@ use Rattle.model.specs.Table.{indexIn}
 use Rattle.model.specs.Call.{Call, KeyCall}
 use Rattle.model.specs.Question.{firstFailed, withRoom}
 use Rattle.model.specs.Layout.{tableOf}
-use Rattle.model.specs.StepBytes.{allQuestions, stepBytes}
+use Rattle.model.specs.StepBytes.{reads, allQuestions, stepBytes}
 use Rattle.model.specs.Fits.{Fits}
-use Rattle.model.specs.Explain.{told, reason, explanation, line, explanationRoom, lineUnlessRefused, explainBytes}
+use Rattle.model.specs.Explain.{Explanation, told, reason, explanation, line, explanationRoom, lineUnlessRefused, explainBytes}
 use Rattle.laws.proofs.Tests.{clash, split}
 use Rattle.laws.proofs.Questions.{AcceptedBytes, accepted-bytes, with-room, upToFive, short-of-room}
-use Rattle.laws.proofs.TableBytes.{fits-back}
+use Rattle.laws.proofs.Touched.{reads-below}
+use Rattle.laws.proofs.Only.{only, only-kind, only-reason, only-explanation, only-fits}
 use Rattle.laws.proofs.ExplainRead.{FitsExplanation, readLine, line-back, line-tells}
 use Rattle.laws.proofs.ExplainAnswer.{saying, lineAfter, tells-answer}
 use Rattle.laws.proofs.ExplainReason.{keyFits, reason-fits}
@@ -78,21 +79,27 @@ module _ (k : List ℕ) (c : KeyCall) (out s : List ℕ) (n : ℕ) (e : explainB
   unfolding stepBytes
   answered-reason = rw answered-accepted (reason-fits c k (tableOf s) (asked .answers .kind))
 
+  -- what is read of the table
+  abbrev read : List ℕ
+  read = reads (Call.onKey k c) (tableOf s)
+
   module _ (h : Bytes s) where
-    table-fits : Fits (tableOf s)
-    table-fits = fits-back s h (asked .size) (asked .formed)
+    read-fits : Fits (only read (tableOf s))
+    read-fits = only-fits s h (asked .size) (asked .header) read (reads-below (Call.onKey k c) (tableOf s)) (asked .buckets)
 
     -- the keys in it are below 2 ^ 256
     pub answered-fits : FitsExplanation (explanation c k (tableOf s))
-    answered-fits = explanation-fits (tableOf s) table-fits c k
+    answered-fits = subst FitsExplanation (only-explanation c k (tableOf s)) (explanation-fits (only read (tableOf s)) read-fits c k)
 
     -- a filter names as many as its limit; the incoming limit as many as max_incoming
     pub answered-names : Names (tableOf s .settings .bucket .maxIncoming) (reason c k (tableOf s))
-    answered-names = reason-names (tableOf s) table-fits c k
+    answered-names = subst (Names (tableOf s .settings .bucket .maxIncoming)) (only-reason c k (tableOf s)) (reason-names (only read (tableOf s)) read-fits c k)
 
     -- the line is no longer than the longest
     pub answered-length : length (line (explanation c k (tableOf s))) ≤ longestLine
-    answered-length = line-length (tableOf s) table-fits c k (asked .answers .kind)
+    answered-length =
+        subst (λ (x : Explanation). length (line x) ≤ longestLine) (only-explanation c k (tableOf s))
+        (line-length (only read (tableOf s)) read-fits c k (only-kind c k (tableOf s) ∙ asked .answers .kind))
 
     -- the output, whatever stands behind the line, is read back as the explanation
     pub answered-back : readLine (explainBytes k c out s .output) ≡ explanation c k (tableOf s)

@@ -16,7 +16,7 @@ use Rattle.model.specs.Node.{Node, PendingNode, connectedIncoming, withStatus}
 use Rattle.model.specs.Filter.{counts, counted, ipFilterFails, maxNodesPerSubnetTable, maxNodesPerSubnetBucket}
 use Rattle.model.specs.Result.{isFailed}
 use Rattle.model.specs.Bucket.{Bucket, BucketSettings, nodes, get, holds, isFull, failsBucketFilter, incomingNodes, isMaxIncoming, takeOut, takenOut, updateStatus, updateValue}
-use Rattle.model.specs.Table.{Table, otherNodes, isDuplicate, failsTableFilter, indexIn}
+use Rattle.model.specs.Table.{Table, otherNodes, filterRuns, failsTableFilter, indexIn}
 use Rattle.model.specs.Call.{KeyCall, isOne, optional, valueOf}
 use Rattle.model.specs.Listing.{applied}
 use Rattle.model.specs.Step.{nodeOf}
@@ -254,9 +254,8 @@ table-number : (t : Table) (i k : ℕ) (v : Value) → failsTableFilter t i k v 
     → length (filterKeys maxNodesPerSubnetTable v (otherNodes k (t .buckets))) ≡ maxNodesPerSubnetTable
 unfolding failsTableFilter
 table-number t i k v h =
-    let f = ipFilterFails maxNodesPerSubnetTable v (otherNodes k (t .buckets)) in
-    let d = not (isDuplicate v (get k (t .buckets i))) in
-    filter-number maxNodesPerSubnetTable v (otherNodes k (t .buckets)) (and-right d f (and-right (t .settings .tableFilter) (d && f) h))
+    let ns = otherNodes k (t .buckets) in
+    filter-number maxNodesPerSubnetTable v ns (and-right (filterRuns t i k v) (ipFilterFails maxNodesPerSubnetTable v ns) h)
 
 module _ (t : Table) (fits : Fits t) where
   applied-formed : (now i : ℕ) → Formed (t .settings .bucket .maxIncoming) (applied now t i)

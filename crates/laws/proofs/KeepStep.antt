@@ -263,7 +263,7 @@ act-fits (Call.read bs) t c e r d b h =
       records = h .records;
     }
 
-queue-within : (c : Call) (t : Table) → queueFits c t ≡ true → length (act c t .table .queue) ≤ maxRecords
+pub queue-within : (c : Call) (t : Table) → queueFits c t ≡ true → length (act c t .table .queue) ≤ maxRecords
 unfolding queueFits
 queue-within c t e = leb-true (length (act c t .table .queue)) maxRecords e
 

@@ -15,6 +15,7 @@ pub mod Visits
 pub mod Nearest
 pub mod Listing
 pub mod Applied
+pub mod DistanceReads
 pub mod KeepLists
 pub mod KeepEach
 pub mod KeepFormed
@@ -35,8 +36,16 @@ pub mod HeaderBack
 pub mod TableBytes
 pub mod Saved
 pub mod SavedBack
-pub mod Restore
 pub mod Touched
+pub mod Restored
+pub mod ReadBack
+pub mod Walk
+pub mod KeyReads
+pub mod ListReads
+pub mod Only
+pub mod Elsewhere
+pub mod ReadsOnly
+pub mod Restore
 pub mod TableStep
 pub mod SavedSteps
 pub mod ExplainLine

@@ -16,7 +16,7 @@ use Rattle.model.specs.Value.{Value, sharesNet, hasAddress, sameValue}
 use Rattle.model.specs.Node.{Node}
 use Rattle.model.specs.Filter.{counts, counted, ofNet, ipFilterFails, maxNodesPerSubnetTable}
 use Rattle.model.specs.Bucket.{Bucket, nodes, find, get, omit}
-use Rattle.model.specs.Table.{Table, numBuckets, heldNodes, otherNodes, isDuplicate, failsTableFilter}
+use Rattle.model.specs.Table.{Table, numBuckets, heldNodes, otherNodes, filterRuns, failsTableFilter}
 use Rattle.laws.proofs.Tests.{clash, split, and-none}
 use Rattle.laws.proofs.KeepLists.{length-select-append, get-nodes, omit-append}
 
@@ -78,6 +78,4 @@ own-net t k v i l n h e m j =
     let f = own-below v k (t .buckets) i n h e numBuckets l in
     let c : ℕ = length (counted v (otherNodes k (t .buckets))) in
     let g : leb maxNodesPerSubnetTable c ≡ false = lt-leb maxNodesPerSubnetTable c (omega (arith, f, m)) in
-    let d : Bool = not (isDuplicate v (get k (t .buckets j))) in
-    let a = and-none (hasAddress v) (leb maxNodesPerSubnetTable c) g in
-    and-none (t .settings .tableFilter) (d && (hasAddress v && leb maxNodesPerSubnetTable c)) (and-none d (hasAddress v && leb maxNodesPerSubnetTable c) a)
+    and-none (filterRuns t j k v) (hasAddress v && leb maxNodesPerSubnetTable c) (and-none (hasAddress v) (leb maxNodesPerSubnetTable c) g)

@@ -12,9 +12,10 @@ use Rattle.model.specs.Table.{Table}
 use Rattle.model.specs.Sizes.{storageSize}
 use Rattle.model.specs.Call.{Call}
 use Rattle.model.specs.Question.{firstFailed, withRoom, keysFit, codesInRange, clockFits, outputFits, kindFits}
-use Rattle.model.specs.Step.{queueFits, bytesFit, late, questions}
+use Rattle.model.specs.Step.{queueFits, bytesFit, early, late, questions}
 use Rattle.model.specs.Layout.{tableOf}
-use Rattle.model.specs.StepBytes.{holdsTable, allQuestions}
+use Rattle.model.specs.Formed.{bucketsFormed}
+use Rattle.model.specs.StepBytes.{reads, holdsHeader, allQuestions}
 use Rattle.laws.proofs.Tests.{split, clash, and-left}
 
 -- a question passed, and those after it
@@ -45,6 +46,11 @@ front-none [] ys e = refl
 front-none (q ∷ xs) ys e =
     let p = passed (q .0) (q .1) (xs ++ ys) e in
     ap (λ (b : Bool). cond b (firstFailed xs) (some (q .0))) (p .0) ∙ front-none xs ys (p .1)
+
+-- a question that passes can be left out
+pub skip-passed : (xs : List (ℕ × Bool)) (n : ℕ) (q : Bool) (ys : List (ℕ × Bool)) → q ≡ true → firstFailed (xs ++ ((n, q) ∷ ys)) ≡ firstFailed (xs ++ ys)
+skip-passed [] n q ys e = ap (λ (b : Bool). cond b (firstFailed ys) (some n)) e
+skip-passed (x ∷ xs) n q ys e = ap (λ (o : Option ℕ). cond (x .1) o (some (x .0))) (skip-passed xs n q ys e)
 
 pub first-two : (a b : Bool) (qs : List (ℕ × Bool)) → a ≡ true → b ≡ true → firstFailed ((1, a) ∷ (2, b) ∷ qs) ≡ firstFailed qs
 first-two a b qs p q = rw (p, q)
@@ -82,16 +88,28 @@ accepted c t e =
 -- the same, on bytes
 pub record AcceptedBytes (c : Call) (s : List ℕ) : Type 0 where
   pub size : length s ≡ storageSize
-  -- that the storage is formed; nothing of `new`
-  pub formed : holdsTable c s ≡ true
+  -- that settings and queue are formed; nothing of `new`
+  pub header : holdsHeader c s ≡ true
+  pub buckets : bucketsFormed s (reads c (tableOf s)) ≡ true
   pub passes : firstFailed (questions c (tableOf s)) ≡ none
   pub answers : Accepted c (tableOf s)
 
 pub accepted-bytes : (c : Call) (s : List ℕ) → firstFailed (allQuestions c s) ≡ none → AcceptedBytes c s
 accepted-bytes c s e =
-    let q1 = passed 1 (eqb (length s) storageSize) ((2, holdsTable c s) ∷ questions c (tableOf s)) e in
-    let q2 = passed 2 (holdsTable c s) (questions c (tableOf s)) (q1 .1) in
-    record { size = eqb-true (length s) storageSize (q1 .0); formed = q2 .0; passes = q2 .1; answers = accepted c (tableOf s) (q2 .1) }
+    let t : Table = tableOf s in
+    let read : Bool = bucketsFormed s (reads c t) in
+    let q1 = passed 1 (eqb (length s) storageSize) ((2, holdsHeader c s) ∷ (early c t ++ ((2, read) ∷ late c t))) e in
+    let q2 = passed 2 (holdsHeader c s) (early c t ++ ((2, read) ∷ late c t)) (q1 .1) in
+    let front : firstFailed (early c t) ≡ none = front-none (early c t) ((2, read) ∷ late c t) (q2 .1) in
+    let q6 = passed 2 read (late c t) (sym (front-passes (early c t) ((2, read) ∷ late c t) front) ∙ q2 .1) in
+    let passes : firstFailed (questions c t) ≡ none = front-passes (early c t) (late c t) front ∙ q6 .1 in
+    record {
+      size = eqb-true (length s) storageSize (q1 .0);
+      header = q2 .0;
+      buckets = q6 .0;
+      passes = passes;
+      answers = accepted c t passes;
+    }
 
 -- Room in a lent output, asked in 6's turn.
 
@@ -104,11 +122,11 @@ with-room (q ∷ qs) =
 -- the questions 1 to 5
 abbrev pub upToFive : Call → List ℕ → List (ℕ × Bool)
 upToFive c s =
-    (1, eqb (length s) storageSize) ∷ (2, holdsTable c s) ∷ (3, keysFit c) ∷ (4, codesInRange c) ∷ (5, clockFits c (tableOf s)) ∷ []
+    (1, eqb (length s) storageSize) ∷ (2, holdsHeader c s) ∷ (3, keysFit c) ∷ (4, codesInRange c) ∷ (5, clockFits c (tableOf s)) ∷ []
 
 -- without it the first of those that fails, else 6
 pub short-of-room : (c : Call) (s : List ℕ) (o : Option ℕ) → firstFailed (upToFive c s) ≡ o → firstFailed (withRoom false (allQuestions c s)) ≡ some (given o 6)
 short-of-room c s (some n) e =
-    front-fails (upToFive c s) ((6, outputFits c && false) ∷ late c (tableOf s)) n e
+    front-fails (upToFive c s) ((6, outputFits c && false) ∷ (2, bucketsFormed s (reads c (tableOf s))) ∷ late c (tableOf s)) n e
 short-of-room c s none e =
-    front-passes (upToFive c s) ((6, outputFits c && false) ∷ late c (tableOf s)) e ∙ (rw and-false)
+    front-passes (upToFive c s) ((6, outputFits c && false) ∷ (2, bucketsFormed s (reads c (tableOf s))) ∷ late c (tableOf s)) e ∙ (rw and-false)

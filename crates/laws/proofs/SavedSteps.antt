@@ -33,6 +33,7 @@ use Rattle.laws.proofs.Questions.{passed, accepted-bytes, first-two}
 use Rattle.laws.proofs.Loaded.{loads, size-loaded}
 use Rattle.laws.proofs.SavedBack.{loaded-are-read, length-read, saved-back}
 use Rattle.laws.proofs.KeepStep.{step-accepted, step-fits, new-fits}
+use Rattle.laws.proofs.Touched.{whole-formed}
 use Rattle.laws.proofs.TableBytes.{length-bytesOf, table-there, formed-there, table-back, fits-back}
 use Rattle.laws.proofs.Saved.{length-saved, count-there, Bytes-saved, same-places, load-accepts, empty-holds-nothing}
 use Rattle.laws.proofs.TableStep.{Same, step-bytes, new-bytes}
@@ -130,10 +131,11 @@ module _ (bs s : List ℕ) (n : ℕ) (h : Bytes bs) (b : Bytes s) (a : stepBytes
   unfolding act
   read-leaves =
       let q = accepted-bytes call s (read-passed bs s n a .0) in
-      let f : Fits before = fits-back s b (q .size) (q .formed) in
+      let w : formed s ≡ true = whole-formed s (q .header) (q .buckets) in
+      let f : Fits before = fits-back s b (q .size) w in
       let e : step call before ≡ act call before = step-accepted call before (q .passes) in
       let o : Same (stepBytes call s) (step call before) =
-      subst (λ (x : List ℕ). Same (stepBytes call x) (step call before)) (table-back s b (q .size) (q .formed)) (step-bytes call before h f) in (
+      subst (λ (x : List ℕ). Same (stepBytes call x) (step call before)) (table-back s b (q .size) w) (step-bytes call before h f) in (
         o .storage ∙ ap (λ x. bytesOf (x .table)) e,
         subst (λ x. Fits (x .table)) e (step-fits call before h f),
         saved-back bs before h (q .answers .bytes),

@@ -2,7 +2,7 @@
 -- of them, which fits.
 use mathlib.Core.Path.{_≡_, refl, sym, ap, _∙_, fun-ext}
 use mathlib.Core.Bool.{true}
-use mathlib.Core.List.{List}
+use mathlib.Core.List.{List, [], _∷_}
 use mathlib.Core.Option.{Option, none, some}
 use mathlib.Core.Logic.{⊎-elim}
 use Prim.Native.Nat.{ℕ, _*_, _≤_, _<_}
@@ -16,7 +16,7 @@ use Rattle.model.specs.Bucket.{Bucket, emptyBucket, nodes}
 use Rattle.model.specs.Table.{Table, numBuckets}
 use Rattle.model.specs.Sizes.{headerSize, bucketSize, bucketAt, storageSize}
 use Rattle.model.specs.Layout.{headerBytes, bucketBytes, bytesOf, bucketIn, settingsIn, bucketPart, tableOf}
-use Rattle.model.specs.Formed.{keyIn, isAt, headerFormed, bucketFormedAt, formed}
+use Rattle.model.specs.Formed.{keyIn, isAt, headerFormed, bucketFormedAt, bucketsFormed, formed}
 use Rattle.model.specs.Fits.{All, FormedBucket, WellFormed, FitsBucket, Fits}
 use Rattle.laws.proofs.Tests.{same-self, same-true, clash, and-left, and-right}
 use Rattle.laws.proofs.Lists.{lt-or-le, all-gives, all-if, length-tabulate, getD-tabulate, length-joined}
@@ -128,6 +128,20 @@ module _ (s : List ℕ) (f : formed s ≡ true) where
   unfolding formed
   bucket-passes i m = all-gives numBuckets (bucketFormedAt s) i m (and-right (headerFormed s) (allBelow numBuckets (bucketFormedAt s)) f)
 
+  pub buckets-pass : (is : List ℕ) → All (λ (i : ℕ). i < numBuckets) is → bucketsFormed s is ≡ true
+  buckets-pass [] a = refl
+  buckets-pass (i ∷ is) a = rw (bucket-passes i (a .0), buckets-pass is (a .1))
+
+-- a bucket that passes question 2 is well formed
+pub sound-at : (s : List ℕ) (i : ℕ) → bucketFormedAt s i ≡ true → WellFormed (tableOf s .settings) i (tableOf s .buckets i)
+unfolding tableOf settingsIn
+sound-at s i p = formed-map _ _ _ _ (λ k e. index-at (bucketIndex (keyIn s) k) i e) (bucket-good (bucketPart s i) _ _ p)
+
+-- past the storage's end
+pub empty-past : (s : List ℕ) → length s ≡ storageSize → (i : ℕ) → numBuckets ≤ i → tableOf s .buckets i ≡ emptyBucket
+unfolding tableOf
+empty-past s l i m = ap bucketIn (part-past s (bucketAt i) bucketSize (omega arith)) ∙ bucket-none
+
 module _ (s : List ℕ) (h : Bytes s) (l : length s ≡ storageSize) where
   part-length : (i : ℕ) → i < numBuckets → length (bucketPart s i) ≡ bucketSize
   part-length i m = length-part s (bucketAt i) bucketSize (omega (arith, slot-before i numBuckets bucketSize m))
@@ -142,30 +156,27 @@ module _ (s : List ℕ) (h : Bytes s) (l : length s ≡ storageSize) where
     fits-at = bucket-fits (bucketPart s i) (part-length i m) (part-bytes i) _ _ p
 
     pub well-formed-at : WellFormed (tableOf s .settings) i (tableOf s .buckets i)
-    unfolding tableOf settingsIn
-    well-formed-at = formed-map _ _ _ _ (λ k e. index-at (bucketIndex (keyIn s) k) i e) (bucket-good (bucketPart s i) _ _ p)
+    well-formed-at = sound-at s i p
 
-  empty-past : (i : ℕ) → numBuckets ≤ i → tableOf s .buckets i ≡ emptyBucket
-  unfolding tableOf
-  empty-past i m = ap bucketIn (part-past s (bucketAt i) bucketSize (omega arith)) ∙ bucket-none
+    pub bucket-is : bucketBytes (tableOf s .buckets i) ≡ bucketPart s i
+    unfolding tableOf
+    bucket-is = bucket-back (bucketPart s i) (part-length i m) (part-bytes i) _ _ p
 
   pub table-back : formed s ≡ true → bytesOf (tableOf s) ≡ s
-  unfolding tableOf
   table-back f =
-      sym (bytes-are (tableOf s) s l (sym (header-back s (omega arith) h (header-passes s f)))
-      (λ i m. sym (bucket-back (bucketPart s i) (part-length i m) (part-bytes i) _ _ (bucket-passes s f i m))))
+      sym (bytes-are (tableOf s) s l (sym (header-back s (omega arith) h (header-passes s f))) (λ i m. sym (bucket-is i m (bucket-passes s f i m))))
 
   pub fits-back : formed s ≡ true → Fits (tableOf s)
   fits-back f =
       record {
         settings = settings-fit s (omega arith) h (header-passes s f);
-        buckets = λ i. ⊎-elim (λ m. fits-at i m (bucket-passes s f i m)) (λ m. rw (empty-past i m) empty-fits) (lt-or-le i numBuckets);
+        buckets = λ i. ⊎-elim (λ m. fits-at i m (bucket-passes s f i m)) (λ m. rw (empty-past s l i m) empty-fits) (lt-or-le i numBuckets);
         well-formed =
             λ i. ⊎-elim
             (λ m. well-formed-at i m (bucket-passes s f i m))
-            (λ m. rw (empty-past i m) (empty-well-formed (tableOf s .settings) i))
+            (λ m. rw (empty-past s l i m) (empty-well-formed (tableOf s .settings) i))
             (lt-or-le i numBuckets);
-        past = empty-past;
+        past = empty-past s l;
         records = records-fit s (omega arith) h (header-passes s f);
         queue = queue-fits s (omega arith) h (header-passes s f);
       }

@@ -3,7 +3,7 @@ use Prim.Native.Nat.{ℕ}
 use native.Mathlib.Omega.{arith}
 use mathlib.Core.Path.{_≡_, refl, sym, ap, _∙_, subst, subst⁻¹}
 use mathlib.Core.Bool.{Bool, true, not, _||_}
-use mathlib.Core.List.{List, _∷_}
+use mathlib.Core.List.{List, _∷_, _++_}
 use mathlib.Core.Option.{Option, none, some}
 use lib.ListN.{length}
 use lib.Dec.{eqb}
@@ -12,17 +12,17 @@ use Rattle.model.specs.Table.{Table, Answer}
 use Rattle.model.specs.Sizes.{storageSize}
 use Rattle.model.specs.Call.{Call}
 use Rattle.model.specs.Question.{firstFailed, arguments}
-use Rattle.model.specs.Step.{Outcome, act, questions, step}
+use Rattle.model.specs.Step.{Outcome, act, early, late, questions, step}
 use Rattle.model.specs.Layout.{bytesOf, tableOf}
-use Rattle.model.specs.Formed.{formed}
-use Rattle.model.specs.StepBytes.{BytesOutcome, allQuestions, touched, restore, unlessRefusedBytes, stepBytes}
+use Rattle.model.specs.Formed.{headerFormed, bucketsFormed}
+use Rattle.model.specs.StepBytes.{BytesOutcome, reads, allQuestions, touched, restore, unlessRefusedBytes, stepBytes}
 use Rattle.model.specs.Fits.{Fits, FitsCall}
 use Rattle.laws.proofs.Tests.{clash, split, or-second}
-use Rattle.laws.proofs.Questions.{first-two, accepted-bytes}
+use Rattle.laws.proofs.Questions.{first-two, skip-passed, accepted-bytes}
 use Rattle.laws.proofs.KeepStep.{step-accepted, step-refused, step-fits, new-fits}
 use Rattle.laws.proofs.Frame.{touchesAll, act-frame}
-use Rattle.laws.proofs.Touched.{touched-below}
-use Rattle.laws.proofs.TableBytes.{length-bytesOf, table-there, formed-there}
+use Rattle.laws.proofs.Touched.{touched-below, reads-below}
+use Rattle.laws.proofs.TableBytes.{length-bytesOf, table-there, formed-there, header-passes, buckets-pass}
 use Rattle.laws.proofs.Restore.{restore-is, restore-all}
 
 -- what a call on bytes comes to, where it comes to an outcome on a table
@@ -52,9 +52,12 @@ step-bytes c t h f =
   where
     e : firstFailed (allQuestions c (bytesOf t)) ≡ firstFailed (questions c t)
     e =
-        first-two (eqb (length (bytesOf t)) storageSize) (not (arguments c .table) || formed (bytesOf t)) (questions c (tableOf (bytesOf t)))
+        first-two (eqb (length (bytesOf t)) storageSize) (not (arguments c .table) || headerFormed (bytesOf t))
+        (early c (tableOf (bytesOf t)) ++ ((2, bucketsFormed (bytesOf t) (reads c (tableOf (bytesOf t)))) ∷ late c (tableOf (bytesOf t))))
         (eq-eqb (length (bytesOf t)) storageSize (length-bytesOf t f))
-        (or-second (not (arguments c .table)) (formed (bytesOf t)) (formed-there t f))
+        (or-second (not (arguments c .table)) (headerFormed (bytesOf t)) (header-passes (bytesOf t) (formed-there t f)))
+        ∙ skip-passed (early c (tableOf (bytesOf t))) 2 (bucketsFormed (bytesOf t) (reads c (tableOf (bytesOf t)))) (late c (tableOf (bytesOf t)))
+        (buckets-pass (bytesOf t) (formed-there t f) (reads c (tableOf (bytesOf t))) (reads-below c (tableOf (bytesOf t))))
         ∙ ap (λ (x : Table). firstFailed (questions c x)) (table-there t f)
 
     answered : (o : Option ℕ) → firstFailed (questions c t) ≡ o → Same (unlessRefusedBytes o c (bytesOf t)) (step c t)

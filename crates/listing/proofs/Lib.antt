@@ -1,4 +1,4 @@
 -- Laws of the listings.
-pub mod Putting
 pub mod Shapes
+pub mod Putting
 pub mod Steps

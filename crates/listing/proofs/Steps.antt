@@ -1,44 +1,44 @@
 -- A listing's answer, storage and output, by its questions and by the visit of its buckets.
 use mathlib.Core.Path.{_≡_, refl, sym, ap, ap₂, _∙_, fun-ext}
-use mathlib.Core.Bool.{Bool, true, false, cond, not, _&&_}
-use mathlib.Core.List.{List, [], _∷_, _++_, map}
+use mathlib.Core.Bool.{Bool, true, false, cond, _&&_}
+use mathlib.Core.List.{List, [], _∷_, _++_, map, append-nil}
 use mathlib.Core.Option.{Option, none, some}
 use Prim.Native.Nat.{ℕ, zero, suc, _+_, _-_, _*_, _≤_, _<_}
 use native.Mathlib.Omega.{arith}
 use lib.Dec.{leb}
 use lib.ListN.{length, take, length-append}
 use borrow.Author.Tests.{leb-true, le-leb, lt-leb}
-use Rattle.model.specs.Base.{same, every, joined}
+use Rattle.model.specs.Base.{joined}
 use Rattle.model.specs.Bytes.{Bytes}
 use Rattle.model.specs.Node.{Node, EndedPending}
-use Rattle.model.specs.Table.{Table, Answer, numBuckets, maxRecords}
+use Rattle.model.specs.Bucket.{numEntries}
+use Rattle.model.specs.Table.{Table, Answer, maxRecords}
 use Rattle.model.specs.Sizes.{storageSize}
 use Rattle.model.specs.Call.{Listing, Call}
 use Rattle.model.specs.Listing.{Item, item, applyAll, applied, visited, applies, shown, most, found}
 use Rattle.model.specs.Question.{maxCount, firstFailed, entrySize, keysFit, codesInRange, clockFits, outputFits, kindFits}
 use Rattle.model.specs.Step.{act, queueFits}
-use Rattle.model.specs.Layout.{bytesOf, tableOf}
-use Rattle.model.specs.Formed.{formed}
+use Rattle.model.specs.Layout.{tableOf}
+use Rattle.model.specs.Formed.{headerFormed, bucketsFormed}
 use Rattle.model.specs.StepBytes.{allQuestions, written, restore, stepBytes}
-use Rattle.model.specs.Fits.{All, Fits}
-use Rattle.laws.proofs.Tests.{same-self, split, and-left, and-right}
+use Rattle.model.specs.Fits.{All}
+use Rattle.laws.proofs.Tests.{split, and-left, and-right}
 use Rattle.laws.proofs.All.{all-map}
 use Rattle.laws.proofs.Join.{take-append, joined-same}
-use Rattle.laws.proofs.Applied.{apply-all-keeps, apply-all-buckets, apply-all-queue}
-use Rattle.laws.proofs.Frame.{applyAll-other}
-use Rattle.laws.proofs.KeepStep.{endless, with-queue, applyAll-fits}
-use Rattle.laws.proofs.TableBytes.{length-bytesOf, table-there, formed-there, table-back, fits-back}
-use Rattle.laws.proofs.Restore.{restore-is}
+use Rattle.laws.proofs.Applied.{apply-all-queue}
+use Rattle.laws.proofs.ReadBack.{header-fits}
+use Rattle.laws.proofs.DistanceReads.{visited-applied}
 use Rattle.on_key.specs.Answers.{firstThree, firstFive, failedOfThree, failedOfFive}
 use Rattle.laws.proofs.Questions.{front-fails, front-passes}
-use Rattle.visit.specs.Passes.{held, visitOne, visitAll}
-use Rattle.laws.proofs.Touched.{all-visited}
+use Rattle.visit.specs.Passes.{held, visitedBy, visitAll, appliedIn}
+use Rattle.visit.proofs.Visitable.{visited-agree}
+use Rattle.visit.proofs.Applying.{Appliable, Applying, applying-done, applying-size, applying-header, applying-table, applying-formed}
 use Rattle.items.specs.declared.Form.{Form}
 use Rattle.items.specs.declared.Shape.{Shape}
 use Rattle.items.specs.Shape.{formCodes, itemBy, sizeBy, shownBy}
 use Rattle.items.specs.Lists.{Lists}
-use Rattle.listing.specs.Listed.{closestListing, visitOrderBy, roomBy, firstNodes, Put, visitOutcome, listOutcome}
-use Rattle.listing.proofs.Shapes.{Gives, closest-keys, closest-codes, visitable-by, length-shown}
+use Rattle.listing.specs.Listed.{closestListing, visitOrderBy, roomBy, countIn, firstNodes, Put, visitOutcome, listOutcome}
+use Rattle.listing.proofs.Shapes.{Gives, closest-keys, closest-codes, length-shown}
 
 -- the buckets visited are those that were applied, so that the items may be read from the table that is left
 
@@ -55,20 +55,6 @@ visited-same {A} g g′ size e (suc n) (i ∷ is) h =
     ∙ ap (λ (l : List A). take (suc n) l ++ take (suc n - length l) (joined g′ is)) (h .0)
     ∙ sym (take-append (suc n) (g′ i) (joined g′ is))
 
-all-applied : (now : ℕ) (is : List ℕ) (t : Table) → All (λ (i : ℕ). applyAll now is t .0 .buckets i ≡ applied now t i) is
-all-applied now [] t = tt
-all-applied now (j ∷ is) t =
-    let u : Table = visitOne now j t in
-    let k : (i : ℕ) → applied now u i ≡ applied now t i = λ i. apply-all-keeps now (j ∷ []) t i in
-    let b : u .buckets j ≡ applied now t j = rw (same-self j) in (
-      apply-all-buckets now is u j ∙ either (every (λ (i : ℕ). not (same j i)) is) b (k j),
-      all-map (λ (i : ℕ). applyAll now is u .0 .buckets i ≡ applied now u i) (λ (i : ℕ). applyAll now is u .0 .buckets i ≡ applied now t i) (λ i e. e ∙ k i) is (all-applied now is u),
-    )
-  where
-    either : {A : Type 0} {p q r : A} (c : Bool) → p ≡ r → q ≡ r → cond c p q ≡ r
-    either true e f = e
-    either false e f = f
-
 -- what the visit of the buckets leaves, with its answer
 
 module _ (x : Shape) (n now : ℕ) (is out s : List ℕ) where
@@ -81,39 +67,64 @@ module _ (x : Shape) (n now : ℕ) (is out s : List ℕ) where
       let js : List ℕ = visited (held now (tableOf s)) n is in
       ap length (apply-all-queue now js (tableOf s)) ∙ length-append (tableOf s .queue) (applyAll now js (tableOf s) .1)
 
+  abbrev js : List ℕ
+  js = visitedBy now n is (tableOf s)
+
+  pub queue-few : Bytes s → length s ≡ storageSize → headerFormed s ≡ true → length (tableOf s .queue) ≤ maxRecords
+  queue-few h l f = header-fits s h l f .queue
+
   -- question 8, as the code asks it
-  pub room-left : Bytes s → length s ≡ storageSize → formed s ≡ true → (queued records : ℕ) → queued ≡ length (tableOf s .queue)
+  pub room-left : Bytes s → length s ≡ storageSize → headerFormed s ≡ true → (queued records : ℕ) → queued ≡ length (tableOf s .queue)
       → records ≡ length (visitAll now n is (tableOf s) .1) → records ≤ maxRecords - queued → length (left .queue) ≤ maxRecords
-  room-left h l f queued records p q r =
-      let k : length (tableOf s .queue) ≤ maxRecords = fits-back s h l f .queue in
-      omega (arith, queue-length)
+  room-left h l f queued records p q r = omega (arith, queue-length, queue-few h l f)
 
-  pub listed-refused : maxRecords < length (left .queue) → Lists (Answer.Refused 8) s out (visitOutcome x n now is out s)
+  pub listed-malformed : bucketsFormed s js ≡ false → Lists (Answer.Refused 2) s out (visitOutcome x n now is out s)
   unfolding visitOutcome
-  listed-refused h = let q = lt-leb (length (left .queue)) maxRecords h in record { answer = rw q; storage = rw q; output = rw q }
+  listed-malformed f = record { answer = rw f; storage = rw f; output = rw f }
 
-  module _ (h : Bytes s) (l : length s ≡ storageSize) (f : formed s ≡ true) (q : length (left .queue) ≤ maxRecords) where
-    left-fits : Fits left
-    unfolding visitAll
-    left-fits = with-queue left (applyAll-fits now (visited (held now (tableOf s)) n is) (tableOf s) (endless (tableOf s) (fits-back s h l f))) q
-
-    pub left-length : length (bytesOf left) ≡ storageSize
-    left-length = length-bytesOf left left-fits
-
-    pub left-formed : formed (bytesOf left) ≡ true
-    left-formed = formed-there left left-fits
-
-    pub listed-found : (r : ℕ) (s′ out′ : List ℕ) → s′ ≡ bytesOf left → Put x (firstNodes n x (tableOf s′) is) r out out′
-        → Lists (Answer.Found r) s′ out′ (visitOutcome x n now is out s)
+  module _ (f : bucketsFormed s js ≡ true) where
+    pub listed-refused : maxRecords < length (left .queue) → Lists (Answer.Refused 8) s out (visitOutcome x n now is out s)
     unfolding visitOutcome
-    listed-found r s′ out′ e p =
-        let k = le-leb (length (left .queue)) maxRecords q in
-        let there : tableOf s′ ≡ left = ap tableOf e ∙ table-there left left-fits in
-        record {
-          answer = ap Answer.Found (p .count ∙ ap (λ (u : Table). length (firstNodes n x u is)) there) ∙ (rw k);
-          storage = e ∙ (rw k);
-          output = p .output ∙ ap (λ (u : Table). written (map (itemBy x) (firstNodes n x u is)) out) there ∙ (rw k);
-        }
+    listed-refused h = let q = lt-leb (length (left .queue)) maxRecords h in record { answer = rw (f, q); storage = rw (f, q); output = rw (f, q) }
+
+    -- the storage with the due pendings applied
+    module _ (p : Appliable s now js) {s′ : List ℕ} (e : s′ ≡ appliedIn s now js) where
+      w : Applying s now js s′ []
+      w = applying-done s now js p e
+
+      there : tableOf s′ ≡ left
+      unfolding visitAll
+      there = applying-table s now js p s′ [] w ∙ ap (λ (is : List ℕ). applyAll now is (tableOf s) .0) done-all
+        where
+          done-all : w .done ≡ js
+          done-all = sym (append-nil (w .done)) ∙ sym (w .all)
+
+      pub left-size : length s′ ≡ storageSize
+      left-size = applying-size s now js p s′ [] w
+
+      pub left-header : headerFormed s′ ≡ true
+      left-header = applying-header s now js p s′ [] w
+
+      -- the buckets from which the items are read are those that were visited
+      pub left-formed : bucketsFormed s′ (visited (countIn (tableOf s′)) n is) ≡ true
+      unfolding visitAll
+      left-formed =
+          ap (bucketsFormed s′)
+          (visited-agree (held now (tableOf s)) (countIn (tableOf s′)) n is
+          (all-map (λ (i : ℕ). applyAll now js (tableOf s) .0 .buckets i ≡ applied now (tableOf s) i) (λ (i : ℕ). countIn (tableOf s′) i ≡ held now (tableOf s) i)
+          (λ i q. ap (λ (u : Table). numEntries (u .buckets i)) there ∙ ap numEntries q) js (visited-applied now js (tableOf s))))
+          ∙ applying-formed s now js p s′ [] w js (p .below) f
+
+      pub listed-found : length (left .queue) ≤ maxRecords → (r : ℕ) (out′ : List ℕ) → Put x (firstNodes n x (tableOf s′) is) r out out′
+          → Lists (Answer.Found r) s′ out′ (visitOutcome x n now is out s)
+      unfolding visitOutcome
+      listed-found q r out′ v =
+          let k = le-leb (length (left .queue)) maxRecords q in
+          record {
+            answer = ap Answer.Found (v .count ∙ ap (λ (u : Table). length (firstNodes n x u is)) there) ∙ (rw (f, k));
+            storage = e ∙ (rw (f, k));
+            output = v .output ∙ ap (λ (u : Table). written (map (itemBy x) (firstNodes n x u is)) out) there ∙ (rw (f, k));
+          }
 
 -- the listing from question 6 on
 
@@ -135,8 +146,13 @@ module _ (x : Shape) (n now : ℕ) (out s : List ℕ) where
   room-fits r = (leb-true n maxCount (and-left _ _ r), leb-true (n * sizeBy x) (length out) (and-right (leb n maxCount) _ r))
 
 -- the last questions of a listing
-abbrev pub lastThree : Listing → ℕ → ℕ → List ℕ → List ℕ → List (ℕ × Bool)
-lastThree l n now out s = (6, leb n maxCount && leb (most l n * entrySize l) (length out)) ∷ (7, true) ∷ (8, queueFits (Call.list l n now out) (tableOf s)) ∷ []
+abbrev pub lastFour : Listing → ℕ → ℕ → List ℕ → List ℕ → List (ℕ × Bool)
+lastFour l n now out s =
+    (6, leb n maxCount && leb (most l n * entrySize l) (length out))
+    ∷ (2, bucketsFormed s (applies l n now (tableOf s)))
+    ∷ (7, true)
+    ∷ (8, queueFits (Call.list l n now out) (tableOf s))
+    ∷ []
 
 -- the call l. first: its questions 1 to 5.
 
@@ -147,22 +163,30 @@ module _ (l : Listing) (n now : ℕ) (out s : List ℕ) (first : List (ℕ × Bo
   abbrev t : Table
   t = tableOf s
 
-  module _ (asked : firstFailed (allQuestions c s) ≡ firstFailed (first ++ lastThree l n now out s)) where
+  module _ (asked : firstFailed (allQuestions c s) ≡ firstFailed (first ++ lastFour l n now out s)) where
     pub refused-first : (q : ℕ) → firstFailed first ≡ some q → Lists (Answer.Refused q) s out (stepBytes c s)
     unfolding stepBytes
     refused-first q e =
-        let f : firstFailed (allQuestions c s) ≡ some q = asked ∙ front-fails first (lastThree l n now out s) q e in
+        let f : firstFailed (allQuestions c s) ≡ some q = asked ∙ front-fails first (lastFour l n now out s) q e in
         record { answer = rw f; storage = rw f; output = rw f }
 
     -- where they pass, and x is the shape that it lists
-    module _ (passes : firstFailed first ≡ none) (h : Bytes s) (size : length s ≡ storageSize) (whole : formed s ≡ true) (x : Shape) (given : Gives x t n now l) where
+    module _ (passes : firstFailed first ≡ none) (x : Shape) (given : Gives x t n now l) where
       abbrev is : List ℕ
       is = visitOrderBy x t
 
-      asked-last : firstFailed (allQuestions c s) ≡ cond (roomBy x n (length out)) (cond (queueFits c t) none (some 8)) (some 6)
+      abbrev visit : List ℕ
+      visit = visitedBy now n is t
+
+      -- what is asked from question 6 on
+      abbrev lastly : Bool → Bool → Option ℕ
+      lastly room formed = cond room (cond formed (cond (queueFits c t) none (some 8)) (some 2)) (some 6)
+
+      asked-last : firstFailed (allQuestions c s) ≡ lastly (roomBy x n (length out)) (bucketsFormed s visit)
       asked-last =
-          asked ∙ front-passes first (lastThree l n now out s) passes
-          ∙ ap₂ (λ (m w : ℕ). cond (leb n maxCount && leb (m * w) (length out)) (cond (queueFits c t) none (some 8)) (some 6)) (given .most) (given .size)
+          asked ∙ front-passes first (lastFour l n now out s) passes
+          ∙ ap₂ (λ (m w : ℕ). lastly (leb n maxCount && leb (m * w) (length out)) (bucketsFormed s (applies l n now t))) (given .most) (given .size)
+          ∙ ap (λ (ks : List ℕ). lastly (roomBy x n (length out)) (bucketsFormed s ks)) (given .applies)
 
       left-is : applyAll now (applies l n now t) t ≡ visitAll now n is t
       unfolding visitAll
@@ -182,23 +206,15 @@ module _ (l : Listing) (n now : ℕ) (out s : List ℕ) (first : List (ℕ × Bo
           ∙ ap (take n) (joined-same (shown l n now t) g (given .shown) is)
           ∙ visited-same g (λ i. shownBy x (applyAll now js t .0 .buckets i)) (held now t) (λ i. sym (length-shown x (applied now t i))) n is
           (all-map (λ (i : ℕ). applyAll now js t .0 .buckets i ≡ applied now t i) (λ (i : ℕ). g i ≡ shownBy x (applyAll now js t .0 .buckets i)) (λ i q. ap (shownBy x) (sym q)) js
-          (all-applied now js t))
+          (visited-applied now js t))
 
       items-are : written (map (item l) (found l n now t)) out ≡ written (map (itemBy x) (firstNodes n x (visitAll now n is t .0) is)) out
       items-are = ap₂ (λ (f : Node → Item) (ns : List Node). written (map f ns) out) (fun-ext (given .item)) found-is
 
       -- the storage
-      storage-is : leb (length (visitAll now n is t .0 .queue)) maxRecords ≡ true
-          → restore s (applies l n now t) (applyAll now (applies l n now t) t .0) ≡ bytesOf (visitAll now n is t .0)
-      unfolding visitAll
-      storage-is q =
-          let js : List ℕ = visited (held now t) n is in
-          let u : Table = applyAll now js t .0 in
-          let f : Fits t = fits-back s h size whole in
-          let g : Fits u = with-queue u (applyAll-fits now js t (endless t f)) (leb-true (length (u .queue)) maxRecords q) in
-          ap (λ (ks : List ℕ). restore s ks (applyAll now ks t .0)) (given .applies)
-          ∙ ap (λ (r : List ℕ). restore r js u) (sym (table-back s h size whole))
-          ∙ restore-is t u f g js (all-visited (λ (i : ℕ). i < numBuckets) (held now t) n is (visitable-by x t .below)) (λ i _ o. sym (applyAll-other now i js t o))
+      storage-is : restore s (applies l n now t) (applyAll now (applies l n now t) t .0) ≡ appliedIn s now visit
+      unfolding appliedIn
+      storage-is = ap (λ (ks : List ℕ). restore s ks (applyAll now ks t .0)) (given .applies)
 
       -- the listing of the shape is the call
       pub listed-is : {a : Answer} {s′ out′ : List ℕ} → Lists a s′ out′ (listOutcome x n now out s) → Lists a s′ out′ (stepBytes c s)
@@ -206,17 +222,22 @@ module _ (l : Listing) (n now : ℕ) (out s : List ℕ) (first : List (ℕ × Bo
       listed-is w =
           split (roomBy x n (length out))
           (λ r.
+          split (bucketsFormed s visit)
+          (λ b.
           split (leb (length (visitAll now n is t .0 .queue)) maxRecords)
           (λ q.
-          let f : firstFailed (allQuestions c s) ≡ none = asked-last ∙ rw (r, queue-is, q) in
+          let f : firstFailed (allQuestions c s) ≡ none = asked-last ∙ rw (r, b, queue-is, q) in
           record {
-            answer = w .answer ∙ (rw (r, q, f, found-is));
-            storage = w .storage ∙ (rw (r, q, f, storage-is q));
-            output = w .output ∙ (rw (r, q, f) (sym items-are));
+            answer = w .answer ∙ (rw (r, b, q, f, found-is));
+            storage = w .storage ∙ (rw (r, b, q, f, storage-is));
+            output = w .output ∙ (rw (r, b, q, f) (sym items-are));
           })
           (λ q.
-          let f : firstFailed (allQuestions c s) ≡ some 8 = asked-last ∙ rw (r, queue-is, q) in
-          record { answer = w .answer ∙ (rw (r, q, f)); storage = w .storage ∙ (rw (r, q, f)); output = w .output ∙ (rw (r, q, f)) }))
+          let f : firstFailed (allQuestions c s) ≡ some 8 = asked-last ∙ rw (r, b, queue-is, q) in
+          record { answer = w .answer ∙ (rw (r, b, q, f)); storage = w .storage ∙ (rw (r, b, q, f)); output = w .output ∙ (rw (r, b, q, f)) }))
+          (λ b.
+          let f : firstFailed (allQuestions c s) ≡ some 2 = asked-last ∙ rw (r, b) in
+          record { answer = w .answer ∙ (rw (r, b, f)); storage = w .storage ∙ (rw (r, b, f)); output = w .output ∙ (rw (r, b, f)) }))
           (λ r.
           let f : firstFailed (allQuestions c s) ≡ some 6 = asked-last ∙ rw r in
           record { answer = w .answer ∙ (rw (r, f)); storage = w .storage ∙ (rw (r, f)); output = w .output ∙ (rw (r, f)) })
@@ -232,12 +253,12 @@ pub first-five : (target : List ℕ) (now : ℕ) (s : List ℕ) {codes codes′ 
 unfolding failedOfFive
 first-five target now s e f = ap (λ (b : Bool). firstFailed (firstFive target b (some now) s)) (sym e) ∙ f
 
-pub iter-asked : (n now : ℕ) (out s : List ℕ) → firstFailed (allQuestions (Call.list Listing.iter n now out) s) ≡ firstFailed (firstThree now s ++ lastThree Listing.iter n now out s)
+pub iter-asked : (n now : ℕ) (out s : List ℕ) → firstFailed (allQuestions (Call.list Listing.iter n now out) s) ≡ firstFailed (firstThree now s ++ lastFour Listing.iter n now out s)
 unfolding keysFit codesInRange clockFits outputFits kindFits
 iter-asked n now out s = refl
 
 pub closest-asked : (f : Form) (target : List ℕ) (n now : ℕ) (out s : List ℕ)
     → firstFailed (allQuestions (Call.list (closestListing f target) n now out) s)
-    ≡ firstFailed (firstFive target (formCodes f) (some now) s ++ lastThree (closestListing f target) n now out s)
+    ≡ firstFailed (firstFive target (formCodes f) (some now) s ++ lastFour (closestListing f target) n now out s)
 unfolding keysFit codesInRange clockFits outputFits kindFits
 closest-asked f target n now out s = rw (closest-keys f target, closest-codes f target)

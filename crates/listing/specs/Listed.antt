@@ -8,14 +8,16 @@ use lib.Dec.{leb}
 use Rattle.model.specs.Base.{joined, tabulate}
 use Rattle.model.specs.Key.{distance}
 use Rattle.model.specs.Node.{Node}
+use Rattle.model.specs.Bucket.{numEntries}
 use Rattle.model.specs.Table.{Table, Answer, numBuckets, maxRecords}
 use Rattle.model.specs.Visit.{visits}
 use Rattle.model.specs.Call.{Listing}
 use Rattle.model.specs.Question.{maxCount}
-use Rattle.model.specs.Layout.{tableOf, bytesOf}
+use Rattle.model.specs.Layout.{tableOf}
+use Rattle.model.specs.Formed.{bucketsFormed}
 use Rattle.model.specs.StepBytes.{BytesOutcome, written}
 use Rattle.key.specs.Key.{num}
-use Rattle.visit.specs.Passes.{visitAll}
+use Rattle.visit.specs.Passes.{visitedBy, visitAll, appliedIn}
 use Rattle.items.specs.declared.Form.{Form}
 use Rattle.items.specs.declared.Shape.{Shape}
 use Rattle.items.specs.Shape.{predicateOf, itemBy, sizeBy, shownBy}
@@ -35,6 +37,10 @@ visitOrderBy (Shape.Closest x f) t = visits (distance (t .settings .localKey) (n
 abbrev pub roomBy : Shape → ℕ → ℕ → Bool
 roomBy x n len = leb n maxCount && leb (n * sizeBy x) len
 
+-- the nodes that bucket i holds as it stands
+abbrev pub countIn : Table → ℕ → ℕ
+countIn t i = numEntries (t .buckets i)
+
 -- the first n nodes of the buckets, as the shape shows them
 unfoldable pub firstNodes : ℕ → Shape → Table → List ℕ → List Node
 firstNodes n x t is = take n (joined (λ i. shownBy x (t .buckets i)) is)
@@ -48,14 +54,18 @@ pub record Put (x : Shape) (ns : List Node) (r : ℕ) (before after : List ℕ) 
 abbrev pub refusedWith : ℕ → List ℕ → List ℕ → BytesOutcome
 refusedWith q out s = record { answer = Answer.Refused q; storage = s; output = out; records = [] }
 
--- the visit of the buckets: question 8, then the storage with their due pendings applied and the items of the nodes found in it
+-- the visit of the buckets: question 2 of each (02, slip 7), question 8, then the storage with their due pendings applied and the items of
+-- the nodes found in it
 unfoldable pub visitOutcome : Shape → ℕ → ℕ → List ℕ → List ℕ → List ℕ → BytesOutcome
 visitOutcome x n now is out s =
     let r = visitAll now n is (tableOf s) in
     let ns = firstNodes n x (r .0) is in
-    cond (leb (length (r .0 .queue)) maxRecords)
-    (record { answer = Answer.Found (length ns); storage = bytesOf (r .0); output = written (map (itemBy x) ns) out; records = r .1 })
-    (refusedWith 8 out s)
+    let js = visitedBy now n is (tableOf s) in
+    cond (bucketsFormed s js)
+    (cond (leb (length (r .0 .queue)) maxRecords)
+    (record { answer = Answer.Found (length ns); storage = appliedIn s now js; output = written (map (itemBy x) ns) out; records = r .1 })
+    (refusedWith 8 out s))
+    (refusedWith 2 out s)
 
 -- the listing from question 6 on
 unfoldable pub listOutcome : Shape → ℕ → ℕ → List ℕ → List ℕ → BytesOutcome

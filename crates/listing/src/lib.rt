@@ -8,14 +8,15 @@ ghost use Rattle.model.specs.Sizes.{storageSize};
 ghost use Rattle.model.specs.Call.{Call, Listing};
 ghost use Rattle.model.specs.Question.{maxCount};
 ghost use Rattle.model.specs.Layout.{tableOf};
-ghost use Rattle.model.specs.Formed.{formed};
+ghost use Rattle.model.specs.Formed.{headerFormed, bucketsFormed};
+ghost use Rattle.model.specs.Listing.{visited};
 ghost use Rattle.model.specs.StepBytes.{stepBytes};
 ghost use Rattle.key.specs.Visits.{remaining};
 ghost use Rattle.on_key.specs.Answers.{Timely};
 ghost use Rattle.visit.specs.Passes.{Visitable};
 ghost use Rattle.items.specs.Shape.{sizeBy};
 ghost use Rattle.items.specs.Lists.{Lists, listAnswer};
-ghost use Rattle.listing.specs.Listed.{closestListing, visitOrderBy, firstNodes, Put, visitOutcome, listOutcome};
+ghost use Rattle.listing.specs.Listed.{closestListing, visitOrderBy, countIn, firstNodes, Put, visitOutcome, listOutcome};
 use items::Form;
 use items::ListAnswer;
 use items::Predicate;
@@ -52,8 +53,9 @@ fn visit_of(s: &[u8], shape: Shape) -> ClosestBucketsIter
 
 // Writes the items of the buckets, up to n, and answers how many. No further bucket is visited after the n-th.
 fn put_all(s: &[u8], visit: ClosestBucketsIter, shape: Shape, out: &mut [u8], n: usize) -> usize
-    requires { ⌜ (length (now s) ≡ storageSize) × (formed (now s) ≡ true) ⌝ }
+    requires { ⌜ (length (now s) ≡ storageSize) × (headerFormed (now s) ≡ true) ⌝ }
     requires { ⌜ Visitable (remaining visit) ⌝ }
+    requires { ⌜ bucketsFormed (now s) (visited (countIn (tableOf (now s))) n (remaining visit)) ≡ true ⌝ }
     requires { ⌜ (n ≤ maxCount) × (n * sizeBy shape ≤ length (now out)) ⌝ }
     ensures { λ r. ⌜ Put shape (firstNodes n shape (tableOf (now (s .entry))) (remaining visit)) r (now (out .entry)) (now (out .exit)) ⌝ }
 {
@@ -75,7 +77,8 @@ fn put_all(s: &[u8], visit: ClosestBucketsIter, shape: Shape, out: &mut [u8], n:
     k
 }
 
-// The visit: a dry run for question 8, the due pendings applied, then the items written from the storage as it stands.
+// The visit: a survey for questions 2 and 8, the due pendings applied, then the items written from the storage as it stands. Where a bucket
+// of it is malformed, none was applied.
 fn list_visited(
     s: &mut [u8],
     visit: ClosestBucketsIter,
@@ -84,25 +87,29 @@ fn list_visited(
     time: u64,
     out: &mut [u8],
 ) -> ListAnswer
-    requires { ⌜ (length (now s) ≡ storageSize) × (formed (now s) ≡ true) ⌝ }
+    requires { ⌜ (length (now s) ≡ storageSize) × (headerFormed (now s) ≡ true) ⌝ }
     requires { ⌜ Timely (now s) time ⌝ }
     requires { ⌜ Visitable (remaining visit) ⌝ }
     requires { ⌜ (n ≤ maxCount) × (n * sizeBy shape ≤ length (now out)) ⌝ }
     ensures { λ r. ⌜ Lists (listAnswer r) (now (s .exit)) (now (out .exit)) (visitOutcome shape n time (remaining visit) (now (out .entry)) (now (s .entry))) ⌝ }
 {
     let queued = header::record_count(s);
-    let records = visit::count_records(s, visit, n, time);
+    let y = visit::survey(s, visit, n, time);
+    if !y.formed {
+        return ListAnswer::Refused(2);
+    }
+    let records = y.records;
     if Layout::MAX_RECORDS - queued < records {
         return ListAnswer::Refused(8);
     }
-    visit::apply_all(s, visit, n, time);
+    visit::apply_all(s, visit, n, time, records);
     let count = put_all(s, visit, shape, out, n);
     ListAnswer::Found(count)
 }
 
 // The listing of a shape, from question 6 on.
 fn list(s: &mut [u8], shape: Shape, n: usize, time: u64, out: &mut [u8]) -> ListAnswer
-    requires { ⌜ (length (now s) ≡ storageSize) × (formed (now s) ≡ true) ⌝ }
+    requires { ⌜ (length (now s) ≡ storageSize) × (headerFormed (now s) ≡ true) ⌝ }
     requires { ⌜ Timely (now s) time ⌝ }
     ensures { λ r. ⌜ Lists (listAnswer r) (now (s .exit)) (now (out .exit)) (listOutcome shape n time (now (out .entry)) (now (s .entry))) ⌝ }
 {

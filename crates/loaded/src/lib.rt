@@ -328,7 +328,7 @@ fn load_all(bytes: &[u8], nodes: usize, s: &mut [u8])
 pub fn read(s: &mut [u8], bytes: &[u8]) -> ReadAnswer
     ensures { λ r. ⌜ Answers (readAnswer r) (now (s .exit)) (stepBytes (Call.read (now (bytes .entry))) (now (s .entry))) ⌝ }
 {
-    let q = on_key::asked_storage(s);
+    let q = on_key::asked_table(s);
     if q != 0 {
         return ReadAnswer::Refused(q);
     }

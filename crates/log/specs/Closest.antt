@@ -38,8 +38,9 @@ Ascending f [] = Unit {0}
 Ascending f (n ∷ []) = Unit {0}
 Ascending f (n ∷ m ∷ ns) = (f n < f m) × Ascending f (m ∷ ns)
 
--- An accepted closest call on a storage: its list is the first n of all held nodes, nearest first, with what the call gives of each
--- node, and the count found is its length. `sorted` and `all-there` say that `sortBy` arranges the same nodes in order, each once.
+-- An accepted closest call on a storage that is well formed throughout (02, slip 7): its list is the first n of all held nodes, nearest
+-- first, with what the call gives of each node, and the count found is its length. `sorted` and `all-there` say that `sortBy` arranges
+-- the same nodes in order, each once.
 pub record ClosestClaim (l : Listing) (x : List ℕ) (n now : ℕ) (out s : List ℕ) : Type 0 where
   pub answer : stepBytes (Call.list l n now out) s .answer ≡ Answer.Found (length (closestNodes x n now (tableOf s)))
   pub output : stepBytes (Call.list l n now out) s .output ≡ written (map (item l) (closestNodes x n now (tableOf s))) out

@@ -1,4 +1,4 @@
--- The further positions hold, by computing them all. Each fact names the one before it, from rows-hold over saved-cases-hold and explain-cases-hold to
+-- The further positions hold, by computing them all. Each fact names the one before it, from rows-hold over reads-cases-hold, saved-cases-hold and explain-cases-hold to
 -- storages-hold: a wrong definition is refused at the first that it makes false, and those behind it are not computed.
 use mathlib.Core.Path.{_≡_, refl}
 use mathlib.Core.Bool.{true}

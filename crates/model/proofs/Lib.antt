@@ -1,5 +1,6 @@
 -- Computed facts of the definitions, in the order in which they are computed.
 pub mod Rows
+pub mod ReadsCases
 pub mod SavedCases
 pub mod ExplainCases
 pub mod Cases

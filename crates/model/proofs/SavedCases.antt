@@ -14,8 +14,8 @@ use Rattle.model.specs.Formed.{areZero, nodeCodes, notHeld, pendingForme
 use Rattle.model.specs.Saved.{saved, sizesBelow, savedNode, loadedNodes, disconnectedFrom, loadedBytes, holdsNothing, threeOfANet, loadFits}
 use Rattle.model.specs.Step.{act, queueFits, step}
 use Rattle.model.specs.SavedCases.{savedCases}
-use Rattle.model.proofs.Rows.{rows-hold}
+use Rattle.model.proofs.ReadsCases.{reads-cases-hold}
 
 pub saved-cases-hold : every (λ (b : Bool). b) savedCases ≡ true
 unfolding leadingZeros same joined tabulate allBelow number bytes part log2Distance bucketIndex sameNet sameValue counts heldNodes keysFit codesInRange clockFits outputFits kindFits valueBytes nodeBytes valueIn nodeIn nodesIn areZero nodeCodes notHeld pendingFormed bucketFormed saved sizesBelow savedNode loadedNodes disconnectedFrom loadedBytes holdsNothing threeOfANet loadFits act queueFits step savedCases
-saved-cases-hold = let earlier = rows-hold in refl
+saved-cases-hold = let earlier = reads-cases-hold in refl

@@ -5,7 +5,7 @@ use mathlib.Core.List.{List}
 use mathlib.Core.Option.{Option, none, some}
 use lib.ListN.{length, getD}
 use lib.Dec.{eqb, leb, ltb}
-use Rattle.model.specs.Base.{same, allBelow}
+use Rattle.model.specs.Base.{same, every, allBelow}
 use Rattle.model.specs.Bytes.{number, part}
 use Rattle.model.specs.Key.{bucketIndex}
 use Rattle.model.specs.Bucket.{maxNodesPerBucket, incomingNodes}
@@ -82,5 +82,10 @@ isAt (some j) i = same j i
 abbrev pub bucketFormedAt : List ℕ → ℕ → Bool
 bucketFormedAt s i = bucketFormed (λ k. isAt (bucketIndex (keyIn s) k) i) (getD s maxIncomingAt 0) (bucketPart s i)
 
+-- 02, slip 7: the buckets that a call reads
+abbrev pub bucketsFormed : List ℕ → List ℕ → Bool
+bucketsFormed s is = every (bucketFormedAt s) is
+
+-- settings, queue and every bucket
 unfoldable pub formed : List ℕ → Bool
 formed s = headerFormed s && allBelow numBuckets (λ i. bucketFormedAt s i)

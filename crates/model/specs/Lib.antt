@@ -26,4 +26,5 @@ pub mod Numbers
 pub mod Rows
 pub mod Cases
 pub mod ExplainCases
+pub mod ReadsCases
 pub mod SavedCases

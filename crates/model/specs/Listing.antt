@@ -115,6 +115,6 @@ most (Listing.closestValues x) n = n
 most (Listing.closestValuesPredicate x p) n = n
 
 -- the nodes listed: the buckets in their order, cut at n; buckets past those applied add nothing, since these already give n.
--- Proved of all but nodes_by_distances: crates/laws, Listing, iter-reads and the three behind it.
+-- Proved in crates/laws, DistanceReads, found-reads.
 unfoldable pub found : Listing → ℕ → ℕ → Table → List Node
 found l n now t = take (most l n) (joined (shown l n now t) (visitOrder l t))

@@ -1,22 +1,23 @@
 -- One call on the storage's bytes: what each entry point answers and leaves, for every storage and every argument.
 use Prim.Native.Nat.{ℕ}
-use mathlib.Core.Bool.{Bool, not, _||_}
-use mathlib.Core.List.{List, [], _∷_}
+use mathlib.Core.Bool.{Bool, false, cond, not, _||_}
+use mathlib.Core.List.{List, [], _∷_, _++_}
 use mathlib.Core.Option.{Option, none, some}
 use lib.ListN.{length}
 use lib.Dec.{eqb, leb}
 use Rattle.model.specs.Base.{joined, tabulate}
 use Rattle.model.specs.Bytes.{number, splice}
+use Rattle.model.specs.Value.{Value}
 use Rattle.model.specs.Node.{EndedPending}
 use Rattle.model.specs.Result.{Reply}
-use Rattle.model.specs.Table.{Table, Answer, numBuckets, indexIn}
+use Rattle.model.specs.Table.{Table, Answer, numBuckets, filterRuns, indexIn}
 use Rattle.model.specs.Sizes.{bucketAt, storageSize}
-use Rattle.model.specs.Call.{Call}
+use Rattle.model.specs.Call.{Call, KeyCall, valueOf}
 use Rattle.model.specs.Listing.{Item, indices, applies}
 use Rattle.model.specs.Question.{firstFailed, arguments}
-use Rattle.model.specs.Step.{act, questions}
+use Rattle.model.specs.Step.{act, early, late}
 use Rattle.model.specs.Layout.{bucketBytes, headerBytes, itemBytes, tableOf}
-use Rattle.model.specs.Formed.{formed}
+use Rattle.model.specs.Formed.{headerFormed, bucketsFormed, formed}
 use Rattle.model.specs.Saved.{allNodes, saved}
 
 pub record BytesOutcome : Type 0 where
@@ -25,13 +26,49 @@ pub record BytesOutcome : Type 0 where
   pub output : List ℕ
   pub records : List EndedPending
 
--- 2: does it hold a well-formed table (not asked by `new`)?
-abbrev pub holdsTable : Call → List ℕ → Bool
-holdsTable c s = not (arguments c .table) || formed s
+-- What a call reads (02, slip 7).
 
--- questions 1 to 9, in turn
+abbrev pub everyBucket : List ℕ
+everyBucket = tabulate numBuckets (λ i. i)
+
+-- the value that a call hands to the table filter
+abbrev pub filtered : KeyCall → Option Value
+filtered (KeyCall.updateNodeStatus st dr now) = none
+filtered (KeyCall.updateNode v st now) = some (valueOf v)
+filtered (KeyCall.insertOrUpdate v st dr now) = some (valueOf v)
+filtered (KeyCall.remove now) = none
+filtered (KeyCall.entry now) = none
+filtered (KeyCall.presentUpdate st dr) = none
+filtered (KeyCall.pendingUpdate st dr) = none
+filtered (KeyCall.absentInsert v st dr now) = none
+
+abbrev pub runsFilter : Table → ℕ → ℕ → Option Value → Bool
+runsFilter t i k none = false
+runsFilter t i k (some v) = filterRuns t i k v
+
+-- the key's own, all of them when the table filter is on and runs, none for the local key
+abbrev pub keyReads : KeyCall → ℕ → Table → Option ℕ → List ℕ
+keyReads c k t none = []
+keyReads c k t (some i) = cond (runsFilter t i k (filtered c)) everyBucket (i ∷ [])
+
+-- a listing reads those that it visits up to the n-th item, nodes_by_distances those of its applying pass; the reader reads all
+abbrev pub reads : Call → Table → List ℕ
+reads (Call.new k timeout m tf bf) t = []
+reads (Call.onKey k c) t = keyReads c (number k) t (indexIn t (number k))
+reads (Call.list l n now out) t = applies l n now t
+reads Call.takeAppliedPending t = []
+reads (Call.read bs) t = everyBucket
+
+-- 2, of the settings and the queue (not asked by `new`)
+abbrev pub holdsHeader : Call → List ℕ → Bool
+holdsHeader c s = not (arguments c .table) || headerFormed s
+
+-- questions 1 to 9, in turn; 02, slip 7: 2's part about buckets is asked after 6
 abbrev pub allQuestions : Call → List ℕ → List (ℕ × Bool)
-allQuestions c s = (1, eqb (length s) storageSize) ∷ (2, holdsTable c s) ∷ questions c (tableOf s)
+allQuestions c s =
+    (1, eqb (length s) storageSize)
+    ∷ (2, holdsHeader c s)
+    ∷ (early c (tableOf s) ++ ((2, bucketsFormed s (reads c (tableOf s))) ∷ late c (tableOf s)))
 
 -- the lent output; empty where the call has none
 abbrev pub outputOf : Call → List ℕ
@@ -46,11 +83,11 @@ bucketOfKey k t = indices (indexIn t (number k))
 
 -- the buckets that a call writes back, changed or not; what the table filter only reads is not among them
 abbrev pub touched : Call → Table → List ℕ
-touched (Call.new k timeout m tf bf) t = tabulate numBuckets (λ i. i)
+touched (Call.new k timeout m tf bf) t = everyBucket
 touched (Call.onKey k c) t = bucketOfKey k t
 touched (Call.list l n now out) t = applies l n now t
 touched Call.takeAppliedPending t = []
-touched (Call.read bs) t = tabulate numBuckets (λ i. i)
+touched (Call.read bs) t = everyBucket
 
 -- the storage with the settings, the queue and the buckets named as the table has them; all other bytes stay
 unfoldable pub restore : List ℕ → List ℕ → Table → List ℕ

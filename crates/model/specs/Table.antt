@@ -100,16 +100,18 @@ abbrev pub isDuplicate : Value → Option Node → Bool
 isDuplicate v none = false
 isDuplicate v (some n) = sameValue (n .value) v
 
+-- the table filter is on and runs: it is skipped if the key is held with an equal value. i is the key's bucket.
+abbrev pub filterRuns : Table → ℕ → ℕ → Value → Bool
+filterRuns t i k v = t .settings .tableFilter && not (isDuplicate v (get k (t .buckets i)))
+
 -- 02, slip 3: the nodes that the table filter looks at for a value of key k: all that are held, but the key's own
 abbrev pub otherNodes : (k : ℕ) → (ℕ → Bucket) → List Node
 otherNodes k bs = omit k (heldNodes numBuckets bs)
 
--- 01, kbucket.rs: the table filter runs on the table as the call found it; it is skipped if the key is held with an equal value. 02, slip 3:
--- the old value of the same key is not counted. i is the key's bucket.
+-- 01, kbucket.rs: the table filter runs on the table as the call found it. 02, slip 3: the old value of the same key is not counted. i is the
+-- key's bucket.
 unfoldable pub failsTableFilter : Table → ℕ → ℕ → Value → Bool
-failsTableFilter t i k v =
-    t .settings .tableFilter
-    && (not (isDuplicate v (get k (t .buckets i))) && ipFilterFails maxNodesPerSubnetTable v (otherNodes k (t .buckets)))
+failsTableFilter t i k v = filterRuns t i k v && ipFilterFails maxNodesPerSubnetTable v (otherNodes k (t .buckets))
 
 -- kbucket.rs, update_node: what the value's step and the status's step answer together, in the order of the Rust's match. Never met: a
 -- value's step that failed or promotes, and UpdatedPending of one step alone; the answers there are the Rust's.

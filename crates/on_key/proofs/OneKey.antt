@@ -1,8 +1,8 @@
 -- A call on one key: what it answers and leaves, by its questions, by the key's index and by what it does to the key's bucket.
-use Prim.Native.Nat.{ℕ}
+use Prim.Native.Nat.{ℕ, _<_}
 use native.Mathlib.Omega.{arith}
-use mathlib.Core.Path.{_≡_, sym, ap, _∙_}
-use mathlib.Core.Bool.{true, false, cond, and-true}
+use mathlib.Core.Path.{_≡_, refl, sym, ap, _∙_}
+use mathlib.Core.Bool.{Bool, true, false, cond, and-true}
 use mathlib.Core.List.{List, [], _∷_, _++_}
 use mathlib.Core.Option.{Option, none, some}
 use lib.ListN.{length, length-append}
@@ -11,22 +11,25 @@ use borrow.Author.Tests.{le-leb}
 use Rattle.model.specs.Bytes.{Bytes, number, splice}
 use Rattle.model.specs.Node.{EndedPending}
 use Rattle.model.specs.Bucket.{Bucket}
-use Rattle.model.specs.Table.{Table, Answer, Effect, write, indexIn, maxRecords}
+use Rattle.model.specs.Table.{Table, Answer, Effect, write, indexIn, numBuckets, maxRecords}
 use Rattle.model.specs.Sizes.{headerSize, storageSize}
 use Rattle.model.specs.Call.{Call, KeyCall}
 use Rattle.model.specs.Question.{firstFailed, keyArguments, kindOfKey, keysFit, codesInRange, clockFits, outputFits, kindFits}
 use Rattle.model.specs.Step.{Outcome, unchanged, onKey, ownAnswer, effect, act, queueFits, late}
 use Rattle.model.specs.Layout.{headerBytes, tableOf}
-use Rattle.model.specs.Formed.{formed}
+use Rattle.model.specs.Formed.{headerFormed, bucketFormedAt, bucketsFormed}
 use Rattle.model.specs.Listing.{indices}
-use Rattle.model.specs.StepBytes.{allQuestions, touched, restore, unlessRefusedBytes, stepBytes}
-use Rattle.laws.proofs.TableBytes.{fits-back}
-use Rattle.laws.proofs.HeaderBack.{header-back}
+use Rattle.model.specs.Fits.{All}
+use Rattle.model.specs.StepBytes.{everyBucket, filtered, runsFilter, keyReads, reads, allQuestions, touched, restore, unlessRefusedBytes, stepBytes}
+use Rattle.laws.proofs.KeepStep.{bucketIndex-below}
+use Rattle.laws.proofs.KeyReads.{own-read}
+use Rattle.laws.proofs.HeaderBack.{header-back, queue-fits}
 use Rattle.laws.proofs.Parts.{splice-part}
-use Rattle.laws.proofs.Tests.{and-left, split}
-use Rattle.laws.proofs.Questions.{front-fails, front-passes}
+use Rattle.laws.proofs.Tests.{and-left, and-right, split}
+use Rattle.laws.proofs.Questions.{front-passes}
 use Rattle.on_key.specs.Answers.{Answers, firstFive, failedOfFive, roomFor, rewritten, inBucket}
-use Rattle.on_key.proofs.Questions.{passed-five}
+use Rattle.on_key.specs.Start.{ownFormed, keyFormed, failedAtStart}
+use Rattle.on_key.proofs.Questions.{passed-five, stricter-fails}
 
 -- what a call answers and leaves, by the first failed question
 
@@ -42,11 +45,14 @@ module _ (c : Call) (s : List ℕ) where
   acted-bytes a s′ e p q =
       record { answer = p ∙ ap (λ (o : Option ℕ). unlessRefusedBytes o c s .answer) (sym e); storage = q ∙ ap (λ (o : Option ℕ). unlessRefusedBytes o c s .storage) (sym e) }
 
--- storage that holds a table is its own header
-pub same-header : (s : List ℕ) → Bytes s → length s ≡ storageSize → formed s ≡ true → splice s 0 (headerBytes (tableOf s)) ≡ s
-unfolding formed
-same-header s h l f =
-    ap (splice s 0) (header-back s (omega arith) h (and-left _ _ f)) ∙ splice-part s 0 headerSize (omega arith)
+-- storage whose settings and queue are formed is its own header
+pub same-header : (s : List ℕ) → Bytes s → length s ≡ storageSize → headerFormed s ≡ true → splice s 0 (headerBytes (tableOf s)) ≡ s
+same-header s h l f = ap (splice s 0) (header-back s (omega arith) h f) ∙ splice-part s 0 headerSize (omega arith)
+
+-- 02, slip 7: the buckets that a call reads, one by one
+pub formed-each : (s is : List ℕ) → bucketsFormed s is ≡ true → All (λ (i : ℕ). bucketFormedAt s i ≡ true) is
+formed-each s [] e = tt
+formed-each s (i ∷ is) e = (and-left (bucketFormedAt s i) (bucketsFormed s is) e, formed-each s is (and-right (bucketFormedAt s i) (bucketsFormed s is) e))
 
 module _ (s key : List ℕ) (c : KeyCall) where
   abbrev t : Table
@@ -58,28 +64,66 @@ module _ (s key : List ℕ) (c : KeyCall) where
   abbrev failed : Option ℕ
   failed = failedOfFive key (keyArguments c .codes) (keyArguments c .now) s
 
-  asked-are : firstFailed (allQuestions call s) ≡ firstFailed (firstFive key (keyArguments c .codes) (keyArguments c .now) s ++ late call t)
+  -- the buckets that the call reads pass question 2
+  abbrev pub ReadFormed : Type 0
+  ReadFormed = bucketsFormed s (reads call t) ≡ true
+
+  -- none on the local key
+  pub reads-none : indexIn t (number key) ≡ none → ReadFormed
+  reads-none i = ap (λ (o : Option ℕ). bucketsFormed s (keyReads c (number key) t o)) i
+
+  -- the key's own, where the table filter does not run
+  pub reads-own : {i : ℕ} → indexIn t (number key) ≡ some i → bucketFormedAt s i ≡ true → runsFilter t i (number key) (filtered c) ≡ false → ReadFormed
+  reads-own {i} j b r =
+      ap (λ (o : Option ℕ). bucketsFormed s (keyReads c (number key) t o)) j ∙ ap (λ (q : Bool). bucketsFormed s (cond q everyBucket (i ∷ []))) r ∙ rw b
+
+  -- and by what the table filter has read
+  pub reads-are : {i : ℕ} {q : Bool} → indexIn t (number key) ≡ some i → bucketsFormed s (keyReads c (number key) t (some i)) ≡ q → bucketsFormed s (reads call t) ≡ q
+  reads-are j b = ap (λ (o : Option ℕ). bucketsFormed s (keyReads c (number key) t o)) j ∙ b
+
+  -- the key's own is among them
+  own-asked : (o : Option ℕ) → ((i : ℕ) → o ≡ some i → i < numBuckets) → bucketsFormed s (keyReads c (number key) t o) ≡ true → ownFormed s o ≡ true
+  own-asked none m a = refl
+  own-asked (some i) m a =
+      own-read (λ (j : ℕ). bucketFormedAt s j ≡ true) (runsFilter t i (number key) (filtered c)) i (m i refl) (formed-each s (keyReads c (number key) t (some i)) a)
+
+  pub read-own : ReadFormed → keyFormed s key ≡ true
+  read-own a = own-asked (indexIn t (number key)) (bucketIndex-below (t .settings .localKey) (number key)) a
+
+  asked-are : firstFailed (allQuestions call s) ≡ firstFailed (firstFive key (keyArguments c .codes) (keyArguments c .now) s ++ ((2, bucketsFormed s (reads call t)) ∷ late call t))
   unfolding keysFit codesInRange clockFits outputFits
   asked-are = rw and-true
 
-  pub refused-early : (n : ℕ) → failed ≡ some n → Answers (Answer.Refused n) s (stepBytes call s)
-  unfolding failedOfFive
-  refused-early n e = refused-bytes call s n (asked-are ∙ front-fails (firstFive key (keyArguments c .codes) (keyArguments c .now) s) (late call t) n e)
+  pub refused-early : (n : ℕ) → failedAtStart key (keyArguments c .codes) (keyArguments c .now) s ≡ some n → Answers (Answer.Refused n) s (stepBytes call s)
+  unfolding failedAtStart
+  refused-early n e =
+      refused-bytes call s n
+      (asked-are
+      ∙ stricter-fails (firstFive key (keyArguments c .codes) (keyArguments c .now) s) 2 (keyFormed s key) (bucketsFormed s (reads call t)) (late call t) read-own n e)
 
   module _ (e : failed ≡ none) where
-    asked-last : firstFailed (allQuestions call s) ≡ firstFailed (late call t)
+    asked-then : firstFailed (allQuestions call s) ≡ firstFailed ((2, bucketsFormed s (reads call t)) ∷ late call t)
     unfolding failedOfFive
-    asked-last = asked-are ∙ front-passes (firstFive key (keyArguments c .codes) (keyArguments c .now) s) (late call t) e
+    asked-then = asked-are ∙ front-passes (firstFive key (keyArguments c .codes) (keyArguments c .now) s) ((2, bucketsFormed s (reads call t)) ∷ late call t) e
 
-    pub refused-kind : keyArguments c .kind (kindOfKey key t) ≡ false → Answers (Answer.Refused 7) s (stepBytes call s)
-    unfolding kindFits
-    refused-kind g = refused-bytes call s 7 (asked-last ∙ rw g)
+    -- a bucket that the table filter reads
+    pub refused-read : bucketsFormed s (reads call t) ≡ false → Answers (Answer.Refused 2) s (stepBytes call s)
+    refused-read d = refused-bytes call s 2 (asked-then ∙ rw d)
 
-    module _ (g : keyArguments c .kind (kindOfKey key t) ≡ true) where
+    module _ (d : ReadFormed) where
+      asked-last : firstFailed (allQuestions call s) ≡ firstFailed (late call t)
+      asked-last = asked-then ∙ rw d
+
+      pub refused-kind : keyArguments c .kind (kindOfKey key t) ≡ false → Answers (Answer.Refused 7) s (stepBytes call s)
+      unfolding kindFits
+      refused-kind g = refused-bytes call s 7 (asked-last ∙ rw g)
+
+    module _ (d : ReadFormed) (g : keyArguments c .kind (kindOfKey key t) ≡ true) where
       asked-queue : firstFailed (allQuestions call s) ≡ cond (queueFits call t) none (some 8)
       unfolding kindFits
-      asked-queue = asked-last ∙ rw g
+      asked-queue = asked-last d ∙ rw g
 
+    module _ (g : keyArguments c .kind (kindOfKey key t) ≡ true) where
       -- the local key
       pub answers-self : Bytes s → indexIn t (number key) ≡ none → Answers (ownAnswer c) s (stepBytes call s)
       unfolding queueFits restore act
@@ -87,10 +131,11 @@ module _ (s key : List ℕ) (c : KeyCall) where
           let p = passed-five s key _ _ e in
           let a : act call t ≡ unchanged (ownAnswer c) t = ap (onKey t (ownAnswer c) (effect c key t)) i in
           let w : touched call t ≡ [] = ap indices i in
-          let q : leb (length (t .queue)) maxRecords ≡ true = le-leb _ _ (fits-back s h (p .size) (p .formed) .queue) in
-          acted-bytes call s (ownAnswer c) s (asked-queue ∙ rw (a, q)) (sym (ap (λ (o : Outcome). o .answer) a))
-          (sym (ap (λ (o : Outcome). restore s (touched call t) (o .table)) a ∙ ap (λ (is : List ℕ). restore s is t) w ∙ same-header s h (p .size) (p .formed)))
+          let q : leb (length (t .queue)) maxRecords ≡ true = le-leb _ _ (queue-fits s (omega (arith, p .size)) h (p .header)) in
+          acted-bytes call s (ownAnswer c) s (asked-queue (reads-none i) g ∙ rw (a, q)) (sym (ap (λ (o : Outcome). o .answer) a))
+          (sym (ap (λ (o : Outcome). restore s (touched call t) (o .table)) a ∙ ap (λ (is : List ℕ). restore s is t) w ∙ same-header s h (p .size) (p .header)))
 
+    module _ (d : ReadFormed) (g : keyArguments c .kind (kindOfKey key t) ≡ true) where
       -- any other key
       pub answers-in : (i : ℕ) → indexIn t (number key) ≡ some i → {a : Answer} {s′ : List ℕ} → Answers a s′ (inBucket s i (effect c key t i (t .buckets i))) → Answers a s′ (stepBytes call s)
       unfolding queueFits restore inBucket rewritten roomFor act
@@ -101,11 +146,11 @@ module _ (s key : List ℕ) (c : KeyCall) where
           let m : queueFits call t ≡ roomFor s (eff .records) = ap (λ (o : Outcome). leb (length (o .table .queue)) maxRecords) ac ∙ ap (λ (n : ℕ). leb n maxRecords) (length-append (t .queue) (eff .records)) in
           split (roomFor s (eff .records))
           (λ y.
-          acted-bytes call s a s′ (asked-queue ∙ rw (m, y))
+          acted-bytes call s a s′ (asked-queue d g ∙ rw (m, y))
           (x .answer ∙ (rw y) ∙ ap (λ (o : Outcome). o .answer) (sym ac))
           (x .storage ∙ (rw y) ∙ ap (λ (is : List ℕ). restore s is (write t i (eff .bucket) (eff .records))) (sym w) ∙ ap (λ (o : Outcome). restore s (touched call t) (o .table)) (sym ac)))
           (λ y.
-          let z = refused-bytes call s 8 (asked-queue ∙ rw (m, y)) in
+          let z = refused-bytes call s 8 (asked-queue d g ∙ rw (m, y)) in
           record { answer = x .answer ∙ (rw y) ∙ z .answer; storage = x .storage ∙ (rw y) ∙ z .storage })
 
 -- a call that acts on the bucket of its key

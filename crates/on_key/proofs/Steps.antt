@@ -2,8 +2,8 @@
 use Prim.Native.Nat.{ℕ, _+_, _<_}
 use native.Mathlib.Omega.{arith}
 use mathlib.Core.Path.{_≡_, sym, ap, _∙_, subst}
-use mathlib.Core.Bool.{Bool, true}
-use mathlib.Core.List.{List}
+use mathlib.Core.Bool.{Bool, true, cond}
+use mathlib.Core.List.{List, [], _∷_}
 use mathlib.Core.Option.{Option, none, some}
 use borrow.Author.Tests.{leb-true, eqb-true}
 use lib.ListN.{length}
@@ -12,17 +12,17 @@ use Rattle.model.specs.Bucket.{Bucket, BucketSettings}
 use Rattle.model.specs.Table.{numBuckets, indexIn}
 use Rattle.model.specs.Sizes.{keySize, storageSize}
 use Rattle.model.specs.Layout.{tableOf}
-use Rattle.model.specs.Formed.{formed}
+use Rattle.model.specs.Formed.{bucketFormedAt, formed}
 use Rattle.laws.proofs.TableBytes.{header-passes, bucket-passes}
-use Rattle.laws.proofs.KeepStep.{bucketIndex-below}
+use Rattle.laws.proofs.Questions.{front-fails, front-passes}
 use Rattle.key.specs.declared.BucketIndex.{BucketIndex}
 use Rattle.key.specs.Answers.{bucketIndexOf}
 use Rattle.bucket.specs.declared.KBucket.{KBucket}
 use Rattle.bucket.specs.Bucket.{bucketOf, settingsOf, Becomes, Sound}
 use Rattle.bucket.proofs.Steps.{told, then-becomes}
 use Rattle.on_key.specs.declared.Start.{Start}
-use Rattle.on_key.specs.Answers.{failedOfFive, Ready, Timely}
-use Rattle.on_key.specs.Start.{Begun}
+use Rattle.on_key.specs.Answers.{firstFive, failedOfFive, Ready, Timely}
+use Rattle.on_key.specs.Start.{ownFormed, keyFormed, failedAtStart, Located, Begun}
 use Rattle.on_key.proofs.Questions.{passed-five}
 
 -- the key's index, by what was answered for the key's number
@@ -34,12 +34,26 @@ index-told s key e f g = ap (indexIn (tableOf s)) (sym e) ∙ sym f ∙ ap bucke
 pub ready-at : (s : List ℕ) (i : ℕ) → length s ≡ storageSize → formed s ≡ true → i < numBuckets → Ready s i
 ready-at s i l f m = record { size = l; header = header-passes s f; below = m; bucket = bucket-passes s f i m }
 
-module _ (s : List ℕ) (key : List ℕ) (codes : Bool) (now : Option ℕ) (e : failedOfFive key codes now s ≡ none) where
-  pub ready : (i : ℕ) → indexIn (tableOf s) (number key) ≡ some i → Ready s i
-  ready i j = let p = passed-five s key codes now e in ready-at s i (p .size) (p .formed) (bucketIndex-below _ _ i j)
+-- the key's bucket, with what it was asked
+pub key-formed : (s key : List ℕ) {i : ℕ} {q : Bool} → indexIn (tableOf s) (number key) ≡ some i → q ≡ bucketFormedAt s i → keyFormed s key ≡ q
+key-formed s key j e = ap (ownFormed s) j ∙ sym e
 
+module _ (s : List ℕ) (key : List ℕ) (codes : Bool) (now : Option ℕ) (e : failedOfFive key codes now s ≡ none) where
   pub key-length : length key ≡ keySize
   key-length = eqb-true _ _ (passed-five s key codes now e .key-size)
+
+  -- how a call starts, where questions 1 to 5 have passed
+  pub begun-at : (r : Start) → Located s key r → Begun s key codes now r
+  unfolding failedOfFive failedAtStart
+  begun-at (Start.Refused q) l =
+      front-passes (firstFive key codes now s) ((2, keyFormed s key) ∷ []) e ∙ ap (λ (b : Bool). cond b none (some 2)) (l .1) ∙ ap some (sym (l .0))
+  begun-at Start.Local l = (e, l)
+  begun-at (Start.At k i) l = record { passed = e; key-is = l .key-is; index = l .index; ready = l .ready }
+
+-- a question of 1 to 5 that failed
+pub begun-refused : (s key : List ℕ) (codes : Bool) (now : Option ℕ) (n : ℕ) → failedOfFive key codes now s ≡ some n → failedAtStart key codes now s ≡ some n
+unfolding failedOfFive failedAtStart
+begun-refused s key codes now n e = front-fails (firstFive key codes now s) ((2, keyFormed s key) ∷ []) n e
 
 pub timely : (s key : List ℕ) (codes : Bool) (time : ℕ) → failedOfFive key codes (some time) s ≡ none → Timely s time
 timely s key codes time e =

@@ -42,20 +42,24 @@ updateAnswer (update-answer.Answered r) = Answer.Update (updateResultOf r)
 abbrev pub refusal : ℕ → Option ℕ
 refusal n = cond (eqb n 0) none (some n)
 
--- 01, questions 1 and 2 of a call that is handed a table
+-- 01, questions 1 and 2 of a call that is handed a table; 02, slip 7: 2 of the settings and the queue
 abbrev pub firstTwo : List ℕ → List (ℕ × Bool)
-firstTwo s = (1, eqb (length s) storageSize) ∷ (2, formed s) ∷ []
+firstTwo s = (1, eqb (length s) storageSize) ∷ (2, headerFormed s) ∷ []
+
+-- the same of a call that reads every bucket and has no question between the two parts of 2
+abbrev pub wholeTable : List ℕ → List (ℕ × Bool)
+wholeTable s = (1, eqb (length s) storageSize) ∷ (2, formed s) ∷ []
 
 -- 01, questions 1, 2 and 5 of a call that names no key
 abbrev pub firstThree : ℕ → List ℕ → List (ℕ × Bool)
 firstThree now s =
-    (1, eqb (length s) storageSize) ∷ (2, formed s) ∷ (5, deadlineFits (tableOf s .settings .bucket .pendingTimeout) (some now)) ∷ []
+    (1, eqb (length s) storageSize) ∷ (2, headerFormed s) ∷ (5, deadlineFits (tableOf s .settings .bucket .pendingTimeout) (some now)) ∷ []
 
 -- 01, questions 1 to 5 of a call on one key
 abbrev pub firstFive : List ℕ → Bool → Option ℕ → List ℕ → List (ℕ × Bool)
 firstFive key codes now s =
     (1, eqb (length s) storageSize)
-    ∷ (2, formed s)
+    ∷ (2, headerFormed s)
     ∷ (3, eqb (length key) keySize)
     ∷ (4, codes)
     ∷ (5, deadlineFits (tableOf s .settings .bucket .pendingTimeout) now)
@@ -63,6 +67,9 @@ firstFive key codes now s =
 
 unfoldable pub failedOfTwo : List ℕ → Option ℕ
 failedOfTwo s = firstFailed (firstTwo s)
+
+unfoldable pub failedOfTable : List ℕ → Option ℕ
+failedOfTable s = firstFailed (wholeTable s)
 
 unfoldable pub failedOfThree : ℕ → List ℕ → Option ℕ
 failedOfThree now s = firstFailed (firstThree now s)

@@ -13,8 +13,8 @@ ghost use Rattle.key.specs.Key.{num};
 ghost use Rattle.key.specs.Answers.{bucketIndexOf};
 ghost use Rattle.bucket.specs.Bucket.{pendingOf, bucketOf, Sound};
 ghost use Rattle.bucket.specs.Calls.{recordsOf, appliedCodes};
-ghost use Rattle.on_key.specs.Answers.{refusal, failedOfTwo, failedOfThree, failedOfFive, Ready, Timely, isDue, AppliedAt, eitherOf, gone, roomFor, rewritten};
-ghost use Rattle.on_key.specs.Start.{Begun};
+ghost use Rattle.on_key.specs.Answers.{refusal, failedOfTwo, failedOfTable, failedOfThree, failedOfFive, Ready, Timely, isDue, AppliedAt, eitherOf, gone, roomFor, rewritten};
+ghost use Rattle.on_key.specs.Start.{Located, Begun};
 use bucket::Applied;
 use bucket::EndedPending;
 use bucket::Ending;
@@ -24,9 +24,22 @@ use key::BucketIndex;
 use key::Key;
 use storage::Layout;
 
-// Internal: the first failed question of 1 and 2, or 0.
+// Internal: the first failed question of 1 and 2, or 0. 2 is asked of the settings and the queue (document 02, slip 7).
 pub fn asked_storage(s: &[u8]) -> u8
     ensures { λ r. ⌜ failedOfTwo (now (s .entry)) ≡ refusal r ⌝ }
+{
+    if s.len() != Layout::STORAGE {
+        return 1;
+    }
+    if !well_formed::header_formed(s) {
+        return 2;
+    }
+    0
+}
+
+// Internal: the same, with 2 asked of the whole table.
+pub fn asked_table(s: &[u8]) -> u8
+    ensures { λ r. ⌜ failedOfTable (now (s .entry)) ≡ refusal r ⌝ }
 {
     if s.len() != Layout::STORAGE {
         return 1;
@@ -182,7 +195,26 @@ pub enum Start {
     At(Key, usize),
 }
 
-// Internal: questions 1 to 4 of a call without a time, and the key's bucket.
+// Internal: the key's bucket, and question 2 of it.
+pub fn located(s: &[u8], key: &[u8]) -> Start
+    requires { ⌜ (length (now s) ≡ storageSize) × (headerFormed (now s) ≡ true) ⌝ }
+    requires { ⌜ length (now key) ≡ keySize ⌝ }
+    ensures { λ r. ⌜ Located (now (s .entry)) (now (key .entry)) r ⌝ }
+{
+    let k = key_of(key);
+    let index = index_of(s, k);
+    match index {
+        BucketIndex::Nothing => Start::Local,
+        BucketIndex::At(i) => {
+            if !well_formed::bucket_formed_at(s, i) {
+                return Start::Refused(2);
+            }
+            Start::At(k, i)
+        }
+    }
+}
+
+// Internal: questions 1 to 4 of a call without a time, then 2 of the key's bucket.
 pub fn begin(s: &[u8], key: &[u8], codes: bool) -> Start
     ensures { λ r. ⌜ Begun (now (s .entry)) (now (key .entry)) codes none r ⌝ }
 {
@@ -190,15 +222,10 @@ pub fn begin(s: &[u8], key: &[u8], codes: bool) -> Start
     if q != 0 {
         return Start::Refused(q);
     }
-    let k = key_of(key);
-    let index = index_of(s, k);
-    match index {
-        BucketIndex::Nothing => Start::Local,
-        BucketIndex::At(i) => Start::At(k, i),
-    }
+    located(s, key)
 }
 
-// Internal: questions 1 to 5, and the key's bucket.
+// Internal: questions 1 to 5, then 2 of the key's bucket.
 pub fn begin_at(s: &[u8], key: &[u8], codes: bool, time: u64) -> Start
     ensures { λ r. ⌜ Begun (now (s .entry)) (now (key .entry)) codes (some time) r ⌝ }
 {
@@ -206,12 +233,7 @@ pub fn begin_at(s: &[u8], key: &[u8], codes: bool, time: u64) -> Start
     if q != 0 {
         return Start::Refused(q);
     }
-    let k = key_of(key);
-    let index = index_of(s, k);
-    match index {
-        BucketIndex::Nothing => Start::Local,
-        BucketIndex::At(i) => Start::At(k, i),
-    }
+    located(s, key)
 }
 
 // Internal: question 8; where it passes, the record goes into the queue and bucket i is stored.

@@ -1,2 +1,3 @@
 -- Laws of the reasons.
 pub mod Rules
+pub mod OfTable

@@ -23,7 +23,7 @@ use Rattle.laws.proofs.Parts.{splice-next}
 use Rattle.laws.proofs.Saved.{length-saved}
 use Rattle.laws.proofs.Questions.{front-fails, front-passes}
 use Rattle.words.proofs.Words.{set-more}
-use Rattle.on_key.specs.Answers.{Replies, firstTwo, failedOfTwo}
+use Rattle.on_key.specs.Answers.{Replies, wholeTable, failedOfTable}
 use Rattle.saved.specs.declared.Field.{Field}
 use Rattle.saved.specs.declared.WriteAnswer.{WriteAnswer}
 use Rattle.saved.specs.Fields.{writeAnswerOf, fieldBytes, fieldSize, Appended}
@@ -74,16 +74,16 @@ module _ (out s : List ℕ) where
   abbrev told : Option ℕ → Replied
   told o = tellUnlessRefused o (length (allNodes (tableOf s))) (saved (tableOf s)) out
 
-  pub refused-early : {n : ℕ} → failedOfTwo s ≡ some n → Replies (writeAnswerOf (WriteAnswer.Refused n)) out (writeBytes out s)
-  unfolding writeBytes failedOfTwo
+  pub refused-early : {n : ℕ} → failedOfTable s ≡ some n → Replies (writeAnswerOf (WriteAnswer.Refused n)) out (writeBytes out s)
+  unfolding writeBytes failedOfTable
   refused-early {n} e =
-      let f = sym (front-fails (firstTwo s) ((6, room) ∷ []) n e) in
+      let f = sym (front-fails (wholeTable s) ((6, room) ∷ []) n e) in
       record { answer = ap (λ (o : Option ℕ). told o .answer) f; output = ap (λ (o : Option ℕ). told o .output) f }
 
-  module _ (e : failedOfTwo s ≡ none) where
+  module _ (e : failedOfTable s ≡ none) where
     last-asked : writeBytes out s ≡ told (cond room none (some 6))
-    unfolding writeBytes failedOfTwo
-    last-asked = ap told (front-passes (firstTwo s) ((6, room) ∷ []) e)
+    unfolding writeBytes failedOfTable
+    last-asked = ap told (front-passes (wholeTable s) ((6, room) ∷ []) e)
 
     pub refused-short : length out < numBuckets + length (allNodes (tableOf s)) * nodeSize → Replies (writeAnswerOf (WriteAnswer.Refused 6)) out (writeBytes out s)
     refused-short h =

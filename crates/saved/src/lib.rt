@@ -144,7 +144,7 @@ fn put_all(s: &[u8], field: Field, out: &mut [u8], to: usize) -> usize
 pub fn write(s: &[u8], out: &mut [u8]) -> WriteAnswer
     ensures { λ r. ⌜ Replies (writeAnswerOf r) (now (out .exit)) (writeBytes (now (out .entry)) (now (s .entry))) ⌝ }
 {
-    let q = on_key::asked_storage(s);
+    let q = on_key::asked_table(s);
     if q != 0 {
         return WriteAnswer::Refused(q);
     }

@@ -20,7 +20,7 @@ use Rattle.model.specs.Step.{settingsOf, takeOldest, act, queueFits}
 use Rattle.model.specs.Layout.{headerBytes, bytesOf, tableOf}
 use Rattle.model.specs.StepBytes.{allQuestions, restore, stepBytes}
 use Rattle.model.specs.Fits.{FitsCall}
-use Rattle.laws.proofs.TableBytes.{fits-back}
+use Rattle.laws.proofs.HeaderBack.{queue-fits}
 use Rattle.laws.proofs.KeepStep.{new-settings-fit, new-endless, with-queue}
 use Rattle.laws.proofs.Restore.{restore-all}
 use Rattle.on_key.specs.Answers.{Answers, firstTwo, failedOfTwo}
@@ -56,7 +56,7 @@ module _ (s : List ℕ) where
   unfolding failedOfTwo keysFit codesInRange clockFits outputFits kindFits queueFits act restore
   take-accepted b e rs r s′ w =
       let p = passed-two s e in
-      let q : leb (length (takeOldest t (t .queue) .table .queue)) maxRecords ≡ true = le-leb _ _ (rest-fits t (t .queue) refl (fits-back s b (p .size) (p .formed) .queue)) in
+      let q : leb (length (takeOldest t (t .queue) .table .queue)) maxRecords ≡ true = le-leb _ _ (rest-fits t (t .queue) refl (queue-fits s (omega (arith, p .size)) b (p .header))) in
       acted-bytes Call.takeAppliedPending s _ s′ (front-passes (firstTwo s) ((8, queueFits Call.takeAppliedPending t) ∷ []) e ∙ (rw q))
       (ap (λ (l : List EndedPending). Answer.TakeAppliedPending (first l)) r ∙ oldest-answer t (t .queue)) (w ∙ ap (splice s 0) (rest-header t (t .queue) refl))
 

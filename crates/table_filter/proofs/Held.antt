@@ -1,6 +1,6 @@
 -- The nodes that are held, one more place or bucket at a time: those that count against the value of a key, and the node of a key.
 use mathlib.Core.Path.{_≡_, refl, sym, ap, _∙_}
-use mathlib.Core.Bool.{Bool, true, false, not}
+use mathlib.Core.Bool.{Bool, true, false, not, and-true}
 use mathlib.Core.List.{List, [], _∷_, _++_}
 use mathlib.Core.Option.{none, some}
 use mathlib.Core.Logic.{⊎-elim}
@@ -12,7 +12,7 @@ use mir.Val.{boolByte}
 use lib.Dec.{eqb}
 use lib.ListN.{length, getD}
 use borrow.Author.Tests.{ne-eqb, le-leb, lt-leb}
-use Rattle.model.specs.Base.{same, select, tabulate}
+use Rattle.model.specs.Base.{same, select, every, tabulate, allBelow}
 use Rattle.model.specs.Bytes.{number, part}
 use Rattle.model.specs.Value.{Value, hasAddress}
 use Rattle.model.specs.Node.{Node}
@@ -21,9 +21,10 @@ use Rattle.model.specs.Bucket.{Bucket, maxNodesPerBucket, nodes, find, get, omi
 use Rattle.model.specs.Table.{numBuckets, heldNodes, otherNodes}
 use Rattle.model.specs.Sizes.{keySize, valueSize, nodeSize, bucketSize, bucketAt, tableFilterAt}
 use Rattle.model.specs.Layout.{valueIn, nodeIn, nodesIn, bucketIn, settingsIn, bucketPart, tableOf}
-use Rattle.model.specs.Formed.{formed}
+use Rattle.model.specs.Formed.{headerFormed, bucketFormedAt, bucketsFormed, formed}
+use Rattle.model.specs.StepBytes.{everyBucket}
 use Rattle.laws.proofs.Tests.{split}
-use Rattle.laws.proofs.Lists.{tabulate-one-more}
+use Rattle.laws.proofs.Lists.{tabulate-one-more, every-append}
 use Rattle.laws.proofs.KeepLists.{length-select-append, find-append, get-nodes}
 use Rattle.laws.proofs.Parts.{part-part, part-zero, getD-part}
 use Rattle.laws.proofs.BucketFormed.{checked}
@@ -66,15 +67,6 @@ module _ (p : Node → Bool) (bs : ℕ → Bucket) where
   pub counted-bucket : (i : ℕ) → length (select p (heldNodes (i + 1) bs)) ≡ length (select p (heldNodes i bs)) + length (select p (nodes (bs i)))
   unfolding heldNodes
   counted-bucket i = rw add-one (length-select-append p (heldNodes i bs) (nodes (bs i)))
-
-  -- what a scan that ends early has counted is no more than the whole
-  pub counted-mono : (i k : ℕ) → i ≤ k → length (select p (heldNodes i bs)) ≤ length (select p (heldNodes k bs))
-  counted-mono i zero h = let e : i ≡ 0 = omega arith in rw e (omega arith)
-  counted-mono i (suc k) h =
-      ⊎-elim
-      (λ (e : i ≡ suc k). rw e (omega arith))
-      (λ (l : i < suc k). let m = counted-mono i k (omega arith) in let s = rw add-one at (counted-bucket k) in omega arith)
-      (eq-or-lt-of-le h)
 
 -- the filter, by its address and its count
 
@@ -137,11 +129,14 @@ pub counted-at : (k : ℕ) (v : Value) (s : List ℕ) (at : ℕ)
 unfolding countedBelow
 counted-at k v s at = rw (nodes-at s at)
 
--- a well-formed table has no more than 16 nodes in a bucket
-pub bucket-count : (s : List ℕ) (i : ℕ) → formed s ≡ true → i < numBuckets → getD s (bucketAt i) 0 ≤ maxNodesPerBucket
-bucket-count s i f l =
-    let c = checked _ _ (bucketPart s i) (bucket-passes s f i l) in
+-- a well-formed bucket has no more than 16 nodes
+pub own-count : (s : List ℕ) (i : ℕ) → bucketFormedAt s i ≡ true → getD s (bucketAt i) 0 ≤ maxNodesPerBucket
+own-count s i f =
+    let c = checked _ _ (bucketPart s i) f in
     rw (getD-part s (bucketAt i) bucketSize 0 (omega arith), add-zero) at (c .at-most)
+
+pub bucket-count : (s : List ℕ) (i : ℕ) → formed s ≡ true → i < numBuckets → getD s (bucketAt i) 0 ≤ maxNodesPerBucket
+bucket-count s i f l = own-count s i (bucket-passes s f i l)
 
 pub value-at : (s : List ℕ) (at : ℕ) → nodeIn (part s at nodeSize) .value ≡ valueOf (readValue (part s (at + (keySize + 2)) valueSize))
 unfolding nodeIn

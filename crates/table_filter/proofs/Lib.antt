@@ -1,2 +1,3 @@
 -- Laws of the table filter.
 pub mod Held
+pub mod Asked

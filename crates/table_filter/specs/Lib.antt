@@ -1,2 +1,3 @@
 -- What the contracts of `table_filter` cite beside the model.
 pub mod Counted
+pub mod Filtered

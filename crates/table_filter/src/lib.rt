@@ -1,19 +1,20 @@
-// Internal: the table filter (kbucket.rs, filter.rs) on the bytes of the storage, one value at a time.
+// Internal: the table filter (kbucket.rs, filter.rs) on the bytes of the storage, one value at a time. Where it runs, each bucket is asked
+// question 2 before it is counted (document 02, slip 7).
 ghost use mathlib.Core.Path.{_≡_};
 ghost use mathlib.Core.Bool.{true};
 ghost use Prim.Native.Nat.{_+_, _≤_, _<_};
 ghost use lib.ListN.{length, getD};
 ghost use Rattle.model.specs.Bytes.{part};
 ghost use Rattle.model.specs.Base.{select};
-ghost use Rattle.model.specs.Filter.{ipFilterFails, maxNodesPerSubnetTable};
 ghost use Rattle.model.specs.Bucket.{maxNodesPerBucket, nodes, get};
-ghost use Rattle.model.specs.Table.{numBuckets, otherNodes, isDuplicate, failsTableFilter};
+ghost use Rattle.model.specs.Table.{numBuckets, isDuplicate};
 ghost use Rattle.model.specs.Sizes.{nodeSize, bucketSize, storageSize};
 ghost use Rattle.model.specs.Layout.{nodeIn, bucketIn, tableOf};
-ghost use Rattle.model.specs.Formed.{formed};
+ghost use Rattle.model.specs.Formed.{bucketFormedAt};
 ghost use Rattle.key.specs.Key.{num};
 ghost use Rattle.node.specs.Node.{valueOf};
 ghost use Rattle.table_filter.specs.Counted.{countsOther, countedBelow};
+ghost use Rattle.table_filter.specs.Filtered.{Walked, AskedFilter, isMalformed, hasFailed};
 use key::Key;
 use node::Value;
 use storage::Layout;
@@ -53,24 +54,34 @@ fn counted(s: &[u8], at: usize, key: Key, value: Value) -> usize
     counted_below(s, at, s[at] as usize, key, value)
 }
 
-// Internal: the value of the key fails the IP filter of the table. The scan ends at the limit.
-pub fn fails_table_filter(s: &[u8], key: Key, value: Value) -> bool
-    requires { ⌜ (length (now s) ≡ storageSize) × (formed (now s) ≡ true) ⌝ }
-    ensures { λ r. ⌜ r ≡ ipFilterFails maxNodesPerSubnetTable (valueOf value) (otherNodes (num key) (tableOf (now (s .entry)) .buckets)) ⌝ }
+// What the table filter answers: a bucket that it reads fails question 2, or the value passes or fails.
+pub enum Filtered {
+    Malformed,
+    Passes,
+    Fails,
+}
+
+// Question 2 of every bucket, each before it is counted for the value of the key; then the IP filter of the table.
+fn walked(s: &[u8], key: Key, value: Value) -> Filtered
+    requires { ⌜ length (now s) ≡ storageSize ⌝ }
+    ensures { λ r. ⌜ Walked (now (s .entry)) (num key) (valueOf value) r ⌝ }
 {
-    if value.flag != 1 {
-        return false;
-    }
     let mut n: usize = 0;
     let mut i: usize = 0;
     while i < model::NUM_BUCKETS {
-        n += counted(s, Layout::HEADER + i * Layout::BUCKET, key, value);
-        if node::filter::MAX_NODES_PER_SUBNET_TABLE <= n {
-            return true;
+        if !well_formed::bucket_formed_at(s, i) {
+            return Filtered::Malformed;
         }
+        n += counted(s, Layout::HEADER + i * Layout::BUCKET, key, value);
         i += 1;
     }
-    false
+    if value.flag != 1 {
+        return Filtered::Passes;
+    }
+    if node::filter::MAX_NODES_PER_SUBNET_TABLE <= n {
+        return Filtered::Fails;
+    }
+    Filtered::Passes
 }
 
 // The bucket at `at` holds the key with an equal value.
@@ -92,24 +103,47 @@ fn holds_value(s: &[u8], at: usize, key: Key, value: Value) -> bool
     false
 }
 
-// Internal: bucket i holds the key with an equal value.
-pub fn is_duplicate(s: &[u8], i: usize, key: Key, value: Value) -> bool
-    requires { ⌜ (length (now s) ≡ storageSize) × (formed (now s) ≡ true) × (i < numBuckets) ⌝ }
+// Bucket i holds the key with an equal value.
+fn is_duplicate(s: &[u8], i: usize, key: Key, value: Value) -> bool
+    requires { ⌜ (length (now s) ≡ storageSize) × (i < numBuckets) × (bucketFormedAt (now s) i ≡ true) ⌝ }
     ensures { λ r. ⌜ r ≡ isDuplicate (valueOf value) (get (num key) (tableOf (now (s .entry)) .buckets i)) ⌝ }
 {
     holds_value(s, Layout::HEADER + i * Layout::BUCKET, key, value)
 }
 
-// Internal: the table filter, where it is on, fails for the value of the key, whose bucket is i.
-pub fn table_filter_fails(s: &[u8], i: usize, key: Key, value: Value) -> bool
-    requires { ⌜ (length (now s) ≡ storageSize) × (formed (now s) ≡ true) × (i < numBuckets) ⌝ }
-    ensures { λ r. ⌜ r ≡ failsTableFilter (tableOf (now (s .entry))) i (num key) (valueOf value) ⌝ }
+// Internal: the table filter for the value of the key, whose bucket is i and has passed question 2. Where it is off, or skipped because
+// the key is held with an equal value, no other bucket is read.
+pub fn asked_filter(s: &[u8], i: usize, key: Key, value: Value) -> Filtered
+    requires { ⌜ (length (now s) ≡ storageSize) × (i < numBuckets) × (bucketFormedAt (now s) i ≡ true) ⌝ }
+    ensures { λ r. ⌜ AskedFilter (now (s .entry)) i (num key) (valueOf value) r ⌝ }
 {
     if s[Layout::TABLE_FILTER_AT] != 1 {
-        return false;
+        return Filtered::Passes;
     }
     if is_duplicate(s, i, key, value) {
-        return false;
+        return Filtered::Passes;
     }
-    fails_table_filter(s, key, value)
+    walked(s, key, value)
+}
+
+// Internal: a bucket failed question 2.
+pub fn is_malformed(f: Filtered) -> bool
+    ensures { λ r. ⌜ r ≡ isMalformed f ⌝ }
+{
+    match f {
+        Filtered::Malformed => true,
+        Filtered::Passes => false,
+        Filtered::Fails => false,
+    }
+}
+
+// Internal: the value fails.
+pub fn has_failed(f: Filtered) -> bool
+    ensures { λ r. ⌜ r ≡ hasFailed f ⌝ }
+{
+    match f {
+        Filtered::Malformed => false,
+        Filtered::Passes => false,
+        Filtered::Fails => true,
+    }
 }

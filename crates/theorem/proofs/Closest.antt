@@ -1,5 +1,5 @@
--- The closest list: an accepted closest call, on any storage, lists the first n of all held nodes, nearest first (01, "What the log
--- says", fourth paragraph).
+-- The closest list: an accepted closest call, on any storage that is well formed throughout (02, slip 7), lists the first n of all held
+-- nodes, nearest first (01, "What the log says", fourth paragraph).
 use mathlib.Core.Path.{_≡_, refl, ap, _∙_}
 use mathlib.Core.Bool.{true, false}
 use mathlib.Core.List.{List, [], _∷_, map}
@@ -74,13 +74,9 @@ accepted c s e = go (firstFailed (allQuestions c s)) e
     go none h = refl
     go (some q) h = clash refl h
 
--- questions 1 and 2 of a listing
-pub accepted-storage : (l : Listing) (n now : ℕ) (out s : List ℕ) → isRefused (stepBytes (Call.list l n now out) s .answer) ≡ false
-    → (length s ≡ storageSize) × (formed s ≡ true)
-accepted-storage l n now out s e =
-    let c : Call = Call.list l n now out in
-    let q = accepted-bytes c s (accepted c s e) in
-    (q .size, q .formed)
+-- question 1 of a listing
+pub accepted-size : (l : Listing) (n now : ℕ) (out s : List ℕ) → isRefused (stepBytes (Call.list l n now out) s .answer) ≡ false → length s ≡ storageSize
+accepted-size l n now out s e = accepted-bytes (Call.list l n now out) s (accepted (Call.list l n now out) s e) .size
 
 -- what an accepted listing answers and writes
 pub accepted-answer : (l : Listing) (n now : ℕ) (out s : List ℕ) → isRefused (stepBytes (Call.list l n now out) s .answer) ≡ false
@@ -100,12 +96,11 @@ ascending f [] p = tt
 ascending f (n ∷ []) p = tt
 ascending f (n ∷ m ∷ ns) p = (p .0 .0, ascending f (m ∷ ns) (p .1))
 
-pub closest : (l : Listing) (x : List ℕ) (n now : ℕ) (out s : List ℕ) → target l ≡ some x → Bytes s
+pub closest : (l : Listing) (x : List ℕ) (n now : ℕ) (out s : List ℕ) → target l ≡ some x → Bytes s → formed s ≡ true
     → isRefused (stepBytes (Call.list l n now out) s .answer) ≡ false → ClosestClaim l x n now out s
-closest l x n now out s e b h =
+closest l x n now out s e b g h =
     let t : Table = tableOf s in
-    let q = accepted-storage l n now out s h in
-    let f : Fits t = fits-back s b (q .0) (q .1) in
+    let f : Fits t = fits-back s b (accepted-size l n now out s h) g in
     let w : (i : ℕ) → WellFormed (t .settings) i (applied now t i) = λ i. applyPending-well-formed (t .settings) i now (t .buckets i) (f .well-formed i) in
     let list : found l n now t ≡ closestNodes x n now t =
     found-closest l x e n now t ∙ closest-list t x now (f .settings .localKey) w

@@ -10,6 +10,7 @@ use Rattle.model.specs.Bytes.{Bytes}
 use Rattle.model.specs.Table.{Table, Answer}
 use Rattle.model.specs.Call.{Listing, Call}
 use Rattle.model.specs.Step.{step}
+use Rattle.model.specs.Formed.{formed}
 use Rattle.model.specs.StepBytes.{stepBytes}
 use Rattle.log.specs.Log.{isRefused}
 use Rattle.log.specs.Claim.{Claim, tableAfter, entries}
@@ -36,8 +37,8 @@ theorem k timeout m tf bf cs t e =
       queue-within = Limits.queue-within k timeout m tf bf t cs e;
     }
 
--- the closest list of each of the three closest calls, accepted, on any storage
-pub theorem-closest : (l : Listing) (x : List ℕ) (n now : ℕ) (out s : List ℕ) → target l ≡ some x → Bytes s
+-- the closest list of each of the three closest calls, accepted, on any storage that is well formed throughout
+pub theorem-closest : (l : Listing) (x : List ℕ) (n now : ℕ) (out s : List ℕ) → target l ≡ some x → Bytes s → formed s ≡ true
     → isRefused (stepBytes (Call.list l n now out) s .answer) ≡ false
     → ClosestClaim l x n now out s
 theorem-closest = Closest.closest

@@ -1,5 +1,5 @@
 // The two calls of the table that give a value (kbucket.rs). The table filter is tested on the storage as the call found it, and a due
-// pending is applied after that.
+// pending is applied after that. Where it runs, it reads every bucket, and one that is malformed refuses the call (document 02, slip 7).
 ghost use mathlib.Core.Path.{_≡_};
 ghost use Rattle.model.specs.Call.{Call, KeyCall};
 ghost use Rattle.model.specs.StepBytes.{stepBytes};
@@ -33,7 +33,11 @@ pub fn update_node(s: &mut [u8], key: &[u8], value: Value, state: u8, time: u64)
             UpdateAnswer::Answered(same)
         }
         Start::At(k, i) => {
-            let fails = table_filter::table_filter_fails(s, i, k, value);
+            let filter = table_filter::asked_filter(s, i, k, value);
+            if table_filter::is_malformed(filter) {
+                return UpdateAnswer::Refused(2);
+            }
+            let fails = table_filter::has_failed(filter);
             let a = on_key::apply_at(s, i, time);
             let applied = a.applied;
             let b = a.bucket;
@@ -71,7 +75,11 @@ pub fn insert_or_update(
             InsertOrUpdateAnswer::Answered(own)
         }
         Start::At(k, i) => {
-            let fails = table_filter::table_filter_fails(s, i, k, value);
+            let filter = table_filter::asked_filter(s, i, k, value);
+            if table_filter::is_malformed(filter) {
+                return InsertOrUpdateAnswer::Refused(2);
+            }
+            let fails = table_filter::has_failed(filter);
             let a = on_key::apply_at(s, i, time);
             let applied = a.applied;
             let b = a.bucket;

@@ -12,14 +12,17 @@ use Rattle.model.specs.Node.{EndedPending}
 use Rattle.model.specs.Bucket.{Bucket, applyPending}
 use Rattle.model.specs.Table.{Table, numBuckets}
 use Rattle.model.specs.Listing.{applied, applyAll, visited}
+use Rattle.model.specs.Layout.{tableOf}
+use Rattle.model.specs.Formed.{bucketFormedAt, bucketsFormed}
 use Rattle.model.specs.Fits.{All}
 use Rattle.laws.proofs.Tests.{same-true, same-false, split, clash}
 use Rattle.laws.proofs.All.{all-any, all-zip}
 use Rattle.laws.proofs.Applied.{apply-again}
 use Rattle.visit.specs.declared.Counted.{Counted}
 use Rattle.visit.specs.declared.Given.{Given}
-use Rattle.visit.specs.Passes.{held, records, GivenAt, recordsGiven, CountedAt, visitOne, visitAll, Once, Visitable}
-use Rattle.visit.proofs.Visitable.{once-visited, visited-none, visited-next}
+use Rattle.visit.specs.declared.Tally.{Tally}
+use Rattle.visit.specs.Passes.{held, records, GivenAt, recordsGiven, CountedAt, visitOne, visitedBy, visitAll, Once, Visitable, Surveyed}
+use Rattle.visit.proofs.Visitable.{once-visited, visited-none, visited-end, visited-next}
 
 agree : (z a b : Bool) (x : ℕ) → (b ≡ true → a ≡ false) → cond (z && b) 0 x ≡ cond ((z || a) && b) 0 x
 agree true a b x h = refl
@@ -58,7 +61,7 @@ module _ (now : ℕ) (f : ℕ → ℕ) where
       (counted (z || eqb i 0) is (visitOne now i t) (o .1)
       (all-zip (λ (j : ℕ). j ≡ i → i ≡ 0) (Gives z t) (Gives (z || eqb i 0) (visitOne now i t)) (λ j. next z t i j) is (o .0) (g .1)))
 
--- the dry run counts what the visit gives
+-- the survey counts what the visit gives
 pub given-is : (now n : ℕ) (is : List ℕ) (t : Table) → Once is
     → recordsGiven (records now t) false (visited (held now t) n is) ≡ length (visitAll now n is t .1)
 unfolding visitAll
@@ -66,58 +69,82 @@ given-is now n is t o =
     let js : List ℕ = visited (held now t) n is in
     sym (counted now (records now t) false js t (once-visited (held now t) n is o) (all-any (Gives now (records now t) false t) js (λ i. refl)))
 
--- one step of the dry run
+-- one step of the count
 module _ (f size : ℕ → ℕ) (z : Bool) where
-  pub given-end : (n : ℕ) → recordsGiven f z (visited size n []) ≡ 0
-  unfolding recordsGiven visited
-  given-end n = refl
-
-  pub given-none : (is : List ℕ) → recordsGiven f z (visited size 0 is) ≡ 0
-  unfolding recordsGiven
-  given-none is = rw (visited-none size is)
-
   pub given-next : (n i : ℕ) (is : List ℕ) → 0 < n
       → recordsGiven f z (visited size n (i ∷ is)) ≡ cond (z && eqb i 0) 0 (f i) + recordsGiven f (z || eqb i 0) (visited size (n - size i) is)
   unfolding recordsGiven
   given-next n i is h = ap (recordsGiven f z) (visited-next size n i is h)
 
--- the dry run on its way: what it has counted, and the rest, are what the visit gives
-pub record Counting (now n : ℕ) (is : List ℕ) (t : Table) (c : Counted) (rest : List ℕ) : Type 0 where
+-- the survey on its way: what it has counted, and the rest, are what the visit gives, and the rest is to be asked
+pub record Counting (now n : ℕ) (is : List ℕ) (s : List ℕ) (c : Counted) (rest : List ℕ) : Type 0 where
   pub below : All (λ (i : ℕ). i < numBuckets) rest
   pub short : c .records + length rest ≤ numBuckets + numBuckets
-  pub total : c .records + recordsGiven (records now t) (c .zero) (visited (held now t) (c .left) rest) ≡ length (visitAll now n is t .1)
+  pub total : c .records + recordsGiven (records now (tableOf s)) (c .zero) (visited (held now (tableOf s)) (c .left) rest) ≡ length (visitAll now n is (tableOf s) .1)
+  pub asks : bucketsFormed s (visited (held now (tableOf s)) (c .left) rest) ≡ bucketsFormed s (visitedBy now n is (tableOf s))
 
-module _ (now n : ℕ) (is : List ℕ) (t : Table) where
-  pub counting-starts : Visitable is → (c : Counted) → c .left ≡ n → c .zero ≡ false → c .records ≡ 0 → Counting now n is t c is
+module _ (now n : ℕ) (is : List ℕ) (s : List ℕ) where
+  abbrev t : Table
+  t = tableOf s
+
+  pub counting-starts : Visitable is → (c : Counted) → c .left ≡ n → c .zero ≡ false → c .records ≡ 0 → Counting now n is s c is
   counting-starts o c p q r =
       record {
         below = o .below;
         short = (let h = o .short in omega arith);
         total = (let e = given-is now n is t (o .once) in rw (p, q, r) (omega arith));
+        asks = ap (λ (m : ℕ). bucketsFormed s (visitedBy now m is t)) p;
       }
 
   module _ (c : Counted) where
-    pub counting-next : (i : ℕ) (rest : List ℕ) (c′ : Counted) → 0 < c .left → CountedAt now t i c c′ → Counting now n is t c (i ∷ rest) → Counting now n is t c′ rest
-    counting-next i rest c′ h a w =
+    -- a bucket is asked
+    asked-at : (i : ℕ) (rest : List ℕ) → 0 < c .left → Counting now n is s c (i ∷ rest)
+        → (bucketFormedAt s i && bucketsFormed s (visited (held now t) (c .left - held now t i) rest)) ≡ bucketsFormed s (visitedBy now n is t)
+    asked-at i rest h w = ap (bucketsFormed s) (sym (visited-next (held now t) (c .left) i rest h)) ∙ w .asks
+
+    pub counting-next : (i : ℕ) (rest : List ℕ) (c′ : Counted) → 0 < c .left → bucketFormedAt s i ≡ true → CountedAt now t i c c′ → Counting now n is s c (i ∷ rest)
+        → Counting now n is s c′ rest
+    counting-next i rest c′ h f a w =
         let e = given-next (records now t) (held now t) (c .zero) (c .left) i rest h in
         record {
           below = w .below .1;
           short = (let p = w .short in let q = a .one in omega arith);
           total = (let p = w .total in let q = a .records in rw (a .zero, a .left) (omega arith));
+          asks =
+              ap (λ (m : ℕ). bucketsFormed s (visited (held now t) m rest)) (a .left)
+              ∙ ap (λ (b : Bool). b && bucketsFormed s (visited (held now t) (c .left - held now t i) rest)) (sym f)
+              ∙ asked-at i rest h w;
         }
 
-    pub counting-ends : (rest : List ℕ) → rest ≡ [] → Counting now n is t c rest → c .records ≡ length (visitAll now n is t .1)
-    counting-ends rest e w =
-        let p = w .total in
-        let q : recordsGiven (records now t) (c .zero) (visited (held now t) (c .left) rest) ≡ 0 = rw e (given-end (records now t) (held now t) (c .zero) (c .left)) in
-        omega arith
+    pub counting-fails : (i : ℕ) (rest : List ℕ) (r : Tally) → 0 < c .left → bucketFormedAt s i ≡ false → Counting now n is s c (i ∷ rest) → r .formed ≡ false
+        → Surveyed now n is s r
+    counting-fails i rest r h f w e =
+        record {
+          formed =
+              e ∙ ap (λ (b : Bool). b && bucketsFormed s (visited (held now t) (c .left - held now t i) rest)) (sym f) ∙ asked-at i rest h w;
+          records = λ g. clash g e;
+        }
 
-    pub counting-full : (rest : List ℕ) → c .left ≤ 0 → Counting now n is t c rest → c .records ≡ length (visitAll now n is t .1)
-    counting-full rest h w =
-        let p = w .total in
+    counting-done : (rest : List ℕ) (r : Tally) → visited (held now t) (c .left) rest ≡ [] → Counting now n is s c rest → r .formed ≡ true → r .records ≡ c .records
+        → Surveyed now n is s r
+    unfolding recordsGiven
+    counting-done rest r e w f g =
+        record {
+          formed = f ∙ ap (bucketsFormed s) (sym e) ∙ w .asks;
+          records =
+              λ _.
+              (let p = w .total in
+              let q : recordsGiven (records now t) (c .zero) (visited (held now t) (c .left) rest) ≡ 0 = ap (recordsGiven (records now t) (c .zero)) e in
+              omega arith);
+        }
+
+    pub counting-ends : (rest : List ℕ) (r : Tally) → rest ≡ [] → Counting now n is s c rest → r .formed ≡ true → r .records ≡ c .records → Surveyed now n is s r
+    counting-ends rest r e = counting-done rest r (ap (visited (held now t) (c .left)) e ∙ visited-end (held now t) (c .left))
+
+    pub counting-full : (rest : List ℕ) (r : Tally) → c .left ≤ 0 → Counting now n is s c rest → r .formed ≡ true → r .records ≡ c .records → Surveyed now n is s r
+    counting-full rest r h =
         let e : c .left ≡ 0 = omega arith in
-        let q : recordsGiven (records now t) (c .zero) (visited (held now t) (c .left) rest) ≡ 0 = rw e (given-none (records now t) (held now t) (c .zero) rest) in
-        omega arith
+        counting-done rest r (ap (λ (m : ℕ). visited (held now t) m rest) e ∙ visited-none (held now t) rest)
 
 -- what one bucket adds
 

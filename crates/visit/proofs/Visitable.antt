@@ -121,10 +121,22 @@ module _ (size : ℕ → ℕ) where
   visited-none [] = refl
   visited-none (i ∷ is) = refl
 
+  pub visited-end : (n : ℕ) → visited size n [] ≡ []
+  unfolding visited
+  visited-end n = refl
+
   pub visited-next : (n i : ℕ) (is : List ℕ) → 0 < n → visited size n (i ∷ is) ≡ i ∷ visited size (n - size i) is
   unfolding visited
   visited-next zero i is h = absurd (omega arith)
   visited-next (suc n) i is h = refl
+
+-- only the sizes of the buckets visited matter
+pub visited-agree : (f g : ℕ → ℕ) (n : ℕ) (is : List ℕ) → All (λ (i : ℕ). g i ≡ f i) (visited f n is) → visited g n is ≡ visited f n is
+unfolding visited
+visited-agree f g n [] h = refl
+visited-agree f g zero (i ∷ is) h = refl
+visited-agree f g (suc n) (i ∷ is) h =
+    ap (λ (m : ℕ). i ∷ visited g (suc n - m) is) (h .0) ∙ ap (λ (js : List ℕ). i ∷ js) (visited-agree f g (suc n - f i) is (h .1))
 
 -- one step of the iterator
 

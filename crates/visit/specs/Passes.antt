@@ -1,18 +1,21 @@
 -- The visit of the buckets: the pendings that are due, the records that the buckets give, and the table that is left.
 use Prim.Native.Nat.{ℕ, _+_, _-_, _≤_, _<_}
 use mathlib.Core.Path.{_≡_}
-use mathlib.Core.Bool.{Bool, false, cond, _&&_, _||_}
+use mathlib.Core.Bool.{Bool, true, cond, _&&_, _||_}
 use mathlib.Core.List.{List, [], _∷_}
-use mathlib.Core.Option.{Option, none, some}
 use lib.ListN.{length}
-use lib.Dec.{eqb, leb}
-use Rattle.model.specs.Node.{PendingNode, EndedPending, placedOf}
-use Rattle.model.specs.Bucket.{Bucket, numEntries, applyPending}
+use lib.Dec.{eqb}
+use Rattle.model.specs.Node.{EndedPending, placedOf}
+use Rattle.model.specs.Bucket.{numEntries, applyPending}
 use Rattle.model.specs.Table.{Table, numBuckets, write}
 use Rattle.model.specs.Listing.{applied, applyAll, visited}
+use Rattle.model.specs.Layout.{tableOf}
+use Rattle.model.specs.Formed.{bucketsFormed}
+use Rattle.model.specs.StepBytes.{restore}
 use Rattle.model.specs.Fits.{All}
 use Rattle.visit.specs.declared.Counted.{Counted}
 use Rattle.visit.specs.declared.Given.{Given}
+use Rattle.visit.specs.declared.Tally.{Tally}
 
 -- the nodes that bucket i holds once its due pending is applied, and the records that it gives then
 abbrev pub held : ℕ → Table → ℕ → ℕ
@@ -47,9 +50,22 @@ pub record CountedAt (now : ℕ) (t : Table) (i : ℕ) (before after : Counted) 
 abbrev pub visitOne : ℕ → ℕ → Table → Table
 visitOne now i t = let a = applyPending (t .settings .bucket) now (t .buckets i) in write t i (a .0) (a .1)
 
--- the table and the records once the buckets that yield n nodes have been visited
+-- the buckets that yield n nodes
+abbrev pub visitedBy : ℕ → ℕ → List ℕ → Table → List ℕ
+visitedBy now n is t = visited (held now t) n is
+
+-- the table and the records once they have been visited
 unfoldable pub visitAll : ℕ → ℕ → List ℕ → Table → Table × List EndedPending
-visitAll now n is t = applyAll now (visited (held now t) n is) t
+visitAll now n is t = applyAll now (visitedBy now n is t) t
+
+-- the storage with the due pendings of the buckets named applied
+unfoldable pub appliedIn : List ℕ → ℕ → List ℕ → List ℕ
+appliedIn s now is = restore s is (applyAll now is (tableOf s) .0)
+
+-- 02, slip 7: question 2 of the buckets that yield n nodes, and the records that they give where it passes
+pub record Surveyed (now n : ℕ) (is : List ℕ) (s : List ℕ) (r : Tally) : Type 0 where
+  pub formed : r .formed ≡ bucketsFormed s (visitedBy now n is (tableOf s))
+  pub records : r .formed ≡ true → r .records ≡ length (visitAll now n is (tableOf s) .1)
 
 -- no bucket but bucket 0 stands twice
 abbrev pub Once : List ℕ → Type 0

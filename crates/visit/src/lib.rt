@@ -1,18 +1,19 @@
-// Internal: the visit of the buckets in a listing's order. A dry run counts the records that it would give, for question 8; the applying
-// pass applies the due pendings in the storage.
+// Internal: the visit of the buckets in a listing's order. A survey asks question 2 of each bucket and counts the records that it would
+// give, for question 8; the applying pass applies the due pendings in the storage.
 ghost use mathlib.Core.Path.{_≡_};
 ghost use mathlib.Core.Bool.{true};
+ghost use mathlib.Core.List.{[], _∷_};
 ghost use Prim.Native.Nat.{_+_, _-_, _≤_, _<_};
 ghost use lib.ListN.{length};
 ghost use Rattle.model.specs.Base.{tabulate};
 ghost use Rattle.model.specs.Bucket.{numEntries};
 ghost use Rattle.model.specs.Table.{numBuckets, maxRecords};
 ghost use Rattle.model.specs.Sizes.{storageSize};
-ghost use Rattle.model.specs.Layout.{tableOf, bytesOf};
-ghost use Rattle.model.specs.Formed.{formed};
+ghost use Rattle.model.specs.Layout.{tableOf};
+ghost use Rattle.model.specs.Formed.{headerFormed, bucketsFormed};
 ghost use Rattle.key.specs.Visits.{remaining};
 ghost use Rattle.on_key.specs.Answers.{Ready, Timely};
-ghost use Rattle.visit.specs.Passes.{GivenAt, CountedAt, visitOne, visitAll, Visitable};
+ghost use Rattle.visit.specs.Passes.{GivenAt, CountedAt, visitOne, visitedBy, visitAll, Visitable, Surveyed, appliedIn};
 use key::BucketIndex;
 use key::ClosestBucketsIter;
 use key::ClosestBucketsIterState;
@@ -26,10 +27,16 @@ pub struct Given {
     pub placed: usize,
 }
 
-// What the dry run has counted: the items that are left to find, whether bucket 0 was visited, and the records.
+// What the survey has counted: the items that are left to find, whether bucket 0 was visited, and the records.
 pub struct Counted {
     pub left: usize,
     pub zero: bool,
+    pub records: usize,
+}
+
+// What the survey tells: every bucket of the visit passes question 2, and if so how many records they give.
+pub struct Tally {
+    pub formed: bool,
     pub records: usize,
 }
 
@@ -91,7 +98,7 @@ fn less(a: usize, b: usize) -> usize
     a - b
 }
 
-// The dry run, one bucket further.
+// The count, one bucket further.
 fn count_at(s: &[u8], i: usize, time: u64, c: Counted) -> Counted
     requires { ⌜ Ready (now s) i ⌝ }
     requires { ⌜ Timely (now s) time ⌝ }
@@ -121,12 +128,13 @@ fn count_at(s: &[u8], i: usize, time: u64, c: Counted) -> Counted
     }
 }
 
-// Internal: how many records the visit of the buckets that yield n items would give. Nothing is written.
-pub fn count_records(s: &[u8], visit: ClosestBucketsIter, n: usize, time: u64) -> usize
-    requires { ⌜ (length (now s) ≡ storageSize) × (formed (now s) ≡ true) ⌝ }
+// Internal: question 2 of each bucket that the visit comes to, up to the one that yields the n-th item, and the records that they would
+// give. Nothing of a bucket is read before it is asked, and nothing is written.
+pub fn survey(s: &[u8], visit: ClosestBucketsIter, n: usize, time: u64) -> Tally
+    requires { ⌜ (length (now s) ≡ storageSize) × (headerFormed (now s) ≡ true) ⌝ }
     requires { ⌜ Timely (now s) time ⌝ }
     requires { ⌜ Visitable (remaining visit) ⌝ }
-    ensures { λ r. ⌜ r ≡ length (visitAll time n (remaining visit) (tableOf (now (s .entry))) .1) ⌝ }
+    ensures { λ r. ⌜ Surveyed time n (remaining visit) (now (s .entry)) r ⌝ }
 {
     let mut it = visit;
     let mut c = Counted {
@@ -140,14 +148,26 @@ pub fn count_records(s: &[u8], visit: ClosestBucketsIter, n: usize, time: u64) -
         let index = next.index;
         match index {
             BucketIndex::Nothing => {
-                return c.records;
+                return Tally {
+                    formed: true,
+                    records: c.records,
+                };
             }
             BucketIndex::At(i) => {
+                if !well_formed::bucket_formed_at(s, i) {
+                    return Tally {
+                        formed: false,
+                        records: 0,
+                    };
+                }
                 c = count_at(s, i, time, c);
             }
         }
     }
-    c.records
+    Tally {
+        formed: true,
+        records: c.records,
+    }
 }
 
 // Internal: applies the pending of bucket i in the storage, if it is due.
@@ -155,8 +175,7 @@ pub fn apply_in(s: &mut [u8], i: usize, time: u64)
     requires { ⌜ Ready (now s) i ⌝ }
     requires { ⌜ Timely (now s) time ⌝ }
     requires { ⌜ length (visitOne time i (tableOf (now s)) .queue) ≤ maxRecords ⌝ }
-    requires { ⌜ formed (now s) ≡ true ⌝ }
-    ensures { λ _. ⌜ now (s .exit) ≡ bytesOf (visitOne time i (tableOf (now (s .entry)))) ⌝ }
+    ensures { λ _. ⌜ now (s .exit) ≡ appliedIn (now (s .entry)) time (i ∷ []) ⌝ }
 {
     if on_key::is_due(s, i, time) {
         let a = on_key::apply_at(s, i, time);
@@ -166,14 +185,20 @@ pub fn apply_in(s: &mut [u8], i: usize, time: u64)
     }
 }
 
-// Internal: visits the buckets that yield n items and applies their due pendings in the storage.
-pub fn apply_all(s: &mut [u8], visit: ClosestBucketsIter, n: usize, time: u64)
-    requires { ⌜ (length (now s) ≡ storageSize) × (formed (now s) ≡ true) ⌝ }
+// Internal: visits the buckets that yield n items and applies their due pendings in the storage. records: what the survey counted; where
+// there is none, none is due.
+pub fn apply_all(s: &mut [u8], visit: ClosestBucketsIter, n: usize, time: u64, records: usize)
+    requires { ⌜ (length (now s) ≡ storageSize) × (headerFormed (now s) ≡ true) ⌝ }
     requires { ⌜ Timely (now s) time ⌝ }
     requires { ⌜ Visitable (remaining visit) ⌝ }
+    requires { ⌜ bucketsFormed (now s) (visitedBy time n (remaining visit) (tableOf (now s))) ≡ true ⌝ }
     requires { ⌜ length (visitAll time n (remaining visit) (tableOf (now s)) .0 .queue) ≤ maxRecords ⌝ }
-    ensures { λ _. ⌜ now (s .exit) ≡ bytesOf (visitAll time n (remaining visit) (tableOf (now (s .entry))) .0) ⌝ }
+    requires { ⌜ records ≡ length (visitAll time n (remaining visit) (tableOf (now s)) .1) ⌝ }
+    ensures { λ _. ⌜ now (s .exit) ≡ appliedIn (now (s .entry)) time (visitedBy time n (remaining visit) (tableOf (now (s .entry)))) ⌝ }
 {
+    if records == 0 {
+        return;
+    }
     let mut it = visit;
     let mut left = n;
     while 0 < left {

@@ -13,9 +13,9 @@ use Rattle.model.specs.Bytes.{part}
 use Rattle.model.specs.Bucket.{maxNodesPerBucket, incomingNodes, emptyBucket}
 use Rattle.model.specs.Table.{numBuckets, maxRecords}
 use Rattle.model.specs.Sizes.{keySize, nodeSize, recordSize, placeAt, bucketSize, maxIncomingAt, tableFilterAt, bucketFilterAt, recordCountAt, paddingAt, paddingSize, recordAt}
-use Rattle.model.specs.Layout.{evictingKind, lastKind, nodesIn, placeIn}
+use Rattle.model.specs.Layout.{evictingKind, lastKind, nodesIn, placeIn, bucketPart}
 use Rattle.model.specs.Formed as model
-use Rattle.model.specs.Formed.{areZero, keyIn, stateAt, pendingFormed, bucketFormed, recordFormed, headerFormed, formed}
+use Rattle.model.specs.Formed.{areZero, keyIn, stateAt, pendingFormed, bucketFormed, bucketFormedAt, recordFormed, headerFormed, formed}
 use Rattle.laws.proofs.Parts.{part-part, getD-part}
 use Rattle.laws.proofs.Zeros.{part-areZero, areZero-within}
 use Rattle.laws.proofs.BucketBytes.{bytes-empty}
@@ -113,6 +113,12 @@ module _ (s : List ℕ) (n : ℕ) (en : n ≡ getD s recordCountAt 0) where
       && (areZero s paddingAt paddingSize && (allBelow n (recordAtFormed s) && areZero s (recordAt n) ((maxRecords - n) * recordSize))))
   unfolding headerFormed recordAtFormed
   header-records h = rw (← en, le-leb n maxRecords h) (simp and-assoc)
+
+-- a bucket of the storage, by the local key and max_incoming as they were read
+pub formed-at : (s : List ℕ) (i : ℕ) {local m : ℕ} → local ≡ keyIn s → m ≡ getD s maxIncomingAt 0 → bucketFormed (ofIndex local i) m (bucketPart s i) ≡ bucketFormedAt s i
+unfolding ofIndex
+formed-at s i {local} {m} e f =
+    ap (λ (l : ℕ). bucketFormed (ofIndex l i) m (bucketPart s i)) e ∙ ap (λ (n : ℕ). bucketFormed (ofIndex (keyIn s) i) n (bucketPart s i)) f
 
 -- the table
 

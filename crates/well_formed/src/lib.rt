@@ -11,7 +11,7 @@ ghost use Rattle.model.specs.Table.{numBuckets, maxRecords};
 ghost use Rattle.model.specs.Sizes.{keySize, nodeSize, recordSize, placeAt, bucketSize, headerSize, storageSize};
 ghost use Rattle.model.specs.Node.{connectedIncoming};
 ghost use Rattle.model.specs.Layout.{nodeIn};
-ghost use Rattle.model.specs.Formed.{areZero, stateAt, notHeld, pendingFormed, bucketFormed, recordFormed, headerFormed, formed};
+ghost use Rattle.model.specs.Formed.{areZero, stateAt, notHeld, pendingFormed, bucketFormed, bucketFormedAt, recordFormed, headerFormed, formed};
 ghost use Rattle.key.specs.Key.{num};
 ghost use Rattle.node.specs.Node.{nodeCodes};
 ghost use Rattle.well_formed.specs.Tests.{ofIndex, differs, placeFormed, nodeAt, recordAtFormed, bucketAtFormed};
@@ -208,6 +208,22 @@ pub fn bucket_formed(s: &[u8], at: usize, local: Key, i: usize, max_incoming: us
     let held = held_formed(s, at, count, first, local, i);
     let within = incoming_within(s, at, count, max_incoming);
     held & ((first <= count) & (within & pending_formed(s, at, count, local, i)))
+}
+
+// Internal: bucket i of the storage is well formed.
+pub fn bucket_formed_at(s: &[u8], i: usize) -> bool
+    requires { ⌜ (storageSize ≤ length (now s)) × (i < numBuckets) ⌝ }
+    ensures { λ r. ⌜ r ≡ bucketFormedAt (now (s .entry)) i ⌝ }
+{
+    let local = Key::load(s, 0);
+    let max_incoming = size(s[Layout::MAX_INCOMING_AT]);
+    bucket_formed(
+        s,
+        Layout::HEADER + i * Layout::BUCKET,
+        local,
+        i,
+        max_incoming,
+    )
 }
 
 // The record of the queue at `at`.

@@ -14,9 +14,9 @@ use Rattle.model.specs.Layout.{tableOf}
 use Rattle.model.specs.Step.{nodeOf, effect}
 use Rattle.node.specs.Node.{valueOf, argumentOf}
 use Rattle.on_key.specs.Start.{AtBucket}
-use Rattle.on_key.proofs.OneKey.{refused-early, refused-kind}
+use Rattle.on_key.proofs.OneKey.{reads-none, refused-early, refused-kind}
 use Rattle.on_key.proofs.Steps.{timely, begun, stepped}
-use Rattle.on_key.proofs.Ended.{ends-full, ends}
+use Rattle.on_key.proofs.Ended.{own-formed, ends-full, ends}
 use Rattle.on_key.proofs.Endings.{absent-ends-none}
 use Rattle.entry.proofs.Kind.{kind-self, kind-at, kind-told, insertCodes, node-codes}
 use borrow.Author.Needs.{needs}
@@ -101,7 +101,7 @@ returns c =
     let h = c .before in
     let k = h .before .before .before .before .before in
     let b = began k in
-    refused-kind (s b) (key b) (KeyCall.absentInsert (value b) (state b) (direction b) (time b)) (at k .passed) (tested h ∙ not-true _ (c .if1 .taken))
+    refused-kind (s b) (key b) (KeyCall.absentInsert (value b) (state b) (direction b) (time b)) (at k .passed) (own-formed (s b) (key b) (KeyCall.absentInsert (value b) (state b) (direction b) (time b)) (at k) refl) (tested h ∙ not-true _ (c .if1 .taken))
 
 -- the key is not pending, and so the insert ends none
 none-ended : (h : tie.After-is-absent) → isAbsent (kindOfKey (key (began (h .before .before .before .before .before))) (tableOf (s (began (h .before .before .before .before .before))))) ≡ true
@@ -140,7 +140,7 @@ returns-2 c =
     let h = e .before in
     let k = h .before .before .before .before .before in
     let b = began k in
-    ends-full (s b) (key b) (KeyCall.absentInsert (value b) (state b) (direction b) (time b)) (at k) (tested h ∙ not-false _ (e .if1 .left)) _ (f .finish .ensures) (none-ended h (tested h ∙ not-false _ (e .if1 .left))) (c .if2 .taken)
+    ends-full (s b) (key b) (KeyCall.absentInsert (value b) (state b) (direction b) (time b)) (at k) (own-formed (s b) (key b) (KeyCall.absentInsert (value b) (state b) (direction b) (time b)) (at k) refl) (tested h ∙ not-false _ (e .if1 .left)) _ (f .finish .ensures) (none-ended h (tested h ∙ not-false _ (e .if1 .left))) (c .if2 .taken)
 
 same-length-3 : tie.Need-same-length-3
 same-length-3 c = search needs
@@ -157,7 +157,7 @@ returns-4 : tie.Need-returns-4
 returns-4 c =
     let b = c .before .before in
     let y = begun (s b) (key b) (some (time b)) (told b) (b .begin-at .ensures) (c .enum-told .given .1) in
-    refused-kind (s b) (key b) (KeyCall.absentInsert (value b) (state b) (direction b) (time b)) (y .0) (ap isAbsent (kind-self (s b) (key b) (y .1)))
+    refused-kind (s b) (key b) (KeyCall.absentInsert (value b) (state b) (direction b) (time b)) (y .0) (reads-none (s b) (key b) (KeyCall.absentInsert (value b) (state b) (direction b) (time b)) (y .1)) (ap isAbsent (kind-self (s b) (key b) (y .1)))
 
 same-length-5 : tie.Need-same-length-5
 same-length-5 c = search needs
@@ -172,7 +172,7 @@ returns-5 c =
     let k = l .before .before .before in
     let b = began k in
     let z = stepped (l .load-bucket .ensures) (λ (u : rules.BucketSettings) (n : ℕ) (x : rules.Bucket). rules.insert u (time b) (record { key = n; value = valueOf (o b .args .value); connected = isOne (state b); incoming = isOne (direction b) }) x) (at k .key-is) (m .insert-sound .ensures .0) (m .insert-sound .ensures .1) in
-    ends (s b) (key b) (KeyCall.absentInsert (value b) (state b) (direction b) (time b)) (at k) (tested h ∙ not-false _ (e .if1 .left)) _ (f .finish .ensures) (none-ended h (tested h ∙ not-false _ (e .if1 .left))) (c .if2 .left) (ap Answer.Insert (z .answer)) (z .bucket)
+    ends (s b) (key b) (KeyCall.absentInsert (value b) (state b) (direction b) (time b)) (at k) (own-formed (s b) (key b) (KeyCall.absentInsert (value b) (state b) (direction b) (time b)) (at k) refl) (tested h ∙ not-false _ (e .if1 .left)) _ (f .finish .ensures) (none-ended h (tested h ∙ not-false _ (e .if1 .left))) (c .if2 .left) (ap Answer.Insert (z .answer)) (z .bucket)
 
 pub absent-insert-spec : {M : Type 1} → statement M
 absent-insert-spec =

@@ -11,7 +11,7 @@ use Rattle.key.specs.Key.{num}
 use Rattle.on_key.specs.Start.{AtBucket}
 use Rattle.on_key.proofs.OneKey.{refused-early, answers-self}
 use Rattle.on_key.proofs.Steps.{timely, begun}
-use Rattle.on_key.proofs.Ended.{ends-full, ends}
+use Rattle.on_key.proofs.Ended.{own-formed, ends-full, ends}
 use Rattle.on_key.proofs.Endings.{no-own}
 use borrow.Author.Needs.{needs}
 use Rattle.entry.proofs.entry.Statement.{statement}
@@ -74,7 +74,7 @@ returns c =
     let a = f .before .before .before .before in
     let k = a .before .before .before in
     let b = began k in
-    (ends-full (s b) (key b) (KeyCall.entry (time b)) (at k) refl _ (f .finish .ensures) (no-own (a .apply-at .ensures .records)) (c .if1 .taken), refl)
+    (ends-full (s b) (key b) (KeyCall.entry (time b)) (at k) (own-formed (s b) (key b) (KeyCall.entry (time b)) (at k) refl) refl _ (f .finish .ensures) (no-own (a .apply-at .ensures .records)) (c .if1 .taken), refl)
 
 same-length-2 : tie.Need-same-length-2
 same-length-2 c = search needs
@@ -106,7 +106,7 @@ returns-4 c =
     let y = a .apply-at .ensures in
     let x = rules.applyPending (tableOf (s b) .settings .bucket) (time b) (tableOf (s b) .buckets (k .start2 .given .0 .1 .0)) .0 in
     let z = m .kind-of .ensures .0 ∙ ap (kindOf (num (k .start2 .given .0 .0))) (y .bucket .bucket) ∙ ap (λ (n : ℕ). kindOf n x) (at k .key-is) in
-    (ends (s b) (key b) (KeyCall.entry (time b)) (at k) refl _ (f .finish .ensures) (no-own (y .records)) (c .if1 .left) (ap Answer.Entry z) (y .bucket .bucket), m .kind-of .ensures .1)
+    (ends (s b) (key b) (KeyCall.entry (time b)) (at k) (own-formed (s b) (key b) (KeyCall.entry (time b)) (at k) refl) refl _ (f .finish .ensures) (no-own (y .records)) (c .if1 .left) (ap Answer.Entry z) (y .bucket .bucket), m .kind-of .ensures .1)
 
 pub entry-spec : {M : Type 1} → statement M
 entry-spec =

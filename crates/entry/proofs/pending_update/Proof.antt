@@ -13,9 +13,9 @@ use Rattle.laws.proofs.Tests.{and-left, and-right}
 use Rattle.bucket.proofs.Steps.{then-becomes}
 use Rattle.on_key.specs.Start.{AtBucket}
 use Rattle.on_key.proofs.Questions.{passed-five}
-use Rattle.on_key.proofs.OneKey.{refused-early, refused-kind}
+use Rattle.on_key.proofs.OneKey.{reads-none, refused-early, refused-kind}
 use Rattle.on_key.proofs.Steps.{begun}
-use Rattle.on_key.proofs.Ended.{ends-full, ends}
+use Rattle.on_key.proofs.Ended.{own-formed, ends-full, ends}
 use Rattle.entry.proofs.Kind.{kind-self, kind-told}
 use borrow.Author.Needs.{needs}
 use Rattle.entry.proofs.pending_update.Statement.{statement}
@@ -86,7 +86,7 @@ returns c =
     let h = c .before in
     let k = h .before .before .before .before .before in
     let b = began k in
-    refused-kind (s b) (key b) (KeyCall.pendingUpdate (state b) (direction b)) (at k .passed) (tested h ∙ not-true _ (c .if1 .taken))
+    refused-kind (s b) (key b) (KeyCall.pendingUpdate (state b) (direction b)) (at k .passed) (own-formed (s b) (key b) (KeyCall.pendingUpdate (state b) (direction b)) (at k) refl) (tested h ∙ not-true _ (c .if1 .taken))
 
 update-pending-sound-requires : tie.Need-update-pending-sound-requires
 update-pending-sound-requires c κs =
@@ -111,7 +111,7 @@ returns-2 c =
     let h = e .before in
     let k = h .before .before .before .before .before in
     let b = began k in
-    ends-full (s b) (key b) (KeyCall.pendingUpdate (state b) (direction b)) (at k) (tested h ∙ not-false _ (e .if1 .left)) _ (f .finish .ensures) refl (c .if2 .taken)
+    ends-full (s b) (key b) (KeyCall.pendingUpdate (state b) (direction b)) (at k) (own-formed (s b) (key b) (KeyCall.pendingUpdate (state b) (direction b)) (at k) refl) (tested h ∙ not-false _ (e .if1 .left)) _ (f .finish .ensures) refl (c .if2 .taken)
 
 same-length-3 : tie.Need-same-length-3
 same-length-3 c = search needs
@@ -128,7 +128,7 @@ returns-4 : tie.Need-returns-4
 returns-4 c =
     let b = c .before .before in
     let y = begun (s b) (key b) none refl (b .begin .ensures) (c .enum-told .given .1) in
-    refused-kind (s b) (key b) (KeyCall.pendingUpdate (state b) (direction b)) (y .0) (ap isPending (kind-self (s b) (key b) (y .1)))
+    refused-kind (s b) (key b) (KeyCall.pendingUpdate (state b) (direction b)) (y .0) (reads-none (s b) (key b) (KeyCall.pendingUpdate (state b) (direction b)) (y .1)) (ap isPending (kind-self (s b) (key b) (y .1)))
 
 same-length-5 : tie.Need-same-length-5
 same-length-5 c = search needs
@@ -143,7 +143,7 @@ returns-5 c =
     let k = l .before .before .before in
     let b = began k in
     let z = then-becomes (l .load-bucket .ensures) (λ (u : rules.BucketSettings) (x : rules.Bucket). rules.updatePending (isOne (state b)) (isOne (direction b)) x) (m .update-pending-sound .ensures) in
-    ends (s b) (key b) (KeyCall.pendingUpdate (state b) (direction b)) (at k) (tested h ∙ not-false _ (e .if1 .left)) _ (f .finish .ensures) refl (c .if2 .left) refl (z .bucket)
+    ends (s b) (key b) (KeyCall.pendingUpdate (state b) (direction b)) (at k) (own-formed (s b) (key b) (KeyCall.pendingUpdate (state b) (direction b)) (at k) refl) (tested h ∙ not-false _ (e .if1 .left)) _ (f .finish .ensures) refl (c .if2 .left) refl (z .bucket)
 
 pub pending-update-spec : {M : Type 1} → statement M
 pending-update-spec =

@@ -16,9 +16,9 @@ use Rattle.laws.proofs.Tests.{and-left, and-right}
 use Rattle.bucket.specs.Calls.{recordsOf, updateResultOf}
 use Rattle.on_key.specs.Start.{AtBucket}
 use Rattle.on_key.proofs.Questions.{passed-five}
-use Rattle.on_key.proofs.OneKey.{refused-early, refused-kind}
+use Rattle.on_key.proofs.OneKey.{reads-none, refused-early, refused-kind}
 use Rattle.on_key.proofs.Steps.{Stepped, begun, stepped}
-use Rattle.on_key.proofs.Ended.{ends-full, ends}
+use Rattle.on_key.proofs.Ended.{own-formed, ends-full, ends}
 use Rattle.on_key.proofs.Endings.{stored-status-records}
 use Rattle.entry.proofs.Kind.{kind-self, kind-told}
 use borrow.Author.Needs.{needs}
@@ -90,7 +90,7 @@ returns c =
     let h = c .before in
     let k = h .before .before .before .before .before in
     let b = began k in
-    refused-kind (s b) (key b) (KeyCall.presentUpdate (state b) (direction b)) (at k .passed) (tested h ∙ not-true _ (c .if1 .taken))
+    refused-kind (s b) (key b) (KeyCall.presentUpdate (state b) (direction b)) (at k .passed) (own-formed (s b) (key b) (KeyCall.presentUpdate (state b) (direction b)) (at k) refl) (tested h ∙ not-true _ (c .if1 .taken))
 
 update-status-sound-requires : tie.Need-update-status-sound-requires
 update-status-sound-requires c κs =
@@ -149,7 +149,7 @@ returns-2 : tie.Need-returns-2
 returns-2 c =
     let f = c .before .before .before in
     let r = f .before .before in
-    ends-full (s (b r)) (key (b r)) (call r) (at (here r)) (tested (asked r) ∙ not-false _ (did r .before .if1 .left)) _ (f .finish .ensures) (records r) (c .if2 .taken)
+    ends-full (s (b r)) (key (b r)) (call r) (at (here r)) (own-formed (s (b r)) (key (b r)) (call r) (at (here r)) refl) (tested (asked r) ∙ not-false _ (did r .before .if1 .left)) _ (f .finish .ensures) (records r) (c .if2 .taken)
 
 same-length-3 : tie.Need-same-length-3
 same-length-3 c = search needs
@@ -166,7 +166,7 @@ returns-4 : tie.Need-returns-4
 returns-4 c =
     let b = c .before .before in
     let y = begun (s b) (key b) none refl (b .begin .ensures) (c .enum-told .given .1) in
-    refused-kind (s b) (key b) (KeyCall.presentUpdate (state b) (direction b)) (y .0) (ap isPresent (kind-self (s b) (key b) (y .1)))
+    refused-kind (s b) (key b) (KeyCall.presentUpdate (state b) (direction b)) (y .0) (reads-none (s b) (key b) (KeyCall.presentUpdate (state b) (direction b)) (y .1)) (ap isPresent (kind-self (s b) (key b) (y .1)))
 
 same-length-5 : tie.Need-same-length-5
 same-length-5 c = search needs
@@ -175,7 +175,7 @@ returns-5 : tie.Need-returns-5
 returns-5 c =
     let f = c .before .before .before in
     let r = f .before .before in
-    ends (s (b r)) (key (b r)) (call r) (at (here r)) (tested (asked r) ∙ not-false _ (did r .before .if1 .left)) _ (f .finish .ensures) (records r) (c .if2 .left)
+    ends (s (b r)) (key (b r)) (call r) (at (here r)) (own-formed (s (b r)) (key (b r)) (call r) (at (here r)) refl) (tested (asked r) ∙ not-false _ (did r .before .if1 .left)) _ (f .finish .ensures) (records r) (c .if2 .left)
     (ap Answer.Update (step r .answer)) (step r .bucket)
 
 pub present-update-spec : {M : Type 1} → statement M

@@ -3,8 +3,10 @@ use native.Mathlib.Omega.{arith}
 use mathlib.Core.Path.{_≡_, refl, sym, ap, _∙_}
 use mathlib.Core.Bool.{Bool, true, _&&_}
 use mathlib.Core.List.{List}
+use lib.ListN.{length}
 use mathlib.Core.Option.{none, some}
 use lib.Dec.{leb}
+use borrow.Author.Tests.{leb-true}
 use Rattle.model.specs.Bytes.{number}
 use Rattle.model.specs.Bucket as rules
 use Rattle.model.specs.Table.{indexIn}
@@ -12,16 +14,19 @@ use Rattle.model.specs.Layout.{tableOf}
 use Rattle.model.specs.Step.{nodeOf}
 use Rattle.model.specs.Call.{ValueArgument, KeyCall, valueOf, isOne}
 use Rattle.model.specs.Question.{valueInRange, isAbsent}
-use Rattle.model.specs.Explain.{toldInsert, insertReason}
+use Rattle.model.specs.Explain.{explanationRoom, toldInsert, insertReason}
 use Rattle.laws.proofs.Tests.{and-turned}
 use Rattle.node.specs.Node.{argumentOf}
 use Rattle.on_key.specs.Answers.{failedOfFive}
 use Rattle.on_key.specs.Start.{AtBucket}
 use Rattle.on_key.proofs.Questions.{passed-five}
-use Rattle.on_key.proofs.Steps.{timely, begun, stepped}
+use Rattle.on_key.proofs.OneKey.{reads-none}
+use Rattle.on_key.proofs.Ended.{own-formed}
+use Rattle.on_key.proofs.Steps.{timely, stepped}
 use Rattle.entry.proofs.Kind.{kind-self, kind-told}
 use Rattle.on_key.proofs.Endings.{stored-insert-records}
-use Rattle.explain.proofs.Ends.{refused-early, ends-local, ends-at, reason-told}
+use Rattle.explain.proofs.Ends.{opened, refused-early, ends-local, ends-at, reason-told}
+use Rattle.reasons.proofs.OfTable.{own-insert, own-told}
 use borrow.Author.Needs.{needs}
 use Rattle.explain.proofs.explain_absent_insert.Statement.{statement}
 use Rattle.explain.proofs.explain_absent_insert.Tie as tie
@@ -39,6 +44,9 @@ module _ (b : tie.After-begin-at) where
 
   abbrev out : List ℕ
   out = o .args .out .now
+
+  abbrev room : Bool
+  room = leb explanationRoom (length out)
 
   abbrev value : ValueArgument
   value = argumentOf (o .args .value)
@@ -79,15 +87,15 @@ module _ (e : tie.After-enum-told) where
   abbrev there : tie.After-begin-at
   there = e .before .before
 
-  local : (failedOfFive (key there) (codes there) (some (time there)) (s there) ≡ none) × (indexIn (tableOf (s there)) (number (key there)) ≡ none)
-  local = begun (s there) (key there) (some (time there)) (asked there) (there .begin-at .ensures) (e .enum-told .given .1)
+  local : (room there ≡ true) × ((failedOfFive (key there) (codes there) (some (time there)) (s there) ≡ none) × (indexIn (tableOf (s there)) (number (key there)) ≡ none))
+  local = opened (s there) (key there) (some (time there)) (room there) (asked there) (there .begin-at .ensures) (e .enum-told .given .1)
 
 ended-local-requires : tie.Need-ended-local-requires
 ended-local-requires c κs =
     let e = c .before in
     let b = there e in
-    let p = passed-five (s b) (key b) (codes b) (some (time b)) (local e .0) in
-    (p .size, p .formed)
+    let p = passed-five (s b) (key b) (codes b) (some (time b)) (local e .1 .0) in
+    ((p .size, p .header), leb-true explanationRoom (length (out b)) (local e .0))
 
 enum-known-start-2 : tie.Need-enum-known-start-2
 enum-known-start-2 c = search needs
@@ -97,8 +105,11 @@ module _ (k : tie.After-start2) where
   abbrev began : tie.After-begin-at
   began = k .before .before
 
+  opening : (room began ≡ true) × AtBucket (s began) (key began) (codes began) (some (time began)) (k .start2 .given .0 .0) (k .start2 .given .0 .1 .0)
+  opening = opened (s began) (key began) (some (time began)) (room began) (asked began) (began .begin-at .ensures) (k .start2 .given .1)
+
   at : AtBucket (s began) (key began) (codes began) (some (time began)) (k .start2 .given .0 .0) (k .start2 .given .0 .1 .0)
-  at = begun (s began) (key began) (some (time began)) (asked began) (began .begin-at .ensures) (k .start2 .given .1)
+  at = opening .1
 
   in-range : codes began ≡ true
   in-range = passed-five (s began) (key began) (codes began) (some (time began)) (at .passed) .in-range
@@ -140,13 +151,12 @@ ended-requires c κs =
     let l = h .before .before in
     let k = l .before .before in
     let b = began k in
-    let p = passed-five (s b) (key b) (codes b) (some (time b)) (at k .passed) in
-    ((p .size, p .formed), w .insert-reason .ensures .sound)
+    ((at k .ready .size, at k .ready .header, own-told (w .insert-reason .ensures) (s b) (own-insert _ _ _)), (w .insert-reason .ensures .sound, leb-true explanationRoom (length (out b)) (opening k .0)))
 
 returns : tie.Need-returns
 returns c =
     let b = c .before .before .before in
-    refused-early (s b) (key b) (call b) (out b) (begun (s b) (key b) (some (time b)) (asked b) (b .begin-at .ensures) (c .before .start .given .1))
+    refused-early (s b) (key b) (call b) (out b) (opened (s b) (key b) (some (time b)) (room b) (asked b) (b .begin-at .ensures) (c .before .start .given .1))
 
 same-length : tie.Need-same-length
 same-length c = search needs
@@ -156,7 +166,7 @@ returns-2 c =
     let x = c .before .before in
     let e = x .before .before in
     let b = there e in
-    ends-local (s b) (key b) (call b) (out b) (local e .0) (sym (ap isAbsent (kind-self (s b) (key b) (local e .1)))) (local e .1) refl refl (x .ended-local .ensures)
+    ends-local (s b) (key b) (call b) (out b) (local e .0) (local e .1 .0) (reads-none (s b) (key b) (call b) (local e .1 .1)) (sym (ap isAbsent (kind-self (s b) (key b) (local e .1 .1)))) (local e .1 .1) refl refl (x .ended-local .ensures)
 
 same-length-2 : tie.Need-same-length-2
 same-length-2 c = search needs
@@ -172,7 +182,7 @@ returns-3 c =
     let k = l .before .before in
     let b = began k in
     let z = stepped (l .load-bucket .ensures) (λ (u : rules.BucketSettings) (n : ℕ) (y : rules.Bucket). rules.insert u (time b) (record { key = n; value = valueOf (value b); connected = isOne (state b); incoming = isOne (direction b) }) y) (at k .key-is) (m .insert-sound .ensures .0) (m .insert-sound .ensures .1) in
-    ends-at (s b) (key b) (call b) (out b) (at k .passed) (h .is-absent .ensures ∙ sym (ap isAbsent (kind-told (at k) (l .load-bucket .ensures) (h .before .kind-of .ensures .0)))) (at k .index)
+    ends-at (s b) (key b) (call b) (out b) (opening k .0) (at k .passed) (own-formed (s b) (key b) (call b) (at k) refl) (h .is-absent .ensures ∙ sym (ap isAbsent (kind-told (at k) (l .load-bucket .ensures) (h .before .kind-of .ensures .0)))) (at k .index)
     (stored-insert-records _ _ _ (m .insert-sound .result .bucket) (l .load-bucket .ensures) (at k .key-is) (r .record-of .ensures .0) (time b) (nodeOf (key b) (value b) (state b) (direction b)) refl (z .bucket))
     (w .before .told-insert .ensures ∙ ap toldInsert (z .answer)) (reason-told (l .load-bucket .ensures) (λ (bs : ℕ → rules.Bucket) (u : rules.BucketSettings) (n : ℕ) (y : rules.Bucket). insertReason u (record { key = n; value = valueOf (value b); connected = isOne (state b); incoming = isOne (direction b) }) y) (at k .key-is) (w .insert-reason .ensures) _) (x .ended .ensures)
 

@@ -1,27 +1,34 @@
 use Prim.Native.Nat.{ℕ}
 use native.Mathlib.Omega.{arith}
-use mathlib.Core.Path.{_≡_, refl, ap, _∙_}
+use mathlib.Core.Path.{_≡_, refl, ap, _∙_, sym, subst}
 use mathlib.Core.Bool.{Bool, true, cond, _&&_}
 use mathlib.Core.List.{List}
+use lib.ListN.{length}
 use mathlib.Core.Option.{none, some}
 use lib.Dec.{leb}
 use borrow.Author.Tests.{leb-true}
 use Rattle.model.specs.Bytes.{number}
+use Rattle.model.specs.Value.{Value}
 use Rattle.model.specs.Bucket as rules
 use Rattle.model.specs.Table.{Answer, failsTableFilter, updateNodeIn, indexIn}
 use Rattle.model.specs.Layout.{tableOf}
+use Rattle.model.specs.Formed.{bucketsFormed, formed}
 use Rattle.model.specs.Call.{ValueArgument, KeyCall, valueOf, optional}
 use Rattle.model.specs.Question.{valueInRange}
 use Rattle.model.specs.Explain as model
-use Rattle.model.specs.Explain.{told, tableFilterReason, updateNodeReason}
+use Rattle.model.specs.Explain.{explanationRoom, told, tableFilterReason, updateNodeReason}
 use Rattle.laws.proofs.Tests.{and-left, and-right}
 use Rattle.node.specs.Node.{argumentOf}
 use Rattle.on_key.specs.Answers.{failedOfFive}
+use Rattle.table_filter.specs.Filtered.{filterReads, AskedFilter, isMalformed, hasFailed}
+use Rattle.table_filter.proofs.Asked.{malformed-read, answer-told, failed-formed}
 use Rattle.on_key.specs.Start.{AtBucket}
 use Rattle.on_key.proofs.Questions.{passed-five}
-use Rattle.on_key.proofs.Steps.{timely, begun, stepped}
+use Rattle.on_key.proofs.OneKey.{reads-none, reads-are}
+use Rattle.on_key.proofs.Steps.{timely, stepped}
 use Rattle.on_key.proofs.Endings.{update-records}
-use Rattle.explain.proofs.Ends.{refused-early, ends-local, ends-at, reason-told}
+use Rattle.explain.proofs.Ends.{opened, refused-early, refused-read, ends-local, ends-at, reason-told}
+use Rattle.reasons.proofs.OfTable.{own-update-node, own-unless, filter-told}
 use borrow.Author.Needs.{needs}
 use Rattle.explain.proofs.explain_update_node.Statement.{statement}
 use Rattle.explain.proofs.explain_update_node.Tie as tie
@@ -39,6 +46,9 @@ module _ (b : tie.After-begin-at) where
 
   abbrev out : List ℕ
   out = o .args .out .now
+
+  abbrev room : Bool
+  room = leb explanationRoom (length out)
 
   abbrev value : ValueArgument
   value = argumentOf (o .args .value)
@@ -83,15 +93,15 @@ module _ (e : tie.After-enum-told) where
   abbrev there : tie.After-begin-at
   there = e .before .before
 
-  local : (failedOfFive (key there) (codes there) (some (time there)) (s there) ≡ none) × (indexIn (tableOf (s there)) (number (key there)) ≡ none)
-  local = begun (s there) (key there) (some (time there)) (asked there) (there .begin-at .ensures) (e .enum-told .given .1)
+  local : (room there ≡ true) × ((failedOfFive (key there) (codes there) (some (time there)) (s there) ≡ none) × (indexIn (tableOf (s there)) (number (key there)) ≡ none))
+  local = opened (s there) (key there) (some (time there)) (room there) (asked there) (there .begin-at .ensures) (e .enum-told .given .1)
 
 ended-local-requires : tie.Need-ended-local-requires
 ended-local-requires c κs =
     let e = c .before in
     let b = there e in
-    let p = passed-five (s b) (key b) (codes b) (some (time b)) (local e .0) in
-    (p .size, p .formed)
+    let p = passed-five (s b) (key b) (codes b) (some (time b)) (local e .1 .0) in
+    ((p .size, p .header), leb-true explanationRoom (length (out b)) (local e .0))
 
 enum-known-start-2 : tie.Need-enum-known-start-2
 enum-known-start-2 c = search needs
@@ -101,28 +111,80 @@ module _ (k : tie.After-start2) where
   abbrev began : tie.After-begin-at
   began = k .before .before
 
+  opening : (room began ≡ true) × AtBucket (s began) (key began) (codes began) (some (time began)) (k .start2 .given .0 .0) (k .start2 .given .0 .1 .0)
+  opening = opened (s began) (key began) (some (time began)) (room began) (asked began) (began .begin-at .ensures) (k .start2 .given .1)
+
   at : AtBucket (s began) (key began) (codes began) (some (time began)) (k .start2 .given .0 .0) (k .start2 .given .0 .1 .0)
-  at = begun (s began) (key began) (some (time began)) (asked began) (began .begin-at .ensures) (k .start2 .given .1)
+  at = opening .1
 
   in-range : codes began ≡ true
   in-range = passed-five (s began) (key began) (codes began) (some (time began)) (at .passed) .in-range
 
-table-filter-fails-requires : tie.Need-table-filter-fails-requires
-table-filter-fails-requires c κs =
-    let k = c .before in
+asked-filter-requires : tie.Need-asked-filter-requires
+asked-filter-requires c κs = let r = at (c .before) .ready in (r .size, r .below, r .bucket)
+
+is-malformed-requires : tie.Need-is-malformed-requires
+is-malformed-requires c κs = search needs
+
+-- the table filter, as it was asked
+module _ (m : tie.After-is-malformed) where
+  abbrev filter : tie.After-asked-filter
+  filter = m .before
+
+  abbrev for-key : tie.After-start2
+  for-key = filter .before .before
+
+  abbrev v : Value
+  v = valueOf (value (began for-key))
+
+  abbrev index : ℕ
+  index = for-key .start2 .given .0 .1 .0
+
+  -- for the key as the bytes that were given
+  told-filter : AskedFilter (s (began for-key)) index (number (key (began for-key))) v (filter .asked-filter .result)
+  told-filter = subst (λ (n : ℕ). AskedFilter (s (began for-key)) index n v (filter .asked-filter .result)) (at for-key .key-is) (filter .asked-filter .ensures)
+
+  is-bad : isMalformed (filter .asked-filter .result) ≡ m .is-malformed .result
+  is-bad = sym (m .is-malformed .ensures)
+
+returns : tie.Need-returns
+returns c =
+    let m = c .before in
+    let k = for-key m in
     let b = began k in
-    (at k .ready .size, passed-five (s b) (key b) (codes b) (some (time b)) (at k .passed) .formed, at k .ready .below)
+    let d = malformed-read (s b) (index m) (number (key b)) (v m) (filter m .asked-filter .result) (told-filter m) (is-bad m ∙ c .if1 .taken) in
+    refused-read (s b) (key b) (call b) (out b) (opening k .0) (at k .passed) (reads-are (s b) (key b) (call b) (at k .index) d)
+
+has-failed-requires : tie.Need-has-failed-requires
+has-failed-requires c κs = search needs
+
+-- what it answered
+module _ (h : tie.After-has-failed) where
+  abbrev asked-for : tie.After-is-malformed
+  asked-for = h .before .before
+
+  abbrev here : tie.After-start2
+  here = for-key asked-for
+
+  read : (bucketsFormed (s (began here)) (filterReads (tableOf (s (began here))) (index asked-for) (number (key (began here))) (v asked-for)) ≡ true)
+      × (hasFailed (filter asked-for .asked-filter .result) ≡ failsTableFilter (tableOf (s (began here))) (index asked-for) (number (key (began here))) (v asked-for))
+  read = answer-told (s (began here)) (index asked-for) (number (key (began here))) (v asked-for) (filter asked-for .asked-filter .result) (told-filter asked-for) (is-bad asked-for ∙ h .before .if1 .left)
+
+  table-formed : h .has-failed .result ≡ true → formed (s (began here)) ≡ true
+  table-formed e =
+      failed-formed (s (began here)) (index asked-for) (number (key (began here))) (v asked-for) (filter asked-for .asked-filter .result) (told-filter asked-for) (sym (h .has-failed .ensures) ∙ e)
+      (at here .ready .header)
 
 apply-at-requires : tie.Need-apply-at-requires
 apply-at-requires c κs =
-    let k = c .before .before in
+    let k = here c in
     let b = began k in
     (at k .ready, timely (s b) (key b) (codes b) (time b) (at k .passed))
 
 update-node-in-requires : tie.Need-update-node-in-requires
 update-node-in-requires c κs =
     let a = c .before in
-    let k = a .before .before .before in
+    let k = here (a .before) in
     let b = began k in
     let z = a .apply-at .ensures .bucket in
     (z .sound, (and-left (valueInRange (value b)) (leb (state b) 2) (in-range k), (leb-true (state b) 2 (and-right (valueInRange (value b)) (leb (state b) 2) (in-range k)), omega (arith, ap (λ (u : rules.BucketSettings). u .pendingTimeout) (z .settings), timely (s b) (key b) (codes b) (time b) (at k .passed)))))
@@ -136,7 +198,7 @@ told-update-requires c κs = search needs
 update-node-why-requires : tie.Need-update-node-why-requires
 update-node-why-requires c κs =
     let a = c .before .before .before .before .before in
-    let k = a .before .before .before in
+    let k = here (a .before) in
     let b = began k in
     let z = a .apply-at .ensures .bucket in
     (z .sound, (and-left (valueInRange (value b)) (leb (state b) 2) (in-range k), leb-true (state b) 2 (and-right (valueInRange (value b)) (leb (state b) 2) (in-range k))))
@@ -147,49 +209,48 @@ ended-requires c κs =
     let r = w .before .before in
     let m = r .before .before in
     let a = m .before .before in
-    let k = a .before .before .before in
+    let k = here (a .before) in
     let b = began k in
-    let p = passed-five (s b) (key b) (codes b) (some (time b)) (at k .passed) in
-    ((p .size, p .formed), w .update-node-why .ensures .sound)
+    ((at k .ready .size, at k .ready .header, filter-told (w .update-node-why .ensures) (s b) (a .before .has-failed .result) (own-unless (a .before .has-failed .result) _ _ (own-update-node _ _ _ _ _)) (table-formed (a .before))), (w .update-node-why .ensures .sound, leb-true explanationRoom (length (out b)) (opening k .0)))
 
-returns : tie.Need-returns
-returns c =
+returns-2 : tie.Need-returns-2
+returns-2 c =
     let b = c .before .before .before in
-    refused-early (s b) (key b) (call b) (out b) (begun (s b) (key b) (some (time b)) (asked b) (b .begin-at .ensures) (c .before .start .given .1))
+    refused-early (s b) (key b) (call b) (out b) (opened (s b) (key b) (some (time b)) (room b) (asked b) (b .begin-at .ensures) (c .before .start .given .1))
 
 same-length : tie.Need-same-length
 same-length c = search needs
 
-returns-2 : tie.Need-returns-2
-returns-2 c =
+returns-3 : tie.Need-returns-3
+returns-3 c =
     let x = c .before .before in
     let e = x .before .before in
     let b = there e in
-    ends-local (s b) (key b) (call b) (out b) (local e .0) refl (local e .1) refl refl (x .ended-local .ensures)
+    ends-local (s b) (key b) (call b) (out b) (local e .0) (local e .1 .0) (reads-none (s b) (key b) (call b) (local e .1 .1)) refl (local e .1 .1) refl refl (x .ended-local .ensures)
 
 same-length-2 : tie.Need-same-length-2
 same-length-2 c = search needs
 
-returns-3 : tie.Need-returns-3
-returns-3 c =
+returns-4 : tie.Need-returns-4
+returns-4 c =
     let x = c .before .before in
     let w = x .before .before in
     let r = w .before .before in
     let m = r .before .before in
     let a = m .before .before in
-    let k = a .before .before .before in
+    let k = here (a .before) in
     let b = began k in
     let g = a .before in
     let t = tableOf (s b) in
     let i = k .start2 .given .0 .1 .0 in
     let u = t .settings .bucket in
     let y = rules.applyPending u (time b) (t .buckets i) .0 in
-    let f = g .table-filter-fails .ensures ∙ ap (λ (n : ℕ). failsTableFilter t i n (valueOf (value b))) (at k .key-is) in
-    let z = stepped (a .apply-at .ensures .bucket) (does b (g .table-filter-fails .result)) (at k .key-is) (m .update-node-in .ensures .0) (m .update-node-in .ensures .1) in
-    ends-at (s b) (key b) (call b) (out b) (at k .passed) refl (at k .index)
+    let f = g .has-failed .ensures ∙ read g .1 in
+    let z = stepped (a .apply-at .ensures .bucket) (does b (g .has-failed .result)) (at k .key-is) (m .update-node-in .ensures .0) (m .update-node-in .ensures .1) in
+    ends-at (s b) (key b) (call b) (out b) (opening k .0) (at k .passed) (reads-are (s b) (key b) (call b) (at k .index) (read g .0)) refl (at k .index)
     (update-records _ (time b) _ _ (m .update-node-in .result .bucket) (a .apply-at .ensures .bucket) (a .apply-at .ensures .records) (at k .key-is) (r .record-of .ensures .0) (failsTableFilter t i (number (key b)) (valueOf (value b))) (valueOf (value b)) (optional (state b)) (z .bucket ∙ ap (λ (q : Bool). does b q u (number (key b)) y .1) f))
     (w .before .told-update .ensures ∙ ap told (z .answer ∙ ap (λ (q : Bool). does b q u (number (key b)) y .0) f))
-    (reason-told (a .apply-at .ensures .bucket) (why b (g .table-filter-fails .result)) (at k .key-is) (w .update-node-why .ensures) _ ∙ ap (λ (q : Bool). why b q (t .buckets) u (number (key b)) y) f) (x .ended .ensures)
+    (reason-told (a .apply-at .ensures .bucket) (why b (g .has-failed .result)) (at k .key-is) (w .update-node-why .ensures) _ ∙ ap (λ (q : Bool). why b q (t .buckets) u (number (key b)) y) f) (x .ended .ensures)
 
 pub explain-update-node-spec : {M : Type 1} → statement M
 explain-update-node-spec =
@@ -201,15 +262,18 @@ explain-update-node-spec =
     enum-told
     ended-local-requires
     enum-known-start-2
-    table-filter-fails-requires
+    asked-filter-requires
+    is-malformed-requires
+    returns
+    has-failed-requires
     apply-at-requires
     update-node-in-requires
     record-of-requires
     told-update-requires
     update-node-why-requires
     ended-requires
-    returns
-    same-length
     returns-2
+    same-length
+    returns-3
     same-length-2
-    returns-3)
+    returns-4)

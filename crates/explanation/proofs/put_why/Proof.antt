@@ -1,6 +1,7 @@
 use borrow.Author.Needs.{needs}
+use Rattle.model.specs.Layout.{tableOf}
 use Rattle.explanation.specs.Explanation.{whyOf, whyText}
-use Rattle.explanation.proofs.Keys.{keys-text-none}
+use Rattle.explanation.proofs.Keys.{keys-text-none, table-filter-why}
 use Rattle.explanation.proofs.put_why.Statement.{statement}
 use Rattle.explanation.proofs.put_why.Tie as tie
 
@@ -17,7 +18,9 @@ enum-known-reason : tie.Need-enum-known-reason
 enum-known-reason c = search needs
 
 put-table-filter-requires : tie.Need-put-table-filter-requires
-put-table-filter-requires c κs = (c .before .before .before .before .before .before .before .before .pre .0, c .before .before .before .before .before .before .before .before .pre .1 .1)
+put-table-filter-requires c κs =
+    let o = c .before .before .before .before .before .before .before .before in
+    ((o .pre .0 .0, o .pre .0 .1 (table-filter-why (tableOf (o .args .s .now) .buckets) (o .args .why) (c .before .before .reason .given .1))), o .pre .1 .1)
 
 enum-told-2 : tie.Need-enum-told-2
 enum-told-2 c = search needs

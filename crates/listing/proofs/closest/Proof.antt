@@ -45,7 +45,7 @@ list-requires c κs =
     let a = i .before .before .before .before .before .before .args in
     let q = refusal-none _ (i .asked-at .ensures) (e .if1 .left) in
     let p = passed-five (a .s .now) (a .target .now) _ (some (a .time)) q in
-    ((p .size, p .formed), timely (a .s .now) (a .target .now) _ (a .time) q)
+    ((p .size, p .header), timely (a .s .now) (a .target .now) _ (a .time) q)
 
 same-length-2 : tie.Need-same-length-2
 same-length-2 c = search needs
@@ -60,14 +60,12 @@ returns-2 c =
     let e = k .before in
     let i = e .before in
     let g = i .before .before in
-    let o = g .before .before .before in
-    let a = o .before .args in
+    let a = g .before .before .before .before .args in
     let s = a .s .now in
     let target = a .target .now in
     let q = refusal-none _ (i .asked-at .ensures) (e .if1 .left) in
-    let p = passed-five s target _ (some (a .time)) q in
     listed-is (closestListing (a .form) target) (a .n) (a .time) (a .out .now) s (firstFive target (formCodes (a .form)) (some (a .time)) s)
-    (closest-asked (a .form) target (a .n) (a .time) (a .out .now) s) (first-five target (a .time) s (g .in-range .ensures) q) (λ j. o .slice-known .given j .fits) (p .size) (p .formed)
+    (closest-asked (a .form) target (a .n) (a .time) (a .out .now) s) (first-five target (a .time) s (g .in-range .ensures) q)
     (Shape.Closest (k .key-of .result) (a .form)) (closest-gives (a .form) target (k .key-of .result) (k .key-of .ensures) (tableOf s) (a .n) (a .time)) (w .list .ensures)
 
 pub closest-spec : {M : Type 1} → statement M

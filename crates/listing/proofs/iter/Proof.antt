@@ -29,7 +29,7 @@ list-requires c κs =
     let i = e .before in
     let a = i .before .before .before .before .args in
     let p = passed-three (a .s .now) (a .time) (refusal-none _ (i .asked-time .ensures) (e .if1 .left)) in
-    ((p .size, p .formed), p .timely)
+    ((p .size, p .header), p .timely)
 
 same-length-2 : tie.Need-same-length-2
 same-length-2 c = search needs
@@ -42,13 +42,11 @@ returns-2 c =
     let w = c .before .before .before .before in
     let e = w .before .before .before in
     let i = e .before in
-    let o = i .before .before .before in
-    let a = o .before .args in
+    let a = i .before .before .before .before .args in
     let s = a .s .now in
     let q = refusal-none _ (i .asked-time .ensures) (e .if1 .left) in
-    let p = passed-three s (a .time) q in
     listed-is Listing.iter (a .n) (a .time) (a .out .now) s (firstThree (a .time) s) (iter-asked (a .n) (a .time) (a .out .now) s) (first-three (a .time) s q)
-    (λ j. o .slice-known .given j .fits) (p .size) (p .formed) Shape.Nodes (iter-gives (tableOf s) (a .n) (a .time)) (w .list .ensures)
+    Shape.Nodes (iter-gives (tableOf s) (a .n) (a .time)) (w .list .ensures)
 
 pub iter-spec : {M : Type 1} → statement M
 iter-spec =

@@ -1,21 +1,17 @@
 use mathlib.Core.Path.{refl, ap, subst}
-use Prim.Native.Nat.{ℕ, _<_}
 use native.Mathlib.Omega.{arith}
 use lib.ListN.{length}
-use Rattle.model.specs.Table.{numBuckets}
 use Rattle.model.specs.Layout.{tableOf}
-use Rattle.model.specs.Fits.{All}
 use Rattle.key.specs.Visits.{remaining}
-use Rattle.on_key.proofs.Steps.{ready-at}
 use Rattle.visit.proofs.Visitable.{step-at, step-end}
 use Rattle.listing.specs.Listed.{firstNodes}
-use Rattle.listing.proofs.Putting.{Putting, putting-starts, putting-next, putting-ends, putting-full}
+use Rattle.listing.proofs.Putting.{Putting, putting-starts, putting-ready, putting-next, putting-ends, putting-full}
 use borrow.Author.Needs.{needs}
 use Rattle.listing.proofs.put_all.Statement.{statement}
 use Rattle.listing.proofs.put_all.Tie as tie
 
 abbrev Inv-loop : tie.InvT-loop
-Inv-loop s shape out₀ n it₀ k₀ out it k = Putting shape (tableOf s) n (firstNodes n shape (tableOf s) (remaining it₀)) out₀ out k (remaining it)
+Inv-loop s shape out₀ n it₀ k₀ out it k = Putting shape s n (firstNodes n shape (tableOf s) (remaining it₀)) out₀ out k (remaining it)
 
 abbrev μ-loop : tie.MeasureT-loop
 μ-loop s shape out₀ n it₀ k₀ out it k = length (remaining it)
@@ -23,7 +19,7 @@ abbrev μ-loop : tie.MeasureT-loop
 loop-holds : tie.Need-loop-holds Inv-loop μ-loop
 loop-holds c =
     let o = c .before .before in
-    putting-starts (o .args .shape) (tableOf (o .args .s .now)) (o .args .n) (remaining (o .args .visit)) (o .args .out .now) (o .pre .1 .0 .below)
+    putting-starts (o .args .shape) (o .args .s .now) (o .args .n) (remaining (o .args .visit)) (o .args .out .now) (o .pre .1 .0 .below) (o .pre .1 .1 .0)
 
 next-requires : tie.Need-next-requires Inv-loop μ-loop
 next-requires c κs = search needs
@@ -39,7 +35,7 @@ returns c =
     let x = c .before .before .before in
     let l = x .before .before in
     let a = l .before .before .before .args in
-    putting-ends (a .shape) (tableOf (a .s .now)) (a .n) _ (a .out .now) (l .loop .out) (l .loop .k) (remaining (l .loop .it)) _ refl (step-end (x .next .ensures) (c .enum-told .given .1)) (l .loop .inv)
+    putting-ends (a .shape) (a .s .now) (a .n) _ (a .out .now) (l .loop .out) (l .loop .k) (remaining (l .loop .it)) _ refl (step-end (x .next .ensures) (c .enum-told .given .1)) (l .loop .inv)
 
 enum-known-index : tie.Need-enum-known-index Inv-loop μ-loop
 enum-known-index c = search needs
@@ -52,8 +48,11 @@ put-bucket-requires c κs =
     let o = l .before .before .before in
     let a = o .args in
     let e = step-at (x .next .ensures) (y .before .index .given .1) in
-    let b = subst (All (λ (i : ℕ). i < numBuckets)) e (l .loop .inv .below) in
-    (ready-at (a .s .now) _ (o .pre .0 .0) (o .pre .0 .1) (b .0), (l .loop .inv .within, (o .pre .1 .1 .0, rw (l .loop .inv .size) (o .pre .1 .1 .1))))
+    let ns = firstNodes (a .n) (a .shape) (tableOf (a .s .now)) (remaining (a .visit)) in
+    let w = subst (Putting (a .shape) (a .s .now) (a .n) ns (a .out .now) (l .loop .out) (l .loop .k)) e (l .loop .inv) in (
+      putting-ready (a .shape) (a .s .now) (a .n) ns (a .out .now) (l .loop .out) (l .loop .k) _ _ (o .pre .0 .0) (o .pre .0 .1) (x .before .loop-test .taken) w,
+      (l .loop .inv .within, (o .pre .1 .1 .1 .0, rw (l .loop .inv .size) (o .pre .1 .1 .1 .1))),
+    )
 
 loop-less : tie.Need-loop-less Inv-loop μ-loop
 loop-less c =
@@ -72,8 +71,8 @@ loop-again c =
     let a = o .args in
     let e = step-at (x .next .ensures) (y .before .index .given .1) in
     let ns = firstNodes (a .n) (a .shape) (tableOf (a .s .now)) (remaining (a .visit)) in
-    let w = subst (Putting (a .shape) (tableOf (a .s .now)) (a .n) ns (a .out .now) (l .loop .out) (l .loop .k)) e (l .loop .inv) in
-    putting-next (a .shape) (tableOf (a .s .now)) (a .n) ns (a .out .now) (l .loop .out) (l .loop .k) _ _ _ _ (o .pre .1 .1 .1) w (z .put-bucket .ensures .0) (z .put-bucket .ensures .1)
+    let w = subst (Putting (a .shape) (a .s .now) (a .n) ns (a .out .now) (l .loop .out) (l .loop .k)) e (l .loop .inv) in
+    putting-next (a .shape) (a .s .now) (a .n) ns (a .out .now) (l .loop .out) (l .loop .k) _ _ _ _ (o .pre .1 .1 .1 .1) (x .before .loop-test .taken) w (z .put-bucket .ensures .0) (z .put-bucket .ensures .1)
 
 same-length-2 : tie.Need-same-length-2 Inv-loop μ-loop
 same-length-2 c = c .before .loop .inv .size
@@ -82,7 +81,7 @@ returns-2 : tie.Need-returns-2 Inv-loop μ-loop
 returns-2 c =
     let l = c .before in
     let a = l .before .before .before .args in
-    putting-full (a .shape) (tableOf (a .s .now)) (a .n) _ (a .out .now) (l .loop .out) (l .loop .k) (remaining (l .loop .it)) _ refl (c .loop-test .left) (l .loop .inv)
+    putting-full (a .shape) (a .s .now) (a .n) _ (a .out .now) (l .loop .out) (l .loop .k) (remaining (l .loop .it)) _ refl (c .loop-test .left) (l .loop .inv)
 
 pub put-all-spec : {M : Type 1} → statement M
 put-all-spec =

@@ -1,14 +1,14 @@
 use Rattle.model.specs.Bytes.{Bytes}
 use mathlib.Core.Path.{sym, _∙_}
 use borrow.Author.Tests.{not-true, not-false}
-use Rattle.on_key.proofs.Questions.{refusal-none, refusal-some, passed-two}
+use Rattle.on_key.proofs.Questions.{refusal-none, refusal-some, passed-table}
 use Rattle.loaded.proofs.Whole.{read-refused, read-unfit, read-long, read-sized, read-held, read-blank, read-loaded}
 use borrow.Author.Needs.{needs}
 use Rattle.loaded.proofs.read.Statement.{statement}
 use Rattle.loaded.proofs.read.Tie as tie
 
-asked-storage-requires : tie.Need-asked-storage-requires
-asked-storage-requires c κs = search needs
+asked-table-requires : tie.Need-asked-table-requires
+asked-table-requires c κs = search needs
 
 same-length : tie.Need-same-length
 same-length c = search needs
@@ -17,13 +17,13 @@ returns : tie.Need-returns
 returns c =
     let q = c .before in
     let a = q .before .before .before .before .args in
-    read-refused (a .s .now) (a .bytes .now) _ (refusal-some _ (q .asked-storage .ensures) (c .if1 .taken))
+    read-refused (a .s .now) (a .bytes .now) _ (refusal-some _ (q .asked-table .ensures) (c .if1 .taken))
 
 load-fits-requires : tie.Need-load-fits-requires
 load-fits-requires c κs =
     let e = c .before in
     let q = e .before in
-    let p = passed-two (q .before .before .before .before .args .s .now) (refusal-none _ (q .asked-storage .ensures) (e .if1 .left)) in
+    let p = passed-table (q .before .before .before .before .args .s .now) (refusal-none _ (q .asked-table .ensures) (e .if1 .left)) in
     (p .size, p .formed)
 
 same-length-2 : tie.Need-same-length-2
@@ -37,7 +37,7 @@ returns-2 c =
     let b = q .before .before in
     let k = b .before in
     let a = k .before .args in
-    read-unfit (a .s .now) (a .bytes .now) (λ i. k .slice-known .given i .fits) (refusal-none _ (q .asked-storage .ensures) (e .if1 .left)) (sym (f .load-fits .ensures) ∙ not-true _ (c .if2 .taken))
+    read-unfit (a .s .now) (a .bytes .now) (λ i. k .slice-known .given i .fits) (refusal-none _ (q .asked-table .ensures) (e .if1 .left)) (sym (f .load-fits .ensures) ∙ not-true _ (c .if2 .taken))
 
 saved-nodes-requires : tie.Need-saved-nodes-requires
 saved-nodes-requires c κs =
@@ -47,7 +47,7 @@ saved-nodes-requires c κs =
     let b = q .before .before in
     let k = b .before in
     let a = k .before .args in
-    read-long (a .s .now) (a .bytes .now) (λ i. k .slice-known .given i .fits) (refusal-none _ (q .asked-storage .ensures) (e .if1 .left)) (λ i. b .shared-slice-known .given i .fits)
+    read-long (a .s .now) (a .bytes .now) (λ i. k .slice-known .given i .fits) (refusal-none _ (q .asked-table .ensures) (e .if1 .left)) (λ i. b .shared-slice-known .given i .fits)
     (sym (f .load-fits .ensures) ∙ not-false _ (c .if2 .left))
 
 load-all-requires : tie.Need-load-all-requires
@@ -61,7 +61,7 @@ load-all-requires c κs =
     let k = b .before in
     let a = k .before .args in
     let known : Bytes (a .s .now) = λ i. k .slice-known .given i .fits in
-    let passed = refusal-none _ (q .asked-storage .ensures) (e .if1 .left) in
+    let passed = refusal-none _ (q .asked-table .ensures) (e .if1 .left) in
     let given : Bytes (a .bytes .now) = λ i. b .shared-slice-known .given i .fits in
     let fits = sym (f .load-fits .ensures) ∙ not-false _ (g .if2 .left) in (
       read-sized (a .s .now) (a .bytes .now) known passed given fits _ (n .saved-nodes .ensures .0),
@@ -82,14 +82,14 @@ returns-3 c =
     let b = q .before .before in
     let k = b .before in
     let a = k .before .args in
-    read-loaded (a .s .now) (a .bytes .now) (λ i. k .slice-known .given i .fits) (refusal-none _ (q .asked-storage .ensures) (e .if1 .left)) (λ i. b .shared-slice-known .given i .fits)
+    read-loaded (a .s .now) (a .bytes .now) (λ i. k .slice-known .given i .fits) (refusal-none _ (q .asked-table .ensures) (e .if1 .left)) (λ i. b .shared-slice-known .given i .fits)
     (sym (f .load-fits .ensures) ∙ not-false _ (g .if2 .left)) _ (n .saved-nodes .ensures .0) _ (w .load-all .ensures)
 
 pub read-spec : {M : Type 1} → statement M
 read-spec =
     tie.close
     (tie.spec
-    asked-storage-requires
+    asked-table-requires
     same-length
     returns
     load-fits-requires

@@ -7,28 +7,28 @@ use Rattle.model.specs.Table.{numBuckets}
 use Rattle.model.specs.Sizes.{nodeSize}
 use Rattle.model.specs.Layout.{tableOf}
 use Rattle.model.specs.Saved.{allNodes}
-use Rattle.on_key.specs.Answers.{failedOfTwo}
-use Rattle.on_key.proofs.Questions.{PassedTwo, passed-two, refusal-none, refusal-some}
+use Rattle.on_key.specs.Answers.{failedOfTable}
+use Rattle.on_key.proofs.Questions.{PassedTable, passed-table, refusal-none, refusal-some}
 use Rattle.saved.proofs.Output.{keys-fit, entries-fit, refused-early, refused-short, answered, saved-put}
 use borrow.Author.Needs.{needs}
 use Rattle.saved.proofs.write.Statement.{statement}
 use Rattle.saved.proofs.write.Tie as tie
 
-asked-storage-requires : tie.Need-asked-storage-requires
-asked-storage-requires c κs = search needs
+asked-table-requires : tie.Need-asked-table-requires
+asked-table-requires c κs = search needs
 
 returns : tie.Need-returns
 returns c =
     let i = c .before in
     let a = i .before .before .before .args in
-    refused-early (a .out .now) (a .s .now) (refusal-some _ (i .asked-storage .ensures) (c .if1 .taken))
+    refused-early (a .out .now) (a .s .now) (refusal-some _ (i .asked-table .ensures) (c .if1 .taken))
 
 -- questions 1 and 2 passed
-two : (c : tie.Else1) → failedOfTwo (c .before .before .before .before .args .s .now) ≡ none
-two c = refusal-none _ (c .before .asked-storage .ensures) (c .if1 .left)
+two : (c : tie.Else1) → failedOfTable (c .before .before .before .before .args .s .now) ≡ none
+two c = refusal-none _ (c .before .asked-table .ensures) (c .if1 .left)
 
-passed : (c : tie.Else1) → PassedTwo (c .before .before .before .before .args .s .now)
-passed c = passed-two _ (two c)
+passed : (c : tie.Else1) → PassedTable (c .before .before .before .before .args .s .now)
+passed c = passed-table _ (two c)
 
 total-requires : tie.Need-total-requires
 total-requires c κs =
@@ -88,7 +88,7 @@ pub write-spec : {M : Type 1} → statement M
 write-spec =
     tie.close
     (tie.spec
-    asked-storage-requires
+    asked-table-requires
     returns
     total-requires
     mul-if2

@@ -10,7 +10,7 @@ use Rattle.model.specs.Call.{KeyCall}
 use Rattle.on_key.specs.Start.{AtBucket}
 use Rattle.on_key.proofs.OneKey.{refused-early, answers-self}
 use Rattle.on_key.proofs.Steps.{timely, begun, stepped}
-use Rattle.on_key.proofs.Ended.{ends-full, ends}
+use Rattle.on_key.proofs.Ended.{own-formed, ends-full, ends}
 use Rattle.on_key.proofs.Endings.{no-own}
 use borrow.Author.Needs.{needs}
 use Rattle.table.proofs.remove.Statement.{statement}
@@ -79,7 +79,7 @@ returns c =
     let a = f .before .before .before .before .before in
     let k = a .before .before .before in
     let b = began k in
-    ends-full (s b) (key b) (KeyCall.remove (time b)) (at k) refl _ (f .finish .ensures) (no-own (a .apply-at .ensures .records)) (c .if1 .taken)
+    ends-full (s b) (key b) (KeyCall.remove (time b)) (at k) (own-formed (s b) (key b) (KeyCall.remove (time b)) (at k) refl) refl _ (f .finish .ensures) (no-own (a .apply-at .ensures .records)) (c .if1 .taken)
 
 same-length-2 : tie.Need-same-length-2
 same-length-2 c = search needs
@@ -109,7 +109,7 @@ returns-4 c =
     let k = a .before .before .before in
     let b = began k in
     let z = stepped (a .apply-at .ensures .bucket) (λ (u : rules.BucketSettings) (n : ℕ) (x : rules.Bucket). rules.remove u (time b) n x) (at k .key-is) (m .remove-sound .ensures .0) (m .remove-sound .ensures .1) in
-    ends (s b) (key b) (KeyCall.remove (time b)) (at k) refl _ (f .finish .ensures) (no-own (a .apply-at .ensures .records)) (c .if1 .left) (ap Answer.Remove (z .answer)) (z .bucket)
+    ends (s b) (key b) (KeyCall.remove (time b)) (at k) (own-formed (s b) (key b) (KeyCall.remove (time b)) (at k) refl) refl _ (f .finish .ensures) (no-own (a .apply-at .ensures .records)) (c .if1 .left) (ap Answer.Remove (z .answer)) (z .bucket)
 
 pub remove-spec : {M : Type 1} → statement M
 remove-spec =

@@ -1,6 +1,5 @@
 use mathlib.Core.Path.{refl}
 use borrow.Author.Needs.{needs}
-use Rattle.laws.proofs.TableBytes.{header-passes}
 use Rattle.bucket.specs.Calls.{recordsOf}
 use Rattle.on_key.proofs.Questions.{refusal-none, refusal-some, passed-two}
 use Rattle.table.proofs.Whole.{take-refused, take-accepted}
@@ -24,7 +23,7 @@ take-record-requires c κs =
     let i = e .before in
     let s = i .before .before .before .args .s .now in
     let p = passed-two s (refusal-none _ (i .asked-storage .ensures) (e .if1 .left)) in
-    (p .size, header-passes s (p .formed))
+    (p .size, p .header)
 
 same-length-2 : tie.Need-same-length-2
 same-length-2 c = search needs

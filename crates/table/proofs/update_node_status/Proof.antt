@@ -19,7 +19,7 @@ use Rattle.on_key.specs.Start.{AtBucket}
 use Rattle.on_key.proofs.Questions.{passed-five}
 use Rattle.on_key.proofs.OneKey.{refused-early, answers-self}
 use Rattle.on_key.proofs.Steps.{Stepped, timely, begun, stepped}
-use Rattle.on_key.proofs.Ended.{ends-full, ends}
+use Rattle.on_key.proofs.Ended.{own-formed, ends-full, ends}
 use Rattle.on_key.proofs.Endings.{status-records}
 use borrow.Author.Needs.{needs}
 use Rattle.table.proofs.update_node_status.Statement.{statement}
@@ -123,7 +123,7 @@ returns : tie.Need-returns
 returns c =
     let f = c .before .before .before in
     let r = f .before .before in
-    ends-full (s (b r)) (key (b r)) (call r) (at (here r)) refl _ (f .finish .ensures) (records r) (c .if1 .taken)
+    ends-full (s (b r)) (key (b r)) (call r) (at (here r)) (own-formed (s (b r)) (key (b r)) (call r) (at (here r)) refl) refl _ (f .finish .ensures) (records r) (c .if1 .taken)
 
 same-length-2 : tie.Need-same-length-2
 same-length-2 c = search needs
@@ -149,7 +149,7 @@ returns-4 : tie.Need-returns-4
 returns-4 c =
     let f = c .before .before .before in
     let r = f .before .before in
-    ends (s (b r)) (key (b r)) (call r) (at (here r)) refl _ (f .finish .ensures) (records r) (c .if1 .left) (ap Answer.Update (step r .answer)) (step r .bucket)
+    ends (s (b r)) (key (b r)) (call r) (at (here r)) (own-formed (s (b r)) (key (b r)) (call r) (at (here r)) refl) refl _ (f .finish .ensures) (records r) (c .if1 .left) (ap Answer.Update (step r .answer)) (step r .bucket)
 
 pub update-node-status-spec : {M : Type 1} → statement M
 update-node-status-spec =

@@ -1,6 +1,6 @@
 use native.Mathlib.Omega.{arith}
 use Rattle.model.specs.Layout.{tableOf}
-use Rattle.table_filter.proofs.Held.{bucket-count}
+use Rattle.table_filter.proofs.Held.{own-count}
 use borrow.Author.Needs.{needs}
 use Rattle.table_filter.proofs.is_duplicate.Statement.{statement}
 use Rattle.table_filter.proofs.is_duplicate.Tie as tie
@@ -14,7 +14,7 @@ add-holds-value c = search needs
 holds-value-requires : tie.Need-holds-value-requires
 holds-value-requires c κs =
     let a = c .before .args in
-    (omega arith, bucket-count (a .s .now) (a .i) (c .before .pre .1) (c .before .pre .2))
+    (omega arith, own-count (a .s .now) (a .i) (c .before .pre .2))
 
 returns : tie.Need-returns
 unfolding tableOf

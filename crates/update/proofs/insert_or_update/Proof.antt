@@ -1,24 +1,28 @@
 use Prim.Native.Nat.{ℕ}
 use native.Mathlib.Omega.{arith}
-use mathlib.Core.Path.{_≡_, refl, ap, _∙_, subst}
+use mathlib.Core.Path.{_≡_, refl, sym, ap, _∙_, subst}
 use mathlib.Core.Bool.{Bool, true, _&&_}
 use mathlib.Core.List.{List}
 use mathlib.Core.Option.{some}
 use lib.Dec.{leb}
 use Rattle.model.specs.Bytes.{number}
+use Rattle.model.specs.Value.{Value}
 use Rattle.model.specs.Bucket as rules
 use Rattle.model.specs.Table.{Table, Answer, failsTableFilter, insertOrUpdateIn}
 use Rattle.model.specs.Step.{nodeOf, effect}
 use Rattle.model.specs.Layout.{tableOf}
+use Rattle.model.specs.Formed.{bucketsFormed}
 use Rattle.model.specs.Call.{ValueArgument, KeyCall, valueOf, isOne}
 use Rattle.model.specs.Question.{valueInRange}
 use Rattle.laws.proofs.Tests.{and-turned}
 use Rattle.node.specs.Node.{argumentOf}
 use Rattle.bucket.specs.Calls.{recordsOf}
 use Rattle.bucket_update.specs.Results.{tableInsertResultOf}
+use Rattle.table_filter.specs.Filtered.{filterReads, AskedFilter, isMalformed, hasFailed}
+use Rattle.table_filter.proofs.Asked.{malformed-read, answer-told}
 use Rattle.on_key.specs.Start.{AtBucket}
 use Rattle.on_key.proofs.Questions.{passed-five}
-use Rattle.on_key.proofs.OneKey.{refused-early, answers-self}
+use Rattle.on_key.proofs.OneKey.{ReadFormed, reads-are, refused-early, refused-read, answers-self}
 use Rattle.on_key.proofs.Steps.{Stepped, timely, begun, stepped}
 use Rattle.on_key.proofs.Ended.{ends-full, ends}
 use Rattle.on_key.proofs.Endings.{insert-or-update-records}
@@ -88,22 +92,57 @@ known-codes k =
     let b = began k in
     and-turned (valueInRange (value b)) (leb (state b) 1) (leb (direction b) 1) (passed-five (s b) (key b) (codes b) (some (time b)) (at k .passed) .in-range)
 
-table-filter-fails-requires : tie.Need-table-filter-fails-requires
-table-filter-fails-requires c κs =
-    let k = c .before .before in
+asked-filter-requires : tie.Need-asked-filter-requires
+asked-filter-requires c κs = let r = at (c .before .before) .ready in (r .size, r .below, r .bucket)
+
+is-malformed-requires : tie.Need-is-malformed-requires
+is-malformed-requires c κs = search needs
+
+-- the table filter, as it was asked
+module _ (m : tie.After-is-malformed) where
+  abbrev asked : tie.After-asked-filter
+  asked = m .before
+
+  abbrev for-key : tie.After-start2
+  for-key = asked .before .before .before
+
+  abbrev v : Value
+  v = valueOf (value (began for-key))
+
+  abbrev index : ℕ
+  index = for-key .start2 .given .0 .1 .0
+
+  -- for the key as the bytes that were given
+  told-filter : AskedFilter (s (began for-key)) index (number (key (began for-key))) v (asked .asked-filter .result)
+  told-filter = subst (λ (n : ℕ). AskedFilter (s (began for-key)) index n v (asked .asked-filter .result)) (at for-key .key-is) (asked .asked-filter .ensures)
+
+  is-bad : isMalformed (asked .asked-filter .result) ≡ m .is-malformed .result
+  is-bad = sym (m .is-malformed .ensures)
+
+same-length : tie.Need-same-length
+same-length c = search needs
+
+returns : tie.Need-returns
+returns c =
+    let m = c .before in
+    let k = for-key m in
     let b = began k in
-    (at k .ready .size, passed-five (s b) (key b) (codes b) (some (time b)) (at k .passed) .formed, at k .ready .below)
+    let d = malformed-read (s b) (index m) (number (key b)) (v m) (asked m .asked-filter .result) (told-filter m) (is-bad m ∙ c .if1 .taken) in
+    refused-read (s b) (key b) (KeyCall.insertOrUpdate (value b) (state b) (direction b) (time b)) (at k .passed) (reads-are (s b) (key b) (KeyCall.insertOrUpdate (value b) (state b) (direction b) (time b)) (at k .index) d)
+
+has-failed-requires : tie.Need-has-failed-requires
+has-failed-requires c κs = search needs
 
 apply-at-requires : tie.Need-apply-at-requires
 apply-at-requires c κs =
-    let k = c .before .before .before .before in
+    let k = c .before .before .before .before .before .before .before in
     let b = began k in
     (at k .ready, timely (s b) (key b) (codes b) (time b) (at k .passed))
 
 insert-or-update-in-requires : tie.Need-insert-or-update-in-requires
 insert-or-update-in-requires c κs =
     let a = c .before in
-    let k = a .before .before .before .before .before in
+    let k = a .before .before .before .before .before .before .before .before in
     let b = began k in
     let z = a .apply-at .ensures .bucket in
     (z .sound, (known-codes k, omega (arith, ap (λ (u : rules.BucketSettings). u .pendingTimeout) (z .settings), timely (s b) (key b) (codes b) (time b) (at k .passed))))
@@ -119,11 +158,14 @@ module _ (r : tie.After-record-of) where
   abbrev applied : tie.After-apply-at
   applied = did .before .before
 
-  abbrev filtered : tie.After-table-filter-fails
+  abbrev filtered : tie.After-has-failed
   filtered = applied .before .before
 
+  abbrev malformed : tie.After-is-malformed
+  malformed = filtered .before .before
+
   abbrev here : tie.After-start2
-  here = filtered .before .before .before
+  here = for-key malformed
 
   abbrev b : tie.After-begin-at
   b = began here
@@ -143,13 +185,19 @@ module _ (r : tie.After-record-of) where
   abbrev found : rules.Bucket
   found = rules.applyPending (t .settings .bucket) (time b) (t .buckets i) .0
 
-  filter-told : filtered .table-filter-fails .result ≡ fails
-  filter-told = filtered .table-filter-fails .ensures ∙ ap (λ (n : ℕ). failsTableFilter t i n (valueOf (value b))) (at here .key-is)
+  read : (bucketsFormed (s b) (filterReads t i (number (key b)) (valueOf (value b))) ≡ true) × (hasFailed (asked malformed .asked-filter .result) ≡ fails)
+  read = answer-told (s b) i (number (key b)) (valueOf (value b)) (asked malformed .asked-filter .result) (told-filter malformed) (is-bad malformed ∙ filtered .before .if1 .left)
+
+  fails-told : filtered .has-failed .result ≡ fails
+  fails-told = filtered .has-failed .ensures ∙ read .1
+
+  all-read : ReadFormed (s b) (key b) call
+  all-read = reads-are (s b) (key b) call (at here .index) (read .0)
 
   step : Stepped Answer (does b fails (t .settings .bucket) (number (key b)) found) (Answer.InsertOrUpdate (tableInsertResultOf (did .insert-or-update-in .result .result))) (did .insert-or-update-in .result .bucket)
   step =
-      subst (λ (q : Bool). Stepped Answer (does b q (t .settings .bucket) (number (key b)) found) (Answer.InsertOrUpdate (tableInsertResultOf (did .insert-or-update-in .result .result))) (did .insert-or-update-in .result .bucket)) filter-told
-      (stepped (applied .apply-at .ensures .bucket) (does b (filtered .table-filter-fails .result)) (at here .key-is) (did .insert-or-update-in .ensures .0) (did .insert-or-update-in .ensures .1))
+      subst (λ (q : Bool). Stepped Answer (does b q (t .settings .bucket) (number (key b)) found) (Answer.InsertOrUpdate (tableInsertResultOf (did .insert-or-update-in .result .result))) (did .insert-or-update-in .result .bucket)) fails-told
+      (stepped (applied .apply-at .ensures .bucket) (does b (filtered .has-failed .result)) (at here .key-is) (did .insert-or-update-in .ensures .0) (did .insert-or-update-in .ensures .1))
 
   records : recordsOf (r .record-of .result) ≡ effect call (key b) t i (t .buckets i) .records
   records =
@@ -161,40 +209,40 @@ finish-requires c κs =
     let r = c .before in
     (at (here r) .ready, (r .record-of .ensures .1, step r .sound))
 
-same-length : tie.Need-same-length
-same-length c = search needs
-
-returns : tie.Need-returns
-returns c =
-    let f = c .before .before .before in
-    let r = f .before .before in
-    ends-full (s (b r)) (key (b r)) (call r) (at (here r)) refl _ (f .finish .ensures) (records r) (c .if1 .taken)
-
 same-length-2 : tie.Need-same-length-2
 same-length-2 c = search needs
 
 returns-2 : tie.Need-returns-2
 returns-2 c =
-    let b = c .before .before .before in
-    refused-early (s b) (key b) (KeyCall.insertOrUpdate (value b) (state b) (direction b) (time b)) _ (begun (s b) (key b) (some (time b)) (told b) (b .begin-at .ensures) (c .before .start .given .1))
+    let f = c .before .before .before in
+    let r = f .before .before in
+    ends-full (s (b r)) (key (b r)) (call r) (at (here r)) (all-read r) refl _ (f .finish .ensures) (records r) (c .if2 .taken)
 
 same-length-3 : tie.Need-same-length-3
 same-length-3 c = search needs
 
 returns-3 : tie.Need-returns-3
 returns-3 c =
-    let b = c .before .before in
-    let y = begun (s b) (key b) (some (time b)) (told b) (b .begin-at .ensures) (c .enum-told .given .1) in
-    answers-self (s b) (key b) (KeyCall.insertOrUpdate (value b) (state b) (direction b) (time b)) (y .0) refl (λ j. b .before .before .before .before .slice-known .given j .fits) (y .1)
+    let b = c .before .before .before in
+    refused-early (s b) (key b) (KeyCall.insertOrUpdate (value b) (state b) (direction b) (time b)) _ (begun (s b) (key b) (some (time b)) (told b) (b .begin-at .ensures) (c .before .start .given .1))
 
 same-length-4 : tie.Need-same-length-4
 same-length-4 c = search needs
 
 returns-4 : tie.Need-returns-4
 returns-4 c =
+    let b = c .before .before in
+    let y = begun (s b) (key b) (some (time b)) (told b) (b .begin-at .ensures) (c .enum-told .given .1) in
+    answers-self (s b) (key b) (KeyCall.insertOrUpdate (value b) (state b) (direction b) (time b)) (y .0) refl (λ j. b .before .before .before .before .slice-known .given j .fits) (y .1)
+
+same-length-5 : tie.Need-same-length-5
+same-length-5 c = search needs
+
+returns-5 : tie.Need-returns-5
+returns-5 c =
     let f = c .before .before .before in
     let r = f .before .before in
-    ends (s (b r)) (key (b r)) (call r) (at (here r)) refl _ (f .finish .ensures) (records r) (c .if1 .left) (step r .answer) (step r .bucket)
+    ends (s (b r)) (key (b r)) (call r) (at (here r)) (all-read r) refl _ (f .finish .ensures) (records r) (c .if2 .left) (step r .answer) (step r .bucket)
 
 pub insert-or-update-spec : {M : Type 1} → statement M
 insert-or-update-spec =
@@ -205,16 +253,20 @@ insert-or-update-spec =
     enum-known-start
     enum-told
     enum-known-start-2
-    table-filter-fails-requires
+    asked-filter-requires
+    is-malformed-requires
+    same-length
+    returns
+    has-failed-requires
     apply-at-requires
     insert-or-update-in-requires
     record-of-requires
     finish-requires
-    same-length
-    returns
     same-length-2
     returns-2
     same-length-3
     returns-3
     same-length-4
-    returns-4)
+    returns-4
+    same-length-5
+    returns-5)

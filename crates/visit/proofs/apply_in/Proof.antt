@@ -21,7 +21,7 @@ write-back-requires c κs =
     let o = p .before .before .before .before .before .before in
     let a = o .args in
     let x = p .apply-at .ensures in
-    (o .pre .0, (visit-room (a .s .now) (a .time) (a .i) (recordsOf (p .apply-at .result .applied)) (x .records) (o .pre .1 .1 .0), (x .codes, x .bucket .sound)))
+    (o .pre .0, (visit-room (a .s .now) (a .time) (a .i) (recordsOf (p .apply-at .result .applied)) (x .records) (o .pre .1 .1), (x .codes, x .bucket .sound)))
 
 same-length : tie.Need-same-length
 same-length c = search needs
@@ -30,12 +30,11 @@ returns : tie.Need-returns
 returns c =
     let w = c .before .before in
     let p = w .before .before .before in
-    let k = p .before .before .before .before .before in
-    let o = k .before in
+    let o = p .before .before .before .before .before .before in
     let a = o .args in
     let x = p .apply-at .ensures in
     w .write-back .ensures ∙ ap₂ (λ (b : Bucket) (rs : List EndedPending). rewritten (a .s .now) (a .i) b rs) (x .bucket .bucket) (x .records)
-    ∙ visit-written (a .s .now) (λ j. k .slice-known .given j .fits) (o .pre .0 .size) (o .pre .1 .1 .1) (a .time) (a .i) (o .pre .0 .below) (o .pre .1 .1 .0)
+    ∙ visit-written (a .s .now) (a .time) (a .i)
 
 same-length-2 : tie.Need-same-length-2
 same-length-2 c = search needs
@@ -46,7 +45,7 @@ returns-2 c =
     let k = d .before .before in
     let o = k .before in
     let a = o .args in
-    visit-unwritten (a .s .now) (λ j. k .slice-known .given j .fits) (o .pre .0 .size) (o .pre .1 .1 .1) (a .time) (a .i) (sym (d .is-due .ensures) ∙ c .if1 .left)
+    visit-unwritten (a .s .now) (a .time) (a .i) (λ j. k .slice-known .given j .fits) (o .pre .0) (o .pre .1 .0) (o .pre .1 .1) (sym (d .is-due .ensures) ∙ c .if1 .left)
 
 pub apply-in-spec : {M : Type 1} → statement M
 apply-in-spec =

@@ -57,9 +57,9 @@ Set-up that writes the bytes without asking (I is a bucket's index, or b for the
   out=K              after a listing: its output has room for K entries, and not for K + 1; after an explanation or 'write': it has K bytes
   ! CALL             the call gets its storage, or bucket, one byte short
 
-'Refused Q' is a call that changed nothing, since question Q failed: 1 the storage's length, 2 its form, 3 a key's length, 4 a code,
-5 NOW + TIMEOUT, 6 N or the output's length, 7 the entry's kind, 8 room in the queue of records, 9 the bytes to be read, or a table that
-holds a node, a pending or a record.
+'Refused Q' is a call that changed nothing, since question Q failed: 1 the storage's length, 2 the form of settings, queue and, asked after
+6, the buckets that the call reads, 3 a key's length, 4 a code, 5 NOW + TIMEOUT, 6 N or the output's length, 7 the entry's kind, 8 room in
+the queue of records, 9 the bytes to be read, or a table that holds a node, a pending or a record.
 
 Other answers are sigp/discv5's names; host/CALLS.md has them all, and the form of a dump. 'explain' gives a call's answer before it is made,
 the reason, and the keys behind it: 'Failed BucketFull pending KEY'. The table stays as it is.
@@ -111,11 +111,30 @@ impl Tool {
     }
 }
 
+impl Tool {
+    /// An accepted call but `new` has read no malformed bucket, and these keep their bytes (02, slip 7).
+    fn check_malformed(&mut self) -> Result<(), Unanswered> {
+        let before = TableBytes(std::mem::take(&mut self.lent.before));
+        let changed = |i: &usize| {
+            before.0[layout::bucket_at(*i)..][..layout::BUCKET]
+                != self.table.0[layout::bucket_at(*i)..][..layout::BUCKET]
+        };
+        let broken = (0..BUCKETS).filter(changed).find(|i| !before.bucket_formed(*i));
+        self.lent.before = before.0;
+        match broken {
+            Some(i) => Err(Unanswered::Broken(format!("accepted, and bucket {i} changed, which is malformed"))),
+            None => Ok(()),
+        }
+    }
+}
+
 impl Implementation for Tool {
     fn table_call(&mut self, short: bool, call: &TableCall, out: &mut Vec<u8>) -> Result<(), Unanswered> {
         let may_write = !matches!(call, TableCall::Explain { .. } | TableCall::Write { .. });
         let run = |storage: &mut [u8], output: &mut Output| table_call(storage, call, output, out);
-        self.lent.call(&mut self.table.0, short, may_write, call, run)
+        self.lent.call(&mut self.table.0, short, may_write, call, run)?;
+        let keeps = may_write && !matches!(call, TableCall::New { .. });
+        if keeps { self.check_malformed() } else { Ok(()) }
     }
 
     fn bucket_call(&mut self, short: bool, call: &BucketCall, out: &mut Vec<u8>) -> Result<(), Unanswered> {

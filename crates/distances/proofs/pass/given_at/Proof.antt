@@ -1,8 +1,7 @@
 use mathlib.Core.Path.{refl, sym, _∙_}
 use native.Mathlib.Omega.{arith}
-use Rattle.laws.proofs.Touched.{distance-of}
 use Rattle.model.specs.Layout.{tableOf}
-use Rattle.on_key.proofs.Steps.{ready-at}
+use Rattle.distances.proofs.Passes.{ready-of}
 use Rattle.distances.proofs.Named.{index-told, yields-by, yields-none, yields-nothing, yields-again, yields-first}
 use borrow.Author.Needs.{needs}
 use Rattle.distances.proofs.pass.given_at.Statement.{statement}
@@ -26,15 +25,15 @@ enum-known-index c = search needs
 given-in-requires : tie.Need-given-in-requires
 given-in-requires c κs =
     let st = c .before .before .before .before .before .before .before in
-    let h = distance-of _ _ (index-told _ (c .before .before .before .index-at .ensures) (c .before .index .given .1)) in
-    (ready-at _ _ (st .pre .0 .size) (st .pre .0 .formed) (h .below), st .pre .1 .0)
+    let e = index-told _ (c .before .before .before .index-at .ensures) (c .before .index .given .1) in
+    (ready-of (st .args .s .now) _ _ (st .pre .0) e (st .pre .1 .1 .1), st .pre .1 .0)
 
 returns : tie.Need-returns
 returns c =
     let st = c .before .before .before .before .before .before .before .before .before .before in
     let a = st .args in
     let e = index-told _ (c .before .before .before .before .before .before .index-at .ensures) (c .before .before .before .before .index .given .1) in
-    yields-by e (yields-nothing (a .time) (a .distances .now) (tableOf (a .s .now)) _ _ (a .p) e (omega (arith, st .pre .1 .1)) (c .before .before .given-in .ensures) (c .if1 .taken))
+    yields-by e (yields-nothing (a .time) (a .distances .now) (tableOf (a .s .now)) _ _ (a .p) e (omega (arith, st .pre .1 .1 .0)) (c .before .before .given-in .ensures) (c .if1 .taken))
 
 stands-before-requires : tie.Need-stands-before-requires
 stands-before-requires c κs = search needs
@@ -45,7 +44,7 @@ returns-2 c =
     let a = st .args in
     let e = index-told _ (c .before .before .before .before .before .before .before .before .index-at .ensures) (c .before .before .before .before .before .before .index .given .1) in
     yields-by e
-    (yields-again (a .time) (a .distances .now) (tableOf (a .s .now)) _ _ (a .p) e (omega (arith, st .pre .1 .1)) (record { count = 0; records = 0; placed = 0 }) refl refl refl
+    (yields-again (a .time) (a .distances .now) (tableOf (a .s .now)) _ _ (a .p) e (omega (arith, st .pre .1 .1 .0)) (record { count = 0; records = 0; placed = 0 }) refl refl refl
     (sym (c .before .stands-before .ensures) ∙ c .if2 .taken))
 
 returns-3 : tie.Need-returns-3
@@ -57,7 +56,7 @@ returns-4 c =
     let a = st .args in
     let e = index-told _ (c .before .before .before .before .before .before .before .before .index-at .ensures) (c .before .before .before .before .before .before .index .given .1) in
     yields-by e
-    (yields-first (a .time) (a .distances .now) (tableOf (a .s .now)) _ _ (a .p) e (omega (arith, st .pre .1 .1)) (c .before .before .before .before .given-in .ensures)
+    (yields-first (a .time) (a .distances .now) (tableOf (a .s .now)) _ _ (a .p) e (omega (arith, st .pre .1 .1 .0)) (c .before .before .before .before .given-in .ensures)
     (sym (c .before .stands-before .ensures) ∙ c .if2 .left))
 
 pub given-at-spec : {M : Type 1} → statement M

@@ -1,9 +1,8 @@
 use Prim.Native.Nat.{_-_}
-use Rattle.laws.proofs.Touched.{distance-of}
 use Rattle.model.specs.Layout.{tableOf}
-use Rattle.on_key.proofs.Steps.{ready-at}
 use Rattle.items.specs.Shape.{sizeBy}
 use Rattle.distances.proofs.Named.{index-told}
+use Rattle.distances.proofs.Passes.{ready-of}
 use Rattle.distances.proofs.Written.{put-nothing, put-bucket-is}
 use borrow.Author.Needs.{needs}
 use Rattle.distances.proofs.pass.put_one.Statement.{statement}
@@ -22,8 +21,8 @@ put-bucket-requires : tie.Need-put-bucket-requires
 unfolding sizeBy
 put-bucket-requires c κs =
     let st = c .before .before .before .before .before .before .before in
-    let h = distance-of (st .args .d) _ (index-told (st .args .d) (c .before .before .before .before .index-at .ensures) (c .before .before .index .given .1)) in
-    (ready-at _ _ (st .pre .0 .size) (st .pre .0 .formed) (h .below), (st .pre .1 .0, (st .pre .1 .1 .0, st .pre .1 .1 .1)))
+    let e = index-told (st .args .d) (c .before .before .before .before .index-at .ensures) (c .before .before .index .given .1) in
+    (ready-of (st .args .s .now) (st .args .d) _ (st .pre .0) e (st .pre .1 .0), (st .pre .1 .1 .0, (st .pre .1 .1 .1 .0, st .pre .1 .1 .1 .1)))
 
 returns : tie.Need-returns
 returns c = let a = c .before .before .before .before .before .args in put-nothing (tableOf (a .s .now)) (a .n - a .k) (a .d) (index-told (a .d) (c .before .before .index-at .ensures) (c .enum-told .given .1)) (a .k) (a .out .now)
