@@ -107,8 +107,8 @@ fn with_not_modified(value: UpdateResult) -> UpdateResult
     }
 }
 
-// What the value's step and the status's step of update_node answer together.
-fn both_updates(value: UpdateResult, status: UpdateResult) -> UpdateResult
+// Internal: what the value's step and the status's step of update_node answer together.
+pub fn both_updates(value: UpdateResult, status: UpdateResult) -> UpdateResult
     ensures { λ r. ⌜ updateResultOf r ≡ bothUpdates (updateResultOf value) (updateResultOf status) ⌝ }
 {
     match status {
@@ -242,8 +242,8 @@ fn value_kept(status: UpdateResult) -> InsertResult
     }
 }
 
-// What the value's step and the status's step of insert_or_update on a held key answer together.
-fn insert_updates(value: UpdateResult, status: UpdateResult) -> InsertResult
+// Internal: what the value's step and the status's step of insert_or_update on a held key answer together.
+pub fn insert_updates(value: UpdateResult, status: UpdateResult) -> InsertResult
     ensures { λ r. ⌜ tableInsertResultOf r ≡ insertUpdates (updateResultOf value) (updateResultOf status) ⌝ }
 {
     match value {
@@ -255,8 +255,8 @@ fn insert_updates(value: UpdateResult, status: UpdateResult) -> InsertResult
     }
 }
 
-// What insert_or_update answers on a key that is not held.
-fn inserts(r: BucketInsertResult) -> InsertResult
+// Internal: what insert_or_update answers on a key that is not held.
+pub fn inserts(r: BucketInsertResult) -> InsertResult
     ensures { λ t. ⌜ tableInsertResultOf t ≡ inserts (insertResultOf r) ⌝ }
 {
     match r {

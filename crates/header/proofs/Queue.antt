@@ -18,6 +18,7 @@ use Rattle.model.specs.Layout.{nodeBytes, evictingKind, endingKind, lastKind, r
 use Rattle.model.specs.Formed.{areZero, recordFormed, headerFormed}
 use Rattle.laws.proofs.Lists.{joined-snoc, length-tabulate, getD-tabulate}
 use Rattle.laws.proofs.Parts.{length-part, length-splice, splice-part, splice-nil, splice-next, part-part, part-zero, part-between, getD-part}
+use Rattle.laws.proofs.Shifts.{splice-between}
 use Rattle.laws.proofs.Tests.{and-left}
 use Rattle.laws.proofs.Bytes.{length-bytes}
 use Rattle.laws.proofs.NodeBytes.{length-record}
@@ -35,7 +36,7 @@ use Rattle.bucket.specs.Calls.{recordsOf}
 use Rattle.storage.specs.Read.{readNode}
 use Rattle.storage.proofs.Nodes.{nodeOf-read, codes-read}
 use Rattle.header.specs.Queue.{requeued}
-use Rattle.header.proofs.Runs.{splice-between, splice-front, blank, blank-is, blank-add, length-blank}
+use Rattle.header.proofs.Runs.{splice-front, blank, blank-is, blank-add, length-blank}
 use Rattle.header.proofs.Header.{frontBytes, length-front, partsOf, header-parts}
 
 -- a further record: v is what is written of it, the rest of its bytes is zero as it was
@@ -164,6 +165,9 @@ module _ (s : List ℕ) (l : length s ≡ storageSize) (h : Bytes s) (f : header
   length-of-header : length header ≡ headerSize
   length-of-header = length-header (tableOf s) at-most
 
+  fits : length header ≤ length s
+  fits = omega (arith, length-of-header)
+
   header-is : header ≡ part s 0 headerSize
   header-is = header-back s (omega arith) h f
 
@@ -179,8 +183,8 @@ module _ (s : List ℕ) (l : length s ≡ storageSize) (h : Bytes s) (f : header
       let w : length v ≤ recordSize = omega (arith, ap length e, length-append v (blank rest), length-record r) in
       let g : length (splice header (recordAt n) v) ≡ headerSize = length-splice header (recordAt n) v (omega (arith, length-of-header)) ∙ length-of-header in
       ap (λ (x : List ℕ). splice (splice x (recordAt n) v) recordCountAt ((n + 1) ∷ [])) (sym front-back)
-      ∙ ap (λ (x : List ℕ). splice x recordCountAt ((n + 1) ∷ [])) (splice-front s header (recordAt n) v (omega (arith, length-of-header)))
-      ∙ splice-front s (splice header (recordAt n) v) recordCountAt ((n + 1) ∷ []) (omega arith)
+      ∙ ap (λ (x : List ℕ). splice x recordCountAt ((n + 1) ∷ [])) (splice-front s header (recordAt n) v (omega (arith, length-of-header)) fits)
+      ∙ splice-front s (splice header (recordAt n) v) recordCountAt ((n + 1) ∷ []) (omega arith) (omega arith)
       ∙ ap (splice s 0)
       (ap (λ (x : List ℕ). splice (splice x (recordAt n) v) recordCountAt ((n + 1) ∷ [])) (header-parts (tableOf s))
       ∙ parts-pushed (tableOf s .settings) (tableOf s .queue) r v rest e n m i ∙ sym (header-parts (withQueue (tableOf s .queue ++ (r ∷ [])) (tableOf s))))
@@ -219,9 +223,9 @@ module _ (s : List ℕ) (l : length s ≡ storageSize) (h : Bytes s) (f : header
       let k : length b ≡ headerSize = length-splice a (recordAt n) (zeros recordSize) (omega arith) ∙ g in
       rw e
       (ap (λ (x : List ℕ). splice (splice (splice x recordsAt p) (recordAt n) (zeros recordSize)) recordCountAt (n ∷ [])) (sym front-back)
-      ∙ ap (λ (x : List ℕ). splice (splice x (recordAt n) (zeros recordSize)) recordCountAt (n ∷ [])) (splice-front s header recordsAt p (omega (arith, length-of-header)))
-      ∙ ap (λ (x : List ℕ). splice x recordCountAt (n ∷ [])) (splice-front s a (recordAt n) (zeros recordSize) (omega arith))
-      ∙ splice-front s b recordCountAt (n ∷ []) (omega arith)
+      ∙ ap (λ (x : List ℕ). splice (splice x (recordAt n) (zeros recordSize)) recordCountAt (n ∷ [])) (splice-front s header recordsAt p (omega (arith, length-of-header)) fits)
+      ∙ ap (λ (x : List ℕ). splice x recordCountAt (n ∷ [])) (splice-front s a (recordAt n) (zeros recordSize) (omega arith) (omega arith))
+      ∙ splice-front s b recordCountAt (n ∷ []) (omega arith) (omega arith)
       ∙ ap (splice s 0)
       (ap (λ (x : List ℕ). splice (splice (splice x recordsAt (part x (recordsAt + recordSize) (n * recordSize))) (recordAt n) (zeros recordSize)) recordCountAt (n ∷ [])) (header-parts (tableOf s))
       ∙ parts-dropped (tableOf s .settings) (tableOf s .queue) n m i (zeros recordSize) (blank-is recordSize) ∙ sym (header-parts (withQueue (drop 1 (tableOf s .queue)) (tableOf s)))))

@@ -1,39 +1,16 @@
--- Laws of runs of bytes: what is put within a run, bytes moved to the front, zero bytes.
+-- Laws of runs of bytes: what is put within the front, and zero bytes.
 use mathlib.Core.Path.{_≡_, refl, sym, ap, _∙_}
-use mathlib.Core.List.{List, [], _++_, append-assoc, append-nil}
-use Prim.Native.Nat.{ℕ, _+_, _≤_, _<_}
-use native.Mathlib.Nat.{add-zero}
+use mathlib.Core.List.{List, [], _++_, append-nil}
+use Prim.Native.Nat.{ℕ, _+_, _≤_}
+use native.Mathlib.Nat.{zero-add}
 use native.Mathlib.Omega.{arith}
-use lib.ListN.{length, take, drop, getD, set, length-replicate, replicate-append-replicate, drop-of-length-le}
-use lib.Seq.{take-at, drop-at, drop-append-add, take-append-le, drop-append-le}
-use Rattle.model.specs.Bytes.{part, splice, zeros}
-use Rattle.laws.proofs.Parts.{length-part, length-splice, part-snoc, part-splice-after, getD-part}
-use Rattle.words.proofs.Words.{set-more}
-
--- what is put in the place of a run between two others
-pub splice-between : (a b c v : List ℕ) (at : ℕ) → length a ≡ at → length b ≡ length v → splice (a ++ (b ++ c)) at v ≡ a ++ (v ++ c)
-unfolding splice
-splice-between a b c v at e f = rw (take-at a (b ++ c) at e, ← e, drop-append-add a (b ++ c) (length v), drop-at b c (length v) f)
+use lib.ListN.{length, length-replicate, replicate-append-replicate, drop-of-length-le}
+use Rattle.model.specs.Bytes.{splice, zeros}
+use Rattle.laws.proofs.Shifts.{splice-between, splice-inside}
 
 -- what is put within a run that was put at the front
-pub splice-front : (s a : List ℕ) (at : ℕ) (v : List ℕ) → at + length v ≤ length a → splice (splice s 0 a) at v ≡ splice s 0 (splice a at v)
-unfolding splice
-splice-front s a at v h =
-    let l : length (take at a ++ (v ++ drop (at + length v) a)) ≡ length a = length-splice a at v h in
-    rw (l, take-append-le at a (drop (0 + length a) s) (omega arith), drop-append-le (at + length v) a (drop (0 + length a) s) h) (simp append-assoc)
-
--- bytes moved to the front, one by one
-
-pub moved : {t : List ℕ} (s : List ℕ) (at by k : ℕ) → t ≡ splice s at (part s (at + by) k) → at + by + k < length s
-    → set t (at + k) (getD t (at + by + k) 0) ≡ splice s at (part s (at + by) (k + 1))
-moved {t} s at by k e h =
-    let v : List ℕ = part s (at + by) k in
-    let n : length v ≡ k = length-part s (at + by) k (omega arith) in
-    let i : ℕ = at + by + k in
-    let p : part t i 1 ≡ part s i 1 = rw e (part-splice-after s at v i 1 (omega arith) (omega arith)) in
-    let g : getD t i 0 ≡ getD s i 0 =
-    rw add-zero at (sym (getD-part t i 1 0 (omega arith)) ∙ ap (λ (x : List ℕ). getD x 0 0) p ∙ getD-part s i 1 0 (omega arith)) in
-    rw (g, part-snoc s (at + by) k h) (set-more s at k v (getD s i 0) e n (omega arith))
+pub splice-front : (s a : List ℕ) (at : ℕ) (v : List ℕ) → at + length v ≤ length a → length a ≤ length s → splice (splice s 0 a) at v ≡ splice s 0 (splice a at v)
+splice-front s a at v h k = ap (λ (i : ℕ). splice (splice s 0 a) i v) (sym (zero-add at)) ∙ splice-inside s 0 a at v h (omega arith)
 
 -- zero bytes, many at a time
 unfoldable pub blank : ℕ → List ℕ

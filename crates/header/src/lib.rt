@@ -141,19 +141,7 @@ fn load_record(s: &[u8], at: usize) -> EndedPending
     EndedPending::Dropped(key, ending)
 }
 
-// The n bytes that stand `by` bytes behind `at`, moved to `at`.
-fn move_up(s: &mut [u8], at: usize, by: usize, n: usize)
-    requires { ⌜ at + by + n ≤ length (now s) ⌝ }
-    ensures { λ _. ⌜ now (s .exit) ≡ splice (now (s .entry)) at (part (now (s .entry)) (at + by) n) ⌝ }
-{
-    let mut i: usize = 0;
-    while i < n {
-        s[at + i] = s[at + by + i];
-        i += 1;
-    }
-}
-
-// The queue without its oldest record: the others move up, and the place that they leave is zero.
+// The queue without its oldest record: the others move down, and the place that they leave is zero.
 fn drop_record(s: &mut [u8], n: usize)
     requires { ⌜ length (now s) ≡ storageSize ⌝ }
     requires { ⌜ headerFormed (now s) ≡ true ⌝ }
@@ -162,7 +150,7 @@ fn drop_record(s: &mut [u8], n: usize)
     ensures { λ _. ⌜ now (s .exit) ≡ requeued (drop 1 (tableOf (now (s .entry)) .queue)) (now (s .entry)) ⌝ }
 {
     let rest = n * Layout::RECORD;
-    move_up(s, Layout::RECORDS_AT, Layout::RECORD, rest);
+    words::shift_down(s, Layout::RECORDS_AT, Layout::RECORD, rest);
     words::put_zeros(s, Layout::RECORDS_AT + rest, Layout::RECORD);
     words::put_byte(s, Layout::RECORD_COUNT_AT, n as u8);
 }

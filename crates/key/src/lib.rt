@@ -1,7 +1,7 @@
 // Keys, their XOR distance and bucket index (key.rs), and the order in which a closest call visits the buckets (ClosestBucketsIter of
 // kbucket.rs).
 ghost use mathlib.Core.Path.{_≡_};
-ghost use Prim.Native.Nat.{suc, _+_, _-_, _≤_, _<_};
+ghost use Prim.Native.Nat.{suc, _+_, _-_, _*_, _≤_, _<_};
 ghost use lib.Count.{leadingZeros};
 ghost use lib.Dec.{ltb};
 ghost use lib.ListN.{length};
@@ -12,7 +12,7 @@ ghost use Rattle.model.specs.Sizes.{keySize};
 ghost use Rattle.model.specs.Visit.{setsDown, clearsUp, visits};
 ghost use Rattle.key.specs.Key.{num};
 ghost use Rattle.key.specs.Answers.{bucketIndexOf, log2DistanceOf};
-ghost use Rattle.key.specs.Visits.{remaining, Stepped};
+ghost use Rattle.key.specs.Visits.{remaining, Stepped, BitsFrom};
 
 // A key of 256 bits, or the distance of two: four words, w0 the most significant.
 pub struct Key {
@@ -170,6 +170,25 @@ impl Key {
         }
         false
     }
+
+    // Internal: word q, the least significant first; 0 from 4 on.
+    fn word(self, q: usize) -> u64
+        ensures { λ r. ⌜ BitsFrom (num self) (q * 64) r ⌝ }
+    {
+        if q == 0 {
+            return self.w3;
+        }
+        if q == 1 {
+            return self.w2;
+        }
+        if q == 2 {
+            return self.w1;
+        }
+        if q == 3 {
+            return self.w0;
+        }
+        0
+    }
 }
 
 // Internal: bit k of a word.
@@ -178,6 +197,36 @@ fn word_bit(w: u64, k: usize) -> bool
     ensures { λ r. ⌜ r ≡ testBit w k ⌝ }
 {
     (w >> k) & 1 == 1
+}
+
+// The highest set bit of a word below bit k.
+fn last_set(w: u64, k: usize) -> BucketIndex
+    requires { ⌜ k ≤ 64 ⌝ }
+    ensures { λ r. ⌜ bucketIndexOf r ≡ first (setsDown w k) ⌝ }
+{
+    let mut j = k;
+    while 0 < j {
+        j -= 1;
+        if word_bit(w, j) {
+            return BucketIndex::At(j);
+        }
+    }
+    BucketIndex::Nothing
+}
+
+// The lowest clear bit of a word from bit k on.
+fn first_clear(w: u64, k: usize) -> BucketIndex
+    requires { ⌜ k ≤ 64 ⌝ }
+    ensures { λ r. ⌜ bucketIndexOf r ≡ first (clearsUp w k (64 - k)) ⌝ }
+{
+    let mut j = k;
+    while j < 64 {
+        if !word_bit(w, j) {
+            return BucketIndex::At(j);
+        }
+        j += 1;
+    }
+    BucketIndex::Nothing
 }
 
 impl BucketIndex {
@@ -236,32 +285,48 @@ impl ClosestBucketsIter {
         }
     }
 
-    // The next set bit of the distance below i.
+    // The next set bit of the distance below i, word by word.
     fn next_in(self, i: usize) -> BucketIndex
         ensures { λ r. ⌜ bucketIndexOf r ≡ first (setsDown (num (self .distance)) i) ⌝ }
     {
         let d = self.distance;
         let mut k = i;
         while 0 < k {
-            k -= 1;
-            if d.bit(k) {
-                return BucketIndex::At(k);
+            let q = (k - 1) / 64;
+            let w = d.word(q);
+            if w != 0 {
+                let n = last_set(w, k - q * 64);
+                match n {
+                    BucketIndex::At(j) => {
+                        return BucketIndex::At(q * 64 + j);
+                    }
+                    BucketIndex::Nothing => {}
+                }
             }
+            k = q * 64;
         }
         BucketIndex::Nothing
     }
 
-    // The next clear bit of the distance above i.
+    // The next clear bit of the distance above i, word by word.
     fn next_out(self, i: usize) -> BucketIndex
         ensures { λ r. ⌜ bucketIndexOf r ≡ first (clearsUp (num (self .distance)) (suc i) (255 - i)) ⌝ }
     {
         let d = self.distance;
         let mut k = i;
         while k < 255 {
-            k += 1;
-            if !d.bit(k) {
-                return BucketIndex::At(k);
+            let q = (k + 1) / 64;
+            let w = d.word(q);
+            if w != 0xFFFF_FFFF_FFFF_FFFF {
+                let n = first_clear(w, k + 1 - q * 64);
+                match n {
+                    BucketIndex::At(j) => {
+                        return BucketIndex::At(q * 64 + j);
+                    }
+                    BucketIndex::Nothing => {}
+                }
             }
+            k = q * 64 + 63;
         }
         BucketIndex::Nothing
     }

@@ -26,6 +26,7 @@ pub mod NodeFormed
 pub mod BucketBytes
 pub mod BucketFormed
 pub mod BucketBack
+pub mod Shifts
 pub mod OwnNet
 pub mod Questions
 pub mod Loaded

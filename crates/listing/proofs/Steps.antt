@@ -1,9 +1,10 @@
 -- A listing's answer, storage and output, by its questions and by the visit of its buckets.
-use mathlib.Core.Path.{_≡_, refl, sym, ap, ap₂, _∙_, fun-ext}
+use mathlib.Core.Path.{_≡_, refl, sym, ap, ap₂, _∙_, fun-ext, subst}
 use mathlib.Core.Bool.{Bool, true, false, cond, _&&_}
 use mathlib.Core.List.{List, [], _∷_, _++_, map, append-nil}
 use mathlib.Core.Option.{Option, none, some}
-use Prim.Native.Nat.{ℕ, zero, suc, _+_, _-_, _*_, _≤_, _<_}
+use Prim.Native.Nat.{ℕ, zero, suc, _+_, _-_, _*_, _≤_, _<_, min}
+use native.Mathlib.Nat.{mul-le-mul-right, le-trans}
 use native.Mathlib.Omega.{arith}
 use lib.Dec.{leb}
 use lib.ListN.{length, take, length-append}
@@ -19,19 +20,20 @@ use Rattle.model.specs.Listing.{Item, item, applyAll, applied, visited, applies
 use Rattle.model.specs.Question.{maxCount, firstFailed, entrySize, keysFit, codesInRange, clockFits, outputFits, kindFits}
 use Rattle.model.specs.Step.{act, queueFits}
 use Rattle.model.specs.Layout.{tableOf}
-use Rattle.model.specs.Formed.{headerFormed, bucketsFormed}
+use Rattle.model.specs.Formed.{headerFormed, bucketFormedAt, bucketsFormed}
 use Rattle.model.specs.StepBytes.{allQuestions, written, restore, stepBytes}
 use Rattle.model.specs.Fits.{All}
 use Rattle.laws.proofs.Tests.{split, and-left, and-right}
 use Rattle.laws.proofs.All.{all-map}
-use Rattle.laws.proofs.Join.{take-append, joined-same}
+use Rattle.laws.proofs.Join.{take-append, take-least, joined-same}
 use Rattle.laws.proofs.Applied.{apply-all-queue}
 use Rattle.laws.proofs.ReadBack.{header-fits}
 use Rattle.laws.proofs.DistanceReads.{visited-applied}
 use Rattle.on_key.specs.Answers.{firstThree, firstFive, failedOfThree, failedOfFive}
 use Rattle.laws.proofs.Questions.{front-fails, front-passes}
-use Rattle.visit.specs.Passes.{held, visitedBy, visitAll, appliedIn}
+use Rattle.visit.specs.Passes.{held, visitedBy, visitAll, appliedIn, leftOf}
 use Rattle.visit.proofs.Visitable.{visited-agree}
+use Rattle.visit.proofs.Counts.{left-none}
 use Rattle.visit.proofs.Applying.{Appliable, Applying, applying-done, applying-size, applying-header, applying-table, applying-formed}
 use Rattle.items.specs.declared.Form.{Form}
 use Rattle.items.specs.declared.Shape.{Shape}
@@ -54,6 +56,35 @@ visited-same {A} g g′ size e (suc n) (i ∷ is) h =
     ∙ ap (λ (k : ℕ). take (suc n) (g i) ++ take (suc n - k) (joined g′ is)) (e i)
     ∙ ap (λ (l : List A). take (suc n) l ++ take (suc n - length l) (joined g′ is)) (h .0)
     ∙ sym (take-append (suc n) (g′ i) (joined g′ is))
+
+-- the items that the survey counted are those found
+
+pub visited-fewer : (s : List ℕ) (size : ℕ → ℕ) (m n : ℕ) (is : List ℕ) → m ≤ n → bucketsFormed s (visited size n is) ≡ true
+    → bucketsFormed s (visited size m is) ≡ true
+unfolding visited
+visited-fewer s size m n [] h f = refl
+visited-fewer s size zero n (i ∷ is) h f = refl
+visited-fewer s size (suc m) zero (i ∷ is) h f = absurd (omega arith)
+visited-fewer s size (suc m) (suc n) (i ∷ is) h f =
+    ap₂ _&&_ (and-left (bucketFormedAt s i) _ f) (visited-fewer s size (suc m - size i) (suc n - size i) is (omega arith) (and-right (bucketFormedAt s i) _ f))
+
+left-agree : (f g : ℕ → ℕ) (n : ℕ) (is : List ℕ) → All (λ (i : ℕ). g i ≡ f i) (visited f n is) → leftOf f n is ≡ leftOf g n is
+unfolding visited leftOf
+left-agree f g n [] h = refl
+left-agree f g zero (i ∷ is) h = left-none f (i ∷ is) ∙ sym (left-none g (i ∷ is))
+left-agree f g (suc n) (i ∷ is) h = left-agree f g (suc n - f i) is (h .1) ∙ ap (λ (m : ℕ). leftOf g (suc n - m) is) (sym (h .0))
+
+module _ {A : Type 0} (g : ℕ → List A) (size : ℕ → ℕ) (e : (i : ℕ) → size i ≡ length (g i)) where
+  left-length : (n : ℕ) (is : List ℕ) → leftOf size n is ≡ n - length (joined g is)
+  unfolding leftOf joined
+  left-length n [] = omega arith
+  left-length n (i ∷ is) = omega (arith, left-length (n - size i) is, e i, length-append (g i) (joined g is))
+
+  take-counted : (n : ℕ) (is : List ℕ) → take (n - leftOf size n is) (joined g is) ≡ take n (joined g is)
+  take-counted n is =
+      let l : List A = joined g is in
+      let q : n - leftOf size n is ≡ min (length l) n = omega (arith, left-length n is) in
+      ap (λ (m : ℕ). take m l) q ∙ sym (take-least l n)
 
 -- what the visit of the buckets leaves, with its answer
 
@@ -105,26 +136,46 @@ module _ (x : Shape) (n now : ℕ) (is out s : List ℕ) where
       pub left-header : headerFormed s′ ≡ true
       left-header = applying-header s now js p s′ [] w
 
-      -- the buckets from which the items are read are those that were visited
-      pub left-formed : bucketsFormed s′ (visited (countIn (tableOf s′)) n is) ≡ true
+      -- they hold what the survey counted
+      left-held : All (λ (i : ℕ). countIn (tableOf s′) i ≡ held now (tableOf s) i) js
       unfolding visitAll
-      left-formed =
-          ap (bucketsFormed s′)
-          (visited-agree (held now (tableOf s)) (countIn (tableOf s′)) n is
-          (all-map (λ (i : ℕ). applyAll now js (tableOf s) .0 .buckets i ≡ applied now (tableOf s) i) (λ (i : ℕ). countIn (tableOf s′) i ≡ held now (tableOf s) i)
-          (λ i q. ap (λ (u : Table). numEntries (u .buckets i)) there ∙ ap numEntries q) js (visited-applied now js (tableOf s))))
-          ∙ applying-formed s now js p s′ [] w js (p .below) f
+      left-held =
+          all-map (λ (i : ℕ). applyAll now js (tableOf s) .0 .buckets i ≡ applied now (tableOf s) i) (λ (i : ℕ). countIn (tableOf s′) i ≡ held now (tableOf s) i)
+          (λ i q. ap (λ (u : Table). numEntries (u .buckets i)) there ∙ ap numEntries q) js (visited-applied now js (tableOf s))
 
-      pub listed-found : length (left .queue) ≤ maxRecords → (r : ℕ) (out′ : List ℕ) → Put x (firstNodes n x (tableOf s′) is) r out out′
+      listed-all : length (left .queue) ≤ maxRecords → (r : ℕ) (out′ : List ℕ) → Put x (firstNodes n x (tableOf s′) is) r out out′
           → Lists (Answer.Found r) s′ out′ (visitOutcome x n now is out s)
       unfolding visitOutcome
-      listed-found q r out′ v =
+      listed-all q r out′ v =
           let k = le-leb (length (left .queue)) maxRecords q in
           record {
             answer = ap Answer.Found (v .count ∙ ap (λ (u : Table). length (firstNodes n x u is)) there) ∙ (rw (f, k));
             storage = e ∙ (rw (f, k));
             output = v .output ∙ ap (λ (u : Table). written (map (itemBy x) (firstNodes n x u is)) out) there ∙ (rw (f, k));
           }
+
+      module _ {m : ℕ} (c : m ≡ n - leftOf (held now (tableOf s)) n is) where
+        -- the buckets from which the items are read are among those that were visited
+        pub left-formed : bucketsFormed s′ (visited (countIn (tableOf s′)) m is) ≡ true
+        left-formed =
+            visited-fewer s′ (countIn (tableOf s′)) m n is (omega arith)
+            (ap (bucketsFormed s′) (visited-agree (held now (tableOf s)) (countIn (tableOf s′)) n is left-held) ∙ applying-formed s now js p s′ [] w js (p .below) f)
+
+        pub left-fits : (n ≤ maxCount) × (n * sizeBy x ≤ length out) → (m ≤ maxCount) × (m * sizeBy x ≤ length out)
+        left-fits h =
+            let k : m ≤ n = omega arith in
+            (omega arith, le-trans (mul-le-mul-right (sizeBy x) k) (h .1))
+
+        found-all : firstNodes m x (tableOf s′) is ≡ firstNodes n x (tableOf s′) is
+        unfolding firstNodes
+        found-all =
+            let g : ℕ → List Node = λ i. shownBy x (tableOf s′ .buckets i) in
+            ap (λ (k : ℕ). take k (joined g is)) (c ∙ ap (λ (k : ℕ). n - k) (left-agree (held now (tableOf s)) (countIn (tableOf s′)) n is left-held))
+            ∙ take-counted g (countIn (tableOf s′)) (λ i. sym (length-shown x (tableOf s′ .buckets i))) n is
+
+        pub listed-found : length (left .queue) ≤ maxRecords → (r : ℕ) (out′ : List ℕ) → Put x (firstNodes m x (tableOf s′) is) r out out′
+            → Lists (Answer.Found r) s′ out′ (visitOutcome x n now is out s)
+        listed-found q r out′ v = listed-all q r out′ (subst (λ (ns : List Node). Put x ns r out out′) found-all v)
 
 -- the listing from question 6 on
 

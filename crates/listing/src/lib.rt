@@ -4,6 +4,8 @@ ghost use mathlib.Core.Bool.{true, _&&_};
 ghost use Prim.Native.Nat.{_*_, _≤_};
 ghost use lib.Dec.{leb};
 ghost use lib.ListN.{length};
+ghost use Rattle.model.specs.Base.{tabulate};
+ghost use Rattle.model.specs.Table.{numBuckets};
 ghost use Rattle.model.specs.Sizes.{storageSize};
 ghost use Rattle.model.specs.Call.{Call, Listing};
 ghost use Rattle.model.specs.Question.{maxCount};
@@ -13,7 +15,7 @@ ghost use Rattle.model.specs.Listing.{visited};
 ghost use Rattle.model.specs.StepBytes.{stepBytes};
 ghost use Rattle.key.specs.Visits.{remaining};
 ghost use Rattle.on_key.specs.Answers.{Timely};
-ghost use Rattle.visit.specs.Passes.{Visitable};
+ghost use Rattle.visit.specs.Passes.{Visitable, order};
 ghost use Rattle.items.specs.Shape.{sizeBy};
 ghost use Rattle.items.specs.Lists.{Lists, listAnswer};
 ghost use Rattle.listing.specs.Listed.{closestListing, visitOrderBy, countIn, firstNodes, Put, visitOutcome, listOutcome};
@@ -25,6 +27,7 @@ use key::BucketIndex;
 use key::ClosestBucketsIter;
 use node::Slot;
 use storage::Layout;
+use visit::Visit;
 
 // Question 6, for entries of size bytes and an output of len bytes.
 fn has_output(n: usize, size: usize, len: usize) -> bool
@@ -38,21 +41,37 @@ fn has_output(n: usize, size: usize, len: usize) -> bool
 }
 
 // The buckets in the order of the listing.
-fn visit_of(s: &[u8], shape: Shape) -> ClosestBucketsIter
+fn visit_of(s: &[u8], shape: Shape) -> Visit
     requires { ⌜ length (now s) ≡ storageSize ⌝ }
-    ensures { λ r. ⌜ remaining r ≡ visitOrderBy shape (tableOf (now (s .entry))) ⌝ }
+    ensures { λ r. ⌜ order r ≡ visitOrderBy shape (tableOf (now (s .entry))) ⌝ }
 {
     match shape {
-        Shape::Nodes => visit::in_turn(),
+        Shape::Nodes => Visit::InTurn,
         Shape::Closest(target, _) => {
             let local = header::local_key(s);
-            ClosestBucketsIter::new(local.distance(target))
+            Visit::Nearest(ClosestBucketsIter::new(local.distance(target)))
         }
     }
 }
 
-// Writes the items of the buckets, up to n, and answers how many. No further bucket is visited after the n-th.
-fn put_all(s: &[u8], visit: ClosestBucketsIter, shape: Shape, out: &mut [u8], n: usize) -> usize
+// Writes the items of all buckets in turn, up to n, and answers how many.
+fn put_in_turn(s: &[u8], shape: Shape, out: &mut [u8], n: usize) -> usize
+    requires { ⌜ (length (now s) ≡ storageSize) × (headerFormed (now s) ≡ true) ⌝ }
+    requires { ⌜ bucketsFormed (now s) (visited (countIn (tableOf (now s))) n (tabulate numBuckets (λ i. i))) ≡ true ⌝ }
+    requires { ⌜ (n ≤ maxCount) × (n * sizeBy shape ≤ length (now out)) ⌝ }
+    ensures { λ r. ⌜ Put shape (firstNodes n shape (tableOf (now (s .entry))) (tabulate numBuckets (λ i. i))) r (now (out .entry)) (now (out .exit)) ⌝ }
+{
+    let mut k: usize = 0;
+    let mut i: usize = 0;
+    while (k < n) & (i < model::NUM_BUCKETS) {
+        k = items::put_bucket(s, i, shape, out, k, n);
+        i += 1;
+    }
+    k
+}
+
+// Writes the items of the buckets in the order of a closest call, up to n, and answers how many.
+fn put_nearest(s: &[u8], visit: ClosestBucketsIter, shape: Shape, out: &mut [u8], n: usize) -> usize
     requires { ⌜ (length (now s) ≡ storageSize) × (headerFormed (now s) ≡ true) ⌝ }
     requires { ⌜ Visitable (remaining visit) ⌝ }
     requires { ⌜ bucketsFormed (now s) (visited (countIn (tableOf (now s))) n (remaining visit)) ≡ true ⌝ }
@@ -77,11 +96,25 @@ fn put_all(s: &[u8], visit: ClosestBucketsIter, shape: Shape, out: &mut [u8], n:
     k
 }
 
-// The visit: a survey for questions 2 and 8, the due pendings applied, then the items written from the storage as it stands. Where a bucket
-// of it is malformed, none was applied.
+// Writes the items of the buckets, up to n, and answers how many. No further bucket is visited after the n-th.
+fn put_all(s: &[u8], visit: Visit, shape: Shape, out: &mut [u8], n: usize) -> usize
+    requires { ⌜ (length (now s) ≡ storageSize) × (headerFormed (now s) ≡ true) ⌝ }
+    requires { ⌜ Visitable (order visit) ⌝ }
+    requires { ⌜ bucketsFormed (now s) (visited (countIn (tableOf (now s))) n (order visit)) ≡ true ⌝ }
+    requires { ⌜ (n ≤ maxCount) × (n * sizeBy shape ≤ length (now out)) ⌝ }
+    ensures { λ r. ⌜ Put shape (firstNodes n shape (tableOf (now (s .entry))) (order visit)) r (now (out .entry)) (now (out .exit)) ⌝ }
+{
+    match visit {
+        Visit::InTurn => put_in_turn(s, shape, out, n),
+        Visit::Nearest(it) => put_nearest(s, it, shape, out, n),
+    }
+}
+
+// The visit: a survey for questions 2 and 8, the due pendings applied, then the items written from the storage as it stands, until as many
+// are written as the survey counted. Where a bucket of it is malformed, none was applied.
 fn list_visited(
     s: &mut [u8],
-    visit: ClosestBucketsIter,
+    visit: Visit,
     shape: Shape,
     n: usize,
     time: u64,
@@ -89,9 +122,9 @@ fn list_visited(
 ) -> ListAnswer
     requires { ⌜ (length (now s) ≡ storageSize) × (headerFormed (now s) ≡ true) ⌝ }
     requires { ⌜ Timely (now s) time ⌝ }
-    requires { ⌜ Visitable (remaining visit) ⌝ }
+    requires { ⌜ Visitable (order visit) ⌝ }
     requires { ⌜ (n ≤ maxCount) × (n * sizeBy shape ≤ length (now out)) ⌝ }
-    ensures { λ r. ⌜ Lists (listAnswer r) (now (s .exit)) (now (out .exit)) (visitOutcome shape n time (remaining visit) (now (out .entry)) (now (s .entry))) ⌝ }
+    ensures { λ r. ⌜ Lists (listAnswer r) (now (s .exit)) (now (out .exit)) (visitOutcome shape n time (order visit) (now (out .entry)) (now (s .entry))) ⌝ }
 {
     let queued = header::record_count(s);
     let y = visit::survey(s, visit, n, time);
@@ -103,8 +136,9 @@ fn list_visited(
         return ListAnswer::Refused(8);
     }
     visit::apply_all(s, visit, n, time, records);
-    let count = put_all(s, visit, shape, out, n);
-    ListAnswer::Found(count)
+    let count = y.count;
+    let found = put_all(s, visit, shape, out, count);
+    ListAnswer::Found(found)
 }
 
 // The listing of a shape, from question 6 on.

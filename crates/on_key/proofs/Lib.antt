@@ -6,3 +6,4 @@ pub mod Stored
 pub mod Steps
 pub mod Ended
 pub mod Endings
+pub mod InPlace

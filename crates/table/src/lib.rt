@@ -28,6 +28,12 @@ pub fn remove(s: &mut [u8], key: &[u8], time: u64) -> RemoveAnswer
         Start::Refused(q) => RemoveAnswer::Refused(q),
         Start::Local => RemoveAnswer::Answered(false),
         Start::At(k, i) => {
+            let at = Layout::HEADER + i * Layout::BUCKET;
+            let quiet = held::is_quiet(s, at);
+            if quiet {
+                let found = held::remove(s, at, k);
+                return RemoveAnswer::Answered(found);
+            }
             let a = on_key::apply_at(s, i, time);
             let applied = a.applied;
             let b = a.bucket;
@@ -61,6 +67,11 @@ pub fn update_node_status(
             UpdateAnswer::Answered(same)
         }
         Start::At(k, i) => {
+            let at = Layout::HEADER + i * Layout::BUCKET;
+            if held::is_quiet(s, at) {
+                let result = held::update_status(s, at, k, state, direction);
+                return UpdateAnswer::Answered(result);
+            }
             let a = on_key::apply_at(s, i, time);
             let applied = a.applied;
             let b = a.bucket;

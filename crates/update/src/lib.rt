@@ -14,6 +14,7 @@ use node::Node;
 use node::NodeStatus;
 use node::Value;
 use on_key::Start;
+use storage::Layout;
 
 pub enum InsertOrUpdateAnswer {
     Refused(u8),
@@ -38,6 +39,12 @@ pub fn update_node(s: &mut [u8], key: &[u8], value: Value, state: u8, time: u64)
                 return UpdateAnswer::Refused(2);
             }
             let fails = table_filter::has_failed(filter);
+            let at = Layout::HEADER + i * Layout::BUCKET;
+            let quiet = held::is_quiet(s, at);
+            if quiet {
+                let result = held_update::update_node(s, at, fails, k, value, state);
+                return UpdateAnswer::Answered(result);
+            }
             let a = on_key::apply_at(s, i, time);
             let applied = a.applied;
             let b = a.bucket;

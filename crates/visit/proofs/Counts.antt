@@ -21,7 +21,7 @@ use Rattle.laws.proofs.Applied.{apply-again}
 use Rattle.visit.specs.declared.Counted.{Counted}
 use Rattle.visit.specs.declared.Given.{Given}
 use Rattle.visit.specs.declared.Tally.{Tally}
-use Rattle.visit.specs.Passes.{held, records, GivenAt, recordsGiven, CountedAt, visitOne, visitedBy, visitAll, Once, Visitable, Surveyed}
+use Rattle.visit.specs.Passes.{held, records, GivenAt, recordsGiven, CountedAt, visitOne, visitedBy, visitAll, leftOf, Once, Visitable, Surveyed}
 use Rattle.visit.proofs.Visitable.{once-visited, visited-none, visited-end, visited-next}
 
 agree : (z a b : Bool) (x : ℕ) → (b ≡ true → a ≡ false) → cond (z && b) 0 x ≡ cond ((z || a) && b) 0 x
@@ -76,12 +76,24 @@ module _ (f size : ℕ → ℕ) (z : Bool) where
   unfolding recordsGiven
   given-next n i is h = ap (recordsGiven f z) (visited-next size n i is h)
 
+-- nothing is left to find
+pub left-none : (size : ℕ → ℕ) (is : List ℕ) → leftOf size 0 is ≡ 0
+unfolding leftOf
+left-none size [] = refl
+left-none size (i ∷ is) = let e : 0 - size i ≡ 0 = omega arith in ap (λ (m : ℕ). leftOf size m is) e ∙ left-none size is
+
+left-next : (size : ℕ → ℕ) (n i : ℕ) (is : List ℕ) → leftOf size (n - size i) is ≡ leftOf size n (i ∷ is)
+unfolding leftOf
+left-next size n i is = refl
+
 -- the survey on its way: what it has counted, and the rest, are what the visit gives, and the rest is to be asked
 pub record Counting (now n : ℕ) (is : List ℕ) (s : List ℕ) (c : Counted) (rest : List ℕ) : Type 0 where
   pub below : All (λ (i : ℕ). i < numBuckets) rest
   pub short : c .records + length rest ≤ numBuckets + numBuckets
   pub total : c .records + recordsGiven (records now (tableOf s)) (c .zero) (visited (held now (tableOf s)) (c .left) rest) ≡ length (visitAll now n is (tableOf s) .1)
   pub asks : bucketsFormed s (visited (held now (tableOf s)) (c .left) rest) ≡ bucketsFormed s (visitedBy now n is (tableOf s))
+  pub within : c .left ≤ n
+  pub leaves : leftOf (held now (tableOf s)) (c .left) rest ≡ leftOf (held now (tableOf s)) n is
 
 module _ (now n : ℕ) (is : List ℕ) (s : List ℕ) where
   abbrev t : Table
@@ -94,6 +106,8 @@ module _ (now n : ℕ) (is : List ℕ) (s : List ℕ) where
         short = (let h = o .short in omega arith);
         total = (let e = given-is now n is t (o .once) in rw (p, q, r) (omega arith));
         asks = ap (λ (m : ℕ). bucketsFormed s (visitedBy now m is t)) p;
+        within = omega arith;
+        leaves = ap (λ (m : ℕ). leftOf (held now t) m is) p;
       }
 
   module _ (c : Counted) where
@@ -114,6 +128,8 @@ module _ (now n : ℕ) (is : List ℕ) (s : List ℕ) where
               ap (λ (m : ℕ). bucketsFormed s (visited (held now t) m rest)) (a .left)
               ∙ ap (λ (b : Bool). b && bucketsFormed s (visited (held now t) (c .left - held now t i) rest)) (sym f)
               ∙ asked-at i rest h w;
+          within = (let p = w .within in let q = a .left in omega arith);
+          leaves = ap (λ (m : ℕ). leftOf (held now t) m rest) (a .left) ∙ left-next (held now t) (c .left) i rest ∙ w .leaves;
         }
 
     pub counting-fails : (i : ℕ) (rest : List ℕ) (r : Tally) → 0 < c .left → bucketFormedAt s i ≡ false → Counting now n is s c (i ∷ rest) → r .formed ≡ false
@@ -123,12 +139,13 @@ module _ (now n : ℕ) (is : List ℕ) (s : List ℕ) where
           formed =
               e ∙ ap (λ (b : Bool). b && bucketsFormed s (visited (held now t) (c .left - held now t i) rest)) (sym f) ∙ asked-at i rest h w;
           records = λ g. clash g e;
+          count = λ g. clash g e;
         }
 
-    counting-done : (rest : List ℕ) (r : Tally) → visited (held now t) (c .left) rest ≡ [] → Counting now n is s c rest → r .formed ≡ true → r .records ≡ c .records
-        → Surveyed now n is s r
+    counting-done : (rest : List ℕ) (r : Tally) → visited (held now t) (c .left) rest ≡ [] → leftOf (held now t) (c .left) rest ≡ c .left
+        → Counting now n is s c rest → r .formed ≡ true → r .records ≡ c .records → r .count ≡ n - c .left → Surveyed now n is s r
     unfolding recordsGiven
-    counting-done rest r e w f g =
+    counting-done rest r e l w f g k =
         record {
           formed = f ∙ ap (bucketsFormed s) (sym e) ∙ w .asks;
           records =
@@ -136,15 +153,21 @@ module _ (now n : ℕ) (is : List ℕ) (s : List ℕ) where
               (let p = w .total in
               let q : recordsGiven (records now t) (c .zero) (visited (held now t) (c .left) rest) ≡ 0 = ap (recordsGiven (records now t) (c .zero)) e in
               omega arith);
+          count = λ _. k ∙ ap (λ (m : ℕ). n - m) (sym l ∙ w .leaves);
         }
 
-    pub counting-ends : (rest : List ℕ) (r : Tally) → rest ≡ [] → Counting now n is s c rest → r .formed ≡ true → r .records ≡ c .records → Surveyed now n is s r
-    counting-ends rest r e = counting-done rest r (ap (visited (held now t) (c .left)) e ∙ visited-end (held now t) (c .left))
+    pub counting-ends : (rest : List ℕ) (r : Tally) → rest ≡ [] → Counting now n is s c rest → r .formed ≡ true → r .records ≡ c .records → r .count ≡ n - c .left
+        → Surveyed now n is s r
+    unfolding leftOf
+    counting-ends rest r e =
+        counting-done rest r (ap (visited (held now t) (c .left)) e ∙ visited-end (held now t) (c .left)) (ap (leftOf (held now t) (c .left)) e)
 
-    pub counting-full : (rest : List ℕ) (r : Tally) → c .left ≤ 0 → Counting now n is s c rest → r .formed ≡ true → r .records ≡ c .records → Surveyed now n is s r
+    pub counting-full : (rest : List ℕ) (r : Tally) → c .left ≤ 0 → Counting now n is s c rest → r .formed ≡ true → r .records ≡ c .records → r .count ≡ n - c .left
+        → Surveyed now n is s r
     counting-full rest r h =
         let e : c .left ≡ 0 = omega arith in
         counting-done rest r (ap (λ (m : ℕ). visited (held now t) m rest) e ∙ visited-none (held now t) rest)
+        (ap (λ (m : ℕ). leftOf (held now t) m rest) e ∙ left-none (held now t) rest ∙ sym e)
 
 -- what one bucket adds
 

@@ -1,13 +1,15 @@
 -- The orders in which a listing visits the buckets: the closest visit, and all buckets in turn.
-use mathlib.Core.Path.{_≡_, refl, sym, ap, _∙_, subst}
-use mathlib.Core.Bool.{Bool, true, false, cond}
+use mathlib.Core.Path.{_≡_, refl, sym, ap, ap₂, _∙_, subst}
+use mathlib.Core.Bool.{Bool, true, false, cond, _&&_}
 use mathlib.Core.List.{List, [], _∷_, _++_}
-use mathlib.Core.Logic.{⊎-elim}
+use mathlib.Core.Logic.{_⊎_, inl, inr, ⊎-elim}
 use Prim.Native.Nat.{ℕ, zero, suc, _+_, _-_, _≤_, _<_}
+use native.Mathlib.Numerals.{add-one}
 use native.Mathlib.Omega.{arith}
-use lib.Dec.{eqb}
-use lib.ListN.{length, length-append}
-use borrow.Author.Tests.{eq-eqb}
+use lib.Dec.{eqb, ltb}
+use lib.ListN.{length, length-append, drop, drop-of-length-le}
+use lib.Seq.{drop-cons}
+use borrow.Author.Tests.{eq-eqb, ltb-true, ltb-false}
 use Rattle.laws.proofs.Touched.{all-visited}
 use Rattle.model.specs.Base.{tabulate}
 use Rattle.model.specs.Key.{testBit}
@@ -15,8 +17,8 @@ use Rattle.model.specs.Visit.{setsDown, clearsUp, visits}
 use Rattle.model.specs.Table.{numBuckets}
 use Rattle.model.specs.Listing.{visited}
 use Rattle.model.specs.Fits.{All}
-use Rattle.laws.proofs.Tests.{cases, clash}
-use Rattle.laws.proofs.Lists.{lt-or-le}
+use Rattle.laws.proofs.Tests.{cases, clash, split, and-left, and-right}
+use Rattle.laws.proofs.Lists.{lt-or-le, length-tabulate, getD-tabulate}
 use Rattle.laws.proofs.All.{all-any}
 use Rattle.laws.proofs.Visits.{visits-below, visits-once, visits-none, addOne, times, clears-last, no-bit}
 use Rattle.key.specs.declared.BucketIndex.{BucketIndex}
@@ -96,6 +98,29 @@ turn-is (suc k) =
 
 pub in-turn-is : 0 ∷ clearsUp 0 1 255 ≡ tabulate numBuckets (λ i. i)
 in-turn-is = turn-is 255
+
+-- those from bucket i on
+module _ (i : ℕ) where
+  pub turn-next : i < numBuckets → drop i (tabulate numBuckets (λ j. j)) ≡ i ∷ drop (i + 1) (tabulate numBuckets (λ j. j))
+  turn-next h =
+      drop-cons (tabulate numBuckets (λ j. j)) i 0 (rw length-tabulate h)
+      ∙ ap₂ (λ (j k : ℕ). j ∷ drop k (tabulate numBuckets (λ j. j))) (getD-tabulate numBuckets (λ j. j) i 0 h) (sym (add-one i))
+
+  pub turn-end : numBuckets ≤ i → drop i (tabulate numBuckets (λ j. j)) ≡ []
+  turn-end h =
+      let e : length (tabulate numBuckets (λ j. j)) ≤ i = rw length-tabulate h in
+      drop-of-length-le (tabulate numBuckets (λ j. j)) e
+
+  -- the test of a loop over them, which goes on while j < k
+  module _ (j k : ℕ) where
+    pub turn-on : (ltb j k && ltb i numBuckets) ≡ true → (j < k) × (i < numBuckets)
+    turn-on e = (ltb-true j k (and-left (ltb j k) _ e), ltb-true i numBuckets (and-right (ltb j k) _ e))
+
+    pub turn-off : (ltb j k && ltb i numBuckets) ≡ false → (k ≤ j) ⊎ (numBuckets ≤ i)
+    turn-off e =
+        split (ltb j k)
+        (λ t. inr (ltb-false i numBuckets (ap (λ (b : Bool). b && ltb i numBuckets) (sym t) ∙ e)))
+        (λ t. inl (ltb-false j k t))
 
 rest : (i : ℕ) (is : List ℕ) → Visitable (i ∷ is) → Visitable is
 rest i is c = record { below = c .below .1; once = c .once .1; short = (let h = c .short in omega arith) }

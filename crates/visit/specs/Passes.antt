@@ -5,6 +5,7 @@ use mathlib.Core.Bool.{Bool, true, cond, _&&_, _||_}
 use mathlib.Core.List.{List, [], _∷_}
 use lib.ListN.{length}
 use lib.Dec.{eqb}
+use Rattle.model.specs.Base.{tabulate}
 use Rattle.model.specs.Node.{EndedPending, placedOf}
 use Rattle.model.specs.Bucket.{numEntries, applyPending}
 use Rattle.model.specs.Table.{Table, numBuckets, write}
@@ -13,9 +14,11 @@ use Rattle.model.specs.Layout.{tableOf}
 use Rattle.model.specs.Formed.{bucketsFormed}
 use Rattle.model.specs.StepBytes.{restore}
 use Rattle.model.specs.Fits.{All}
+use Rattle.key.specs.Visits.{remaining}
 use Rattle.visit.specs.declared.Counted.{Counted}
 use Rattle.visit.specs.declared.Given.{Given}
 use Rattle.visit.specs.declared.Tally.{Tally}
+use Rattle.visit.specs.declared.Visit.{Visit}
 
 -- the nodes that bucket i holds once its due pending is applied, and the records that it gives then
 abbrev pub held : ℕ → Table → ℕ → ℕ
@@ -62,15 +65,27 @@ visitAll now n is t = applyAll now (visitedBy now n is t) t
 unfoldable pub appliedIn : List ℕ → ℕ → List ℕ → List ℕ
 appliedIn s now is = restore s is (applyAll now is (tableOf s) .0)
 
--- 02, slip 7: question 2 of the buckets that yield n nodes, and the records that they give where it passes
+-- of n items, those that the buckets leave to find; size i: the items of bucket i
+unfoldable pub leftOf : (ℕ → ℕ) → ℕ → List ℕ → ℕ
+leftOf size n [] = n
+leftOf size n (i ∷ is) = leftOf size (n - size i) is
+
+-- 02, slip 7: question 2 of the buckets that yield n nodes; where it passes, the records that they give and how many nodes they hold, up
+-- to n
 pub record Surveyed (now n : ℕ) (is : List ℕ) (s : List ℕ) (r : Tally) : Type 0 where
   pub formed : r .formed ≡ bucketsFormed s (visitedBy now n is (tableOf s))
   pub records : r .formed ≡ true → r .records ≡ length (visitAll now n is (tableOf s) .1)
+  pub count : r .formed ≡ true → r .count ≡ n - leftOf (held now (tableOf s)) n is
 
 -- no bucket but bucket 0 stands twice
 abbrev pub Once : List ℕ → Type 0
 Once [] = Unit {0}
 Once (i ∷ is) = All (λ (j : ℕ). j ≡ i → i ≡ 0) is × Once is
+
+-- the buckets of a visit, in its order
+abbrev pub order : Visit → List ℕ
+order Visit.InTurn = tabulate numBuckets (λ i. i)
+order (Visit.Nearest it) = remaining it
 
 -- buckets of the table, in an order in which they may be visited
 pub record Visitable (is : List ℕ) : Type 0 where

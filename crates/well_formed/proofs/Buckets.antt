@@ -12,7 +12,7 @@ use Rattle.model.specs.Base.{allBelow, tabulate}
 use Rattle.model.specs.Bytes.{part}
 use Rattle.model.specs.Bucket.{maxNodesPerBucket, incomingNodes, emptyBucket}
 use Rattle.model.specs.Table.{numBuckets, maxRecords}
-use Rattle.model.specs.Sizes.{keySize, nodeSize, recordSize, placeAt, bucketSize, maxIncomingAt, tableFilterAt, bucketFilterAt, recordCountAt, paddingAt, paddingSize, recordAt}
+use Rattle.model.specs.Sizes.{keySize, nodeSize, recordSize, placeAt, bucketSize, maxIncomingAt, tableFilterAt, bucketFilterAt, recordCountAt, paddingAt, paddingSize, recordAt, bucketAt, storageSize}
 use Rattle.model.specs.Layout.{evictingKind, lastKind, nodesIn, placeIn, bucketPart}
 use Rattle.model.specs.Formed as model
 use Rattle.model.specs.Formed.{areZero, keyIn, stateAt, pendingFormed, bucketFormed, bucketFormedAt, recordFormed, headerFormed, formed}
@@ -120,8 +120,13 @@ unfolding ofIndex
 formed-at s i {local} {m} e f =
     ap (λ (l : ℕ). bucketFormed (ofIndex l i) m (bucketPart s i)) e ∙ ap (λ (n : ℕ). bucketFormed (ofIndex (keyIn s) i) n (bucketPart s i)) f
 
+-- an empty bucket of the storage
+pub formed-empty : (s : List ℕ) (i : ℕ) → storageSize ≤ length s → i < numBuckets → areZero s (bucketAt i) bucketSize ≡ true → bucketFormedAt s i ≡ true
+formed-empty s i l h z =
+    sym (formed-at s i refl refl) ∙ bucket-zero (ofIndex (keyIn s) i) (getD s maxIncomingAt 0) s (bucketAt i) (omega arith) z
+
 -- the table
 
 pub formed-is : (s : List ℕ) → formed s ≡ (headerFormed s && allBelow numBuckets (bucketAtFormed s))
-unfolding formed bucketAtFormed ofIndex
+unfolding formed bucketAtFormed
 formed-is s = refl

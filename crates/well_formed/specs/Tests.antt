@@ -6,9 +6,9 @@ use lib.ListN.{getD}
 use lib.Dec.{eqb}
 use Rattle.model.specs.Key.{bucketIndex}
 use Rattle.model.specs.Node.{Node}
-use Rattle.model.specs.Sizes.{keySize, maxIncomingAt}
-use Rattle.model.specs.Layout.{placeIn, nodeIn, recordPart, bucketPart}
-use Rattle.model.specs.Formed.{nodeCodes, keyIn, stateAt, notHeld, isAt, recordFormed, bucketFormed}
+use Rattle.model.specs.Sizes.{keySize}
+use Rattle.model.specs.Layout.{placeIn, nodeIn, recordPart}
+use Rattle.model.specs.Formed.{nodeCodes, keyIn, stateAt, notHeld, isAt, recordFormed, bucketFormedAt}
 
 -- a key's index in the table of the local key is i
 unfoldable pub ofIndex : ℕ → ℕ → ℕ → Bool
@@ -32,4 +32,4 @@ recordAtFormed s j = recordFormed (recordPart s j)
 
 -- bucket i of the storage
 unfoldable pub bucketAtFormed : List ℕ → ℕ → Bool
-bucketAtFormed s i = bucketFormed (ofIndex (keyIn s) i) (getD s maxIncomingAt 0) (bucketPart s i)
+bucketAtFormed s i = bucketFormedAt s i

@@ -1,6 +1,6 @@
 // Internal: question 2 on the bytes of the storage, with one node by value at a time.
 ghost use mathlib.Core.Path.{_≡_};
-ghost use mathlib.Core.Bool.{cond, _&&_};
+ghost use mathlib.Core.Bool.{true, cond, _&&_};
 ghost use Prim.Native.Nat.{_+_, _*_, _-_, _≤_, _<_};
 ghost use lib.Dec.{eqb, leb};
 ghost use lib.ListN.{length, getD};
@@ -26,8 +26,8 @@ pub fn size(x: u8) -> usize
     x as usize
 }
 
-// The bytes at `at` are those of the key. The last word decides most often.
-fn has_key(s: &[u8], at: usize, key: Key) -> bool
+// Internal: the bytes at `at` are those of the key. The last word decides most often.
+pub fn has_key(s: &[u8], at: usize, key: Key) -> bool
     requires { ⌜ at + keySize ≤ length (now s) ⌝ }
     ensures { λ r. ⌜ r ≡ same (number (part (now (s .entry)) at keySize)) (num key) ⌝ }
 {
@@ -132,8 +132,8 @@ pub fn one(b: bool) -> usize
     if b { 1 } else { 0 }
 }
 
-// The node at `at` is connected and incoming.
-fn is_incoming(s: &[u8], at: usize) -> bool
+// Internal: the node at `at` is connected and incoming.
+pub fn is_incoming(s: &[u8], at: usize) -> bool
     requires { ⌜ at + nodeSize ≤ length (now s) ⌝ }
     ensures { λ r. ⌜ r ≡ connectedIncoming (nodeIn (part (now (s .entry)) at nodeSize)) ⌝ }
 {
@@ -190,18 +190,24 @@ fn held_formed(s: &[u8], at: usize, count: usize, first: usize, local: Key, i: u
     keys_differ(s, at, count) & (places_formed(s, at, count, first, local, i) & unused)
 }
 
-// Internal: the bucket of index i, whose bytes stand at `at`, is well formed.
-pub fn bucket_formed(s: &[u8], at: usize, local: Key, i: usize, max_incoming: usize) -> bool
+// The bytes of the bucket at `at` are zero: it is empty. One test of constant length, where the count is 0.
+fn is_empty(s: &[u8], at: usize) -> bool
+    requires { ⌜ at + bucketSize ≤ length (now s) ⌝ }
+    ensures { λ r. ⌜ (r ≡ true → areZero (now (s .entry)) at bucketSize ≡ true) ⌝ }
+{
+    if s[at] != 0 {
+        return false;
+    }
+    words::all_zero(s, at, Layout::BUCKET)
+}
+
+// The bucket of index i, whose bytes stand at `at`, by its count, its places and its pending.
+fn parts_formed(s: &[u8], at: usize, local: Key, i: usize, max_incoming: usize) -> bool
     requires { ⌜ (at + bucketSize ≤ length (now s)) × (i < numBuckets) ⌝ }
     ensures { λ r. ⌜ r ≡ bucketFormed (ofIndex (num local) i) «max_incoming» (part (now (s .entry)) at bucketSize) ⌝ }
 {
     let count = size(s[at]);
     let first = size(s[at + 1]);
-    if count == 0 {
-        if words::all_zero(s, at, Layout::BUCKET) {
-            return true;
-        }
-    }
     if model::MAX_NODES_PER_BUCKET < count {
         return false;
     }
@@ -210,20 +216,29 @@ pub fn bucket_formed(s: &[u8], at: usize, local: Key, i: usize, max_incoming: us
     held & ((first <= count) & (within & pending_formed(s, at, count, local, i)))
 }
 
-// Internal: bucket i of the storage is well formed.
+// Internal: the bucket of index i, whose bytes stand at `at`, is well formed.
+pub fn bucket_formed(s: &[u8], at: usize, local: Key, i: usize, max_incoming: usize) -> bool
+    requires { ⌜ (at + bucketSize ≤ length (now s)) × (i < numBuckets) ⌝ }
+    ensures { λ r. ⌜ r ≡ bucketFormed (ofIndex (num local) i) «max_incoming» (part (now (s .entry)) at bucketSize) ⌝ }
+{
+    if is_empty(s, at) {
+        return true;
+    }
+    parts_formed(s, at, local, i, max_incoming)
+}
+
+// Internal: bucket i of the storage is well formed. Of an empty one nothing else is read.
 pub fn bucket_formed_at(s: &[u8], i: usize) -> bool
     requires { ⌜ (storageSize ≤ length (now s)) × (i < numBuckets) ⌝ }
     ensures { λ r. ⌜ r ≡ bucketFormedAt (now (s .entry)) i ⌝ }
 {
+    let at = Layout::HEADER + i * Layout::BUCKET;
+    if is_empty(s, at) {
+        return true;
+    }
     let local = Key::load(s, 0);
     let max_incoming = size(s[Layout::MAX_INCOMING_AT]);
-    bucket_formed(
-        s,
-        Layout::HEADER + i * Layout::BUCKET,
-        local,
-        i,
-        max_incoming,
-    )
+    parts_formed(s, at, local, i, max_incoming)
 }
 
 // The record of the queue at `at`.
@@ -266,7 +281,7 @@ pub fn header_formed(s: &[u8]) -> bool
     let settings = (size(s[Layout::MAX_INCOMING_AT]) <= model::MAX_NODES_PER_BUCKET)
         & ((s[Layout::TABLE_FILTER_AT] <= 1) & (s[Layout::BUCKET_FILTER_AT] <= 1));
     let padding = words::all_zero(s, Layout::PADDING_AT, Layout::PADDING);
-    let unused = words::all_zero(
+    let unused = words::all_zero_long(
         s,
         Layout::RECORDS_AT + count * Layout::RECORD,
         (Layout::MAX_RECORDS - count) * Layout::RECORD,
@@ -279,19 +294,10 @@ fn buckets_formed(s: &[u8]) -> bool
     requires { ⌜ storageSize ≤ length (now s) ⌝ }
     ensures { λ r. ⌜ r ≡ allBelow numBuckets (bucketAtFormed (now (s .entry))) ⌝ }
 {
-    let local = Key::load(s, 0);
-    let max_incoming = size(s[Layout::MAX_INCOMING_AT]);
     let mut ok = true;
     let mut i: usize = 0;
     while i < model::NUM_BUCKETS {
-        ok = ok
-            & bucket_formed(
-                s,
-                Layout::HEADER + i * Layout::BUCKET,
-                local,
-                i,
-                max_incoming,
-            );
+        ok = ok & bucket_formed_at(s, i);
         i += 1;
     }
     ok

@@ -107,3 +107,43 @@ pub fn all_zero(s: &[u8], at: usize, n: usize) -> bool
     }
     x == 0
 }
+
+// Internal: the n bytes from `at` on are zero, for a long run. 512 bytes at a time: a run of constant length has no loop left.
+pub fn all_zero_long(s: &[u8], at: usize, n: usize) -> bool
+    requires { ⌜ at + n ≤ length (now s) ⌝ }
+    ensures { λ r. ⌜ r ≡ areZero (now (s .entry)) at n ⌝ }
+{
+    let mut i: usize = 0;
+    while 512 <= n - i {
+        if !all_zero(s, at + i, 512) {
+            return false;
+        }
+        i += 512;
+    }
+    all_zero(s, at + i, n - i)
+}
+
+// Internal: the n bytes at `at` go up by `by` bytes, the last first.
+pub fn shift_up(s: &mut [u8], at: usize, by: usize, n: usize)
+    requires { ⌜ at + by + n ≤ length (now s) ⌝ }
+    requires { ⌜ 1 ≤ by ⌝ }
+    ensures { λ _. ⌜ now (s .exit) ≡ splice (now (s .entry)) (at + by) (part (now (s .entry)) at n) ⌝ }
+{
+    let mut i: usize = n;
+    while 0 < i {
+        i -= 1;
+        s[at + by + i] = s[at + i];
+    }
+}
+
+// Internal: the n bytes that stand `by` bytes behind `at` go down to `at`, the first first.
+pub fn shift_down(s: &mut [u8], at: usize, by: usize, n: usize)
+    requires { ⌜ at + by + n ≤ length (now s) ⌝ }
+    ensures { λ _. ⌜ now (s .exit) ≡ splice (now (s .entry)) at (part (now (s .entry)) (at + by) n) ⌝ }
+{
+    let mut i: usize = 0;
+    while i < n {
+        s[at + i] = s[at + by + i];
+        i += 1;
+    }
+}

@@ -6,8 +6,8 @@ use Rattle.header.proofs.drop_record.Tie as tie
 mul-rest : tie.Need-mul-rest
 mul-rest c = search needs
 
-move-up-requires : tie.Need-move-up-requires
-move-up-requires c κs = search needs
+shift-down-requires : tie.Need-shift-down-requires
+shift-down-requires c κs = search needs
 
 add-put-zeros : tie.Need-add-put-zeros
 add-put-zeros c = search needs
@@ -36,7 +36,7 @@ drop-record-spec =
     tie.close
     (tie.spec
     mul-rest
-    move-up-requires
+    shift-down-requires
     add-put-zeros
     put-zeros-requires
     cast-put-byte

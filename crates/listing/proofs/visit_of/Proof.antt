@@ -11,9 +11,6 @@ use Rattle.listing.proofs.visit_of.Tie as tie
 enum-told : tie.Need-enum-told
 enum-told c = search needs
 
-in-turn-requires : tie.Need-in-turn-requires
-in-turn-requires c κs = search needs
-
 enum-known-shape : tie.Need-enum-known-shape
 enum-known-shape c = search needs
 
@@ -28,7 +25,7 @@ new-requires c κs = search needs
 
 returns : tie.Need-returns
 unfolding visitOrderBy
-returns c = let e = c .before .enum-told .given .1 in c .in-turn .ensures ∙ (rw e)
+returns c = let e = c .enum-told .given .1 in rw e
 
 returns-2 : tie.Need-returns-2
 unfolding visitOrderBy
@@ -44,7 +41,6 @@ visit-of-spec =
     tie.close
     (tie.spec
     enum-told
-    in-turn-requires
     enum-known-shape
     local-key-requires
     distance-requires

@@ -7,7 +7,6 @@ use Rattle.model.specs.Node.{EndedPending, placedOf}
 use Rattle.model.specs.Bucket.{Bucket, numEntries, applyPending}
 use Rattle.model.specs.Layout.{tableOf}
 use Rattle.on_key.proofs.Due.{not-due}
-use Rattle.bucket.proofs.Sound.{count-of}
 use borrow.Author.Tests.{not-true}
 use borrow.Author.Needs.{needs}
 use Rattle.visit.proofs.given_at.Statement.{statement}
@@ -33,41 +32,12 @@ returns c =
       one = omega arith;
     }
 
-apply-at-requires : tie.Need-apply-at-requires
-apply-at-requires c κs = search needs
-
-only-placed-requires : tie.Need-only-placed-requires
-only-placed-requires c κs = c .before .apply-at .ensures .codes
-
-count-of-requires : tie.Need-count-of-requires
-count-of-requires c κs = search needs
-
-count-of-requires-2 : tie.Need-count-of-requires-2
-count-of-requires-2 c κs = search needs
+applied-at-requires : tie.Need-applied-at-requires
+applied-at-requires c κs = search needs
 
 returns-2 : tie.Need-returns-2
-returns-2 c =
-    let n = c .before in
-    let p = n .before in
-    let a = p .before .before in
-    let x = a .apply-at .ensures in
-    let b = a .apply-at .result .bucket in
-    record {
-      count = count-of b (x .bucket .sound) ∙ ap numEntries (x .bucket .bucket);
-      records = n .count-of .ensures .0 ∙ ap length (x .records);
-      placed = c .count-of2 .ensures .0 ∙ ap length (p .only-placed .ensures .0) ∙ ap (λ (rs : List EndedPending). length (placedOf rs)) (x .records);
-      one = n .count-of .ensures .1;
-    }
+returns-2 c = search needs
 
 pub given-at-spec : {M : Type 1} → statement M
 given-at-spec =
-    tie.close
-    (tie.spec
-    is-due-requires
-    held-at-requires
-    returns
-    apply-at-requires
-    only-placed-requires
-    count-of-requires
-    count-of-requires-2
-    returns-2)
+    tie.close (tie.spec is-due-requires held-at-requires returns applied-at-requires returns-2)

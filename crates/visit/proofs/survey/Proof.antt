@@ -1,114 +1,45 @@
-use mathlib.Core.Path.{refl, sym, ap, _∙_, subst}
-use native.Mathlib.Omega.{arith}
-use lib.ListN.{length}
-use borrow.Author.Tests.{not-true, not-false}
-use Rattle.key.specs.Visits.{remaining}
-use Rattle.visit.proofs.Visitable.{step-at, step-end}
-use Rattle.visit.proofs.Counts.{Counting, counting-starts, counting-next, counting-fails, counting-ends, counting-full}
+use mathlib.Core.Path.{sym, ap, subst}
+use mathlib.Core.List.{List}
+use Prim.Native.Nat.{ℕ}
+use Rattle.visit.specs.Passes.{Visitable, order, Surveyed}
 use borrow.Author.Needs.{needs}
 use Rattle.visit.proofs.survey.Statement.{statement}
 use Rattle.visit.proofs.survey.Tie as tie
 
-abbrev Inv-loop : tie.InvT-loop
-Inv-loop s n time it₀ c₀ it c = Counting time n (remaining it₀) s c (remaining it)
-
-abbrev μ-loop : tie.MeasureT-loop
-μ-loop s n time it₀ c₀ it c = length (remaining it)
-
-loop-holds : tie.Need-loop-holds Inv-loop μ-loop
-loop-holds c =
-    let o = c .before in
-    counting-starts (o .args .time) (o .args .n) (remaining (o .args .visit)) (o .args .s .now) (o .pre .1 .1) _ refl refl refl
-
-next-requires : tie.Need-next-requires Inv-loop μ-loop
-next-requires c κs = search needs
-
-enum-told : tie.Need-enum-told Inv-loop μ-loop
+enum-told : tie.Need-enum-told
 enum-told c = search needs
 
-returns : tie.Need-returns Inv-loop μ-loop
+survey-in-turn-requires : tie.Need-survey-in-turn-requires
+survey-in-turn-requires c κs = search needs
+
+enum-known-visit : tie.Need-enum-known-visit
+enum-known-visit c = search needs
+
+survey-nearest-requires : tie.Need-survey-nearest-requires
+survey-nearest-requires c κs =
+    let v = c .before in
+    let o = v .before .before .before in
+    (o .pre .0, (o .pre .1 .0, subst Visitable (ap order (v .visit .given .1)) (o .pre .1 .1)))
+
+returns : tie.Need-returns
 returns c =
-    let x = c .before .before .before in
-    let l = x .before .before .before in
-    let o = l .before .before in
-    counting-ends (o .args .time) (o .args .n) (remaining (o .args .visit)) (o .args .s .now) (l .loop .c) _ _ (step-end (x .next .ensures) (c .enum-told .given .1)) (l .loop .inv) refl refl
+    let v = c .before in
+    let a = v .before .before .before .args in
+    subst (λ (is : List ℕ). Surveyed (a .time) (a .n) is (a .s .now) (c .survey-in-turn .result)) (sym (ap order (v .enum-told .given .1))) (c .survey-in-turn .ensures)
 
-enum-known-index : tie.Need-enum-known-index Inv-loop μ-loop
-enum-known-index c = search needs
-
-bucket-formed-at-requires : tie.Need-bucket-formed-at-requires Inv-loop μ-loop
-bucket-formed-at-requires c κs =
-    let x = c .before .before .before .before in
-    let l = x .before .before .before in
-    let o = l .before .before in
-    let e = step-at (x .next .ensures) (c .before .index .given .1) in
-    let w = subst (Counting (o .args .time) (o .args .n) (remaining (o .args .visit)) (o .args .s .now) (l .loop .c)) e (l .loop .inv) in
-    (omega (arith, o .pre .0 .0), w .below .0)
-
-returns-2 : tie.Need-returns-2 Inv-loop μ-loop
+returns-2 : tie.Need-returns-2
 returns-2 c =
-    let b = c .before in
-    let k = b .before in
-    let x = k .before .before .before .before in
-    let l = x .before .before .before in
-    let o = l .before .before in
-    let e = step-at (x .next .ensures) (k .before .index .given .1) in
-    let w = subst (Counting (o .args .time) (o .args .n) (remaining (o .args .visit)) (o .args .s .now) (l .loop .c)) e (l .loop .inv) in
-    counting-fails (o .args .time) (o .args .n) (remaining (o .args .visit)) (o .args .s .now) (l .loop .c) _ _ _ (x .before .if1 .taken)
-    (sym (b .bucket-formed-at .ensures) ∙ not-true _ (c .if2 .taken)) w refl
-
-count-at-requires : tie.Need-count-at-requires Inv-loop μ-loop
-count-at-requires c κs =
-    let b = c .before in
-    let k = b .before in
-    let x = k .before .before .before .before in
-    let l = x .before .before .before in
-    let o = l .before .before in
-    let e = step-at (x .next .ensures) (k .before .index .given .1) in
-    let w = subst (Counting (o .args .time) (o .args .n) (remaining (o .args .visit)) (o .args .s .now) (l .loop .c)) e (l .loop .inv) in (
-      record { size = o .pre .0 .0; header = o .pre .0 .1; below = w .below .0; bucket = sym (b .bucket-formed-at .ensures) ∙ not-false _ (c .if2 .left) },
-      (o .pre .1 .0, (let h = w .short in omega arith)),
-    )
-
-loop-less : tie.Need-loop-less Inv-loop μ-loop
-loop-less c =
-    let k = c .before .before .before in
-    let x = k .before .before .before .before in
-    let e = step-at (x .next .ensures) (k .before .index .given .1) in
-    omega (arith, ap length e)
-
-loop-again : tie.Need-loop-again Inv-loop μ-loop
-loop-again c =
-    let b = c .before .before in
-    let k = b .before in
-    let x = k .before .before .before .before in
-    let l = x .before .before .before in
-    let o = l .before .before in
-    let e = step-at (x .next .ensures) (k .before .index .given .1) in
-    let w = subst (Counting (o .args .time) (o .args .n) (remaining (o .args .visit)) (o .args .s .now) (l .loop .c)) e (l .loop .inv) in
-    counting-next (o .args .time) (o .args .n) (remaining (o .args .visit)) (o .args .s .now) (l .loop .c) _ _ _ (x .before .if1 .taken)
-    (sym (b .bucket-formed-at .ensures) ∙ not-false _ (c .before .if2 .left)) (c .count-at .ensures) w
-
-returns-3 : tie.Need-returns-3 Inv-loop μ-loop
-returns-3 c =
-    let l = c .before .before in
-    let o = l .before .before in
-    counting-full (o .args .time) (o .args .n) (remaining (o .args .visit)) (o .args .s .now) (l .loop .c) _ _ (c .if1 .left) (l .loop .inv) refl refl
+    let v = c .before .before in
+    let a = v .before .before .before .args in
+    subst (λ (is : List ℕ). Surveyed (a .time) (a .n) is (a .s .now) (c .survey-nearest .result)) (sym (ap order (v .visit .given .1))) (c .survey-nearest .ensures)
 
 pub survey-spec : {M : Type 1} → statement M
 survey-spec =
     tie.close
     (tie.spec
-    Inv-loop
-    μ-loop
-    loop-holds
-    next-requires
     enum-told
+    survey-in-turn-requires
+    enum-known-visit
+    survey-nearest-requires
     returns
-    enum-known-index
-    bucket-formed-at-requires
-    returns-2
-    count-at-requires
-    loop-less
-    loop-again
-    returns-3)
+    returns-2)

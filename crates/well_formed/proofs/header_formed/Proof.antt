@@ -30,17 +30,17 @@ shared-slice-read-settings-2 c = search needs
 all-zero-requires : tie.Need-all-zero-requires
 all-zero-requires c κs = search needs
 
-mul-all-zero : tie.Need-mul-all-zero
-mul-all-zero c = search needs
+mul-all-zero-long : tie.Need-mul-all-zero-long
+mul-all-zero-long c = search needs
 
-add-all-zero : tie.Need-add-all-zero
-add-all-zero c = search needs
+add-all-zero-long : tie.Need-add-all-zero-long
+add-all-zero-long c = search needs
 
-mul-all-zero-2 : tie.Need-mul-all-zero-2
-mul-all-zero-2 c = search needs
+mul-all-zero-long-2 : tie.Need-mul-all-zero-long-2
+mul-all-zero-long-2 c = search needs
 
-all-zero-requires-2 : tie.Need-all-zero-requires-2
-all-zero-requires-2 c κs = search needs
+all-zero-long-requires : tie.Need-all-zero-long-requires
+all-zero-long-requires c κs = search needs
 
 records-formed-requires : tie.Need-records-formed-requires
 records-formed-requires c κs = search needs
@@ -62,9 +62,9 @@ header-formed-spec =
     shared-slice-read-settings
     shared-slice-read-settings-2
     all-zero-requires
-    mul-all-zero
-    add-all-zero
-    mul-all-zero-2
-    all-zero-requires-2
+    mul-all-zero-long
+    add-all-zero-long
+    mul-all-zero-long-2
+    all-zero-long-requires
     records-formed-requires
     returns-2)

@@ -1,0 +1,2 @@
+-- Laws of insert_or_update in place.
+pub mod Laws

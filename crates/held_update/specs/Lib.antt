@@ -1,0 +1,2 @@
+-- What the contracts of `held_update` cite beside the model.
+pub mod Stands
