@@ -1,7 +1,7 @@
 """The must-fail edits and the functions that they change, as tools/refused and tools/claims read them.
 
 A file of crates/CRATE/must-fail may hold edits of several functions, each a block that begins with 'edit: NAME'; a file without such a line is
-one edit, of the file's name."""
+one edit, of the file's name. No two edits of a file change one function."""
 
 import re
 from functools import lru_cache
@@ -76,6 +76,14 @@ class Edit:
                     names.add(f.name)
         return names
 
+    def of_bodies(self):
+        """is it an edit of the bodies of functions alone, so that all contracts stay?"""
+        return self.of("src") and all(
+            any(f.body <= at and at + len(old) <= f.end for f in functions_of(self.crate, file))
+            for file, old, _ in self.pairs
+            for at in [self.text(file).find(old)]
+        )
+
     def faults(self):
         """what is wrong with the edit, as far as its text tells. That two programs are the same it tells only where they have the same words:
         the same text but for comments, spaces, the way a number is written, and a comma before a closing bracket."""
@@ -149,6 +157,9 @@ def faults_of(edits):
     """what is wrong with the edits, as far as their text tells"""
     seen, faults = set(), list(faults_in_turn(edits))
     for edit in edits:
+        for other in edits[: edits.index(edit)]:
+            if (other.crate, other.label) == (edit.crate, edit.label) and (not edit.of("src") or other.changed() & edit.changed()):
+                faults.append(f"{edit}: {other.name}, in the same file, changes the same")
         if (edit.crate, edit.name) in seen:
             faults.append(f"{edit}: another edit has this name")
         seen.add((edit.crate, edit.name))

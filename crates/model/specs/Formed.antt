@@ -1,4 +1,5 @@
--- Question 2, on the storage's bytes (01, "The gatekeeper's questions"): one test of each bucket, and of the table "for every bucket".
+-- Question 2, on the storage's bytes (01, "The gatekeeper's questions"): one test of the settings and the queue, one of each bucket, and of
+-- several "for every bucket".
 use Prim.Native.Nat.{ℕ, _+_, _*_, _-_}
 use mathlib.Core.Bool.{Bool, false, cond, not, _&&_, _||_}
 use mathlib.Core.List.{List}
