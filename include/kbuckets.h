@@ -32,7 +32,7 @@
 
 /* The version of this header: 0x00MMmmpp, a byte each for major, minor and patch. */
 #define KBUCKETS_VERSION_MAJOR 0
-#define KBUCKETS_VERSION_MINOR 6
+#define KBUCKETS_VERSION_MINOR 7
 #define KBUCKETS_VERSION_PATCH 0
 #define KBUCKETS_VERSION (KBUCKETS_VERSION_MAJOR * 0x10000 + KBUCKETS_VERSION_MINOR * 0x100 + KBUCKETS_VERSION_PATCH)
 
@@ -89,6 +89,11 @@ enum {
     /* the most entries that a listing may be asked for */
     KBUCKETS_MAX_COUNT = 4096,
 
+    /* the most windows and the most closed dates that a call may be given, and the minutes of a day */
+    KBUCKETS_MAX_WINDOWS = 32,
+    KBUCKETS_MAX_CLOSED_DATES = 64,
+    KBUCKETS_MINUTES = 1440,
+
     /* what the output of an explanation must have room for, however short its line; no line is longer */
     KBUCKETS_EXPLANATION_BYTES = 2048,
 
@@ -136,7 +141,9 @@ enum {
     KBUCKETS_REFUSED_OUTPUT = KBUCKETS_REFUSED + 6, /* n is above 4096, or the output or the answer is too short */
     KBUCKETS_REFUSED_KIND = KBUCKETS_REFUSED + 7,   /* the key is not of the kind that the entry action needs */
     KBUCKETS_REFUSED_QUEUE = KBUCKETS_REFUSED + 8,  /* the call would leave more than 64 records in the queue */
-    KBUCKETS_REFUSED_LOAD = KBUCKETS_REFUSED + 9    /* the bytes given to kbuckets_read cannot be loaded, or the table holds something */
+    KBUCKETS_REFUSED_LOAD = KBUCKETS_REFUSED + 9,   /* the bytes given to kbuckets_read cannot be loaded, or the table holds something */
+    KBUCKETS_REFUSED_HOURS = KBUCKETS_REFUSED + 10, /* windows, closed dates, date or minute are none ("Session hours") */
+    KBUCKETS_REFUSED_CLOSED = KBUCKETS_REFUSED + 11 /* a new key outside all windows */
 };
 
 /* Why an update or an insert failed: an answer KBUCKETS_FAILED + reason. Each call below lists the answers that can occur, without
@@ -230,7 +237,20 @@ enum {
  * The filters. A value with an address fails the table filter where the table holds 10 values of its /24 that are unequal to it, and the
  * bucket filter where its bucket holds 2; the old value of its own key is not counted. So a held key whose new value keeps the /24 of the old
  * one passes the table filter while at most 10 are held there, its own among them. kbuckets_absent_insert and a pending that is applied are
- * not asked the table filter, so a table may hold more than 10 values of a /24. */
+ * not asked the table filter, so a table may hold more than 10 values of a /24.
+ *
+ * Session hours. kbuckets_insert_or_update, kbuckets_absent_insert and their explanations are given the hours in which new keys are
+ * admitted, and the UTC date (year, month, day) and minute, 0 to 1439. `windows` has three numbers for each weekly window: weekday, 1
+ * Monday to 7 Sunday, opening minute and closing minute, both of that day. A window includes its opening minute and excludes its closing
+ * minute, which comes after it and is at most 1440. `closed` has three numbers for each date that has no windows: year, month, day.
+ * Dates are those of the Gregorian calendar from 2000 to 2399. There are at most KBUCKETS_MAX_WINDOWS windows, which may overlap, and
+ * KBUCKETS_MAX_CLOSED_DATES closed dates, which may repeat. windows_len and closed_len count numbers (not entries, not bytes), of 16
+ * bits in the machine's byte order, aligned as the machine's uint16_t.
+ *
+ * A call whose windows, closed dates, date or minute are not such is refused with HOURS, whatever its key. Then a new key is refused
+ * with CLOSED outside all windows: one that is neither the local key nor held or pending as stored, before a due pending is applied.
+ * Both are asked last, and nothing is applied where they refuse. With windows_len 0 neither is asked, and nothing else of the hours is
+ * looked at: a host without hours gives two pointers that are not null, and zeros. */
 
 /* Makes the storage, whatever it held, that of an empty table. max_incoming: 0 to 16. Answers 0. Questions 1, 3, 4. */
 KBUCKETS_MUST_USE uint32_t kbuckets_new(
@@ -254,10 +274,11 @@ KBUCKETS_MUST_USE uint32_t kbuckets_update_node(
 /* Inserts a node, also where the key is only pending, or sets status and value of the key's node. Where setting either fails, or the table
  * filter does, the key's node is taken out; a status that cannot be set answers FAILED_TOO_MANY_INCOMING, whatever the reason. The local
  * key answers FAILED_INVALID_SELF_UPDATE. `answer` is at least KBUCKETS_ANSWER_BYTES; only its first 32 bytes are written, and only where
- * the answer is PENDING. Answers any INSERT_.. but UPDATED_PENDING, or any FAILED_.. but KEY_NON_EXISTENT. Questions 1 to 6, 8. */
+ * the answer is PENDING. Answers any INSERT_.. but UPDATED_PENDING, or any FAILED_.. but KEY_NON_EXISTENT. Questions 1 to 6, 8, 10, 11. */
 KBUCKETS_MUST_USE uint32_t kbuckets_insert_or_update(
     uint8_t *storage, size_t storage_len, const uint8_t *key, size_t key_len, uint8_t flag, uint8_t a, uint8_t b, uint8_t c, uint8_t d,
-    kbuckets_slot slot, uint8_t state, uint8_t direction, uint64_t now, uint8_t *answer, size_t answer_len);
+    kbuckets_slot slot, uint8_t state, uint8_t direction, uint64_t now, const uint16_t *windows, size_t windows_len, const uint16_t *closed,
+    size_t closed_len, uint16_t year, uint16_t month, uint16_t day, uint16_t minute, uint8_t *answer, size_t answer_len);
 
 /* Takes the key's node out. A pending of the key that is not due stays. Answers REMOVE_REMOVED, or REMOVE_NOT_HELD, as for the local key.
  * Questions 1, 2, 3, 5, 8. */
@@ -280,10 +301,11 @@ KBUCKETS_MUST_USE uint32_t kbuckets_pending_update(
     uint8_t *storage, size_t storage_len, const uint8_t *key, size_t key_len, uint8_t state, uint8_t direction);
 
 /* Of an Absent key: inserts a node; the table filter is skipped. `answer` as for kbuckets_insert_or_update. Answers any BUCKET_INSERT_..
- * but NODE_EXISTS. Questions 1 to 7. */
+ * but NODE_EXISTS. Questions 1 to 7, 10, 11. */
 KBUCKETS_MUST_USE uint32_t kbuckets_absent_insert(
     uint8_t *storage, size_t storage_len, const uint8_t *key, size_t key_len, uint8_t flag, uint8_t a, uint8_t b, uint8_t c, uint8_t d,
-    kbuckets_slot slot, uint8_t state, uint8_t direction, uint64_t now, uint8_t *answer, size_t answer_len);
+    kbuckets_slot slot, uint8_t state, uint8_t direction, uint64_t now, const uint16_t *windows, size_t windows_len, const uint16_t *closed,
+    size_t closed_len, uint16_t year, uint16_t month, uint16_t day, uint16_t minute, uint8_t *answer, size_t answer_len);
 
 /* The listings. Each writes at most n entries to `output`, one behind the other, and answers how many it found. The output has room for n
  * entries (one, in kbuckets_nodes_by_distances at n = 0); bytes past the entries found stay. The due pendings of the buckets visited are
@@ -368,10 +390,12 @@ KBUCKETS_MUST_USE uint32_t kbuckets_explain_update_node(
     const uint8_t *storage, size_t storage_len, const uint8_t *key, size_t key_len, uint8_t flag, uint8_t a, uint8_t b, uint8_t c,
     uint8_t d, kbuckets_slot slot, uint8_t state, uint64_t now, uint8_t *output, size_t output_len);
 
-/* Explains kbuckets_insert_or_update. Reasons: all but no such key. Questions 1 to 6, 8. */
+/* Explains kbuckets_insert_or_update. Reasons: all but no such key. Questions 1 to 6, 8, 10, 11. */
 KBUCKETS_MUST_USE uint32_t kbuckets_explain_insert_or_update(
     const uint8_t *storage, size_t storage_len, const uint8_t *key, size_t key_len, uint8_t flag, uint8_t a, uint8_t b, uint8_t c,
-    uint8_t d, kbuckets_slot slot, uint8_t state, uint8_t direction, uint64_t now, uint8_t *output, size_t output_len);
+    uint8_t d, kbuckets_slot slot, uint8_t state, uint8_t direction, uint64_t now, const uint16_t *windows, size_t windows_len,
+    const uint16_t *closed, size_t closed_len, uint16_t year, uint16_t month, uint16_t day, uint16_t minute, uint8_t *output,
+    size_t output_len);
 
 /* Explains kbuckets_remove. Reasons: none, no such key, local key. Questions 1, 2, 3, 5, 6, 8. */
 KBUCKETS_MUST_USE uint32_t kbuckets_explain_remove(
@@ -388,10 +412,12 @@ KBUCKETS_MUST_USE uint32_t kbuckets_explain_pending_update(
     size_t output_len);
 
 /* Explains kbuckets_absent_insert. Reasons: none, bucket filter, incoming limit, newcomer disconnected, all connected, pending. Questions
- * 1 to 7. */
+ * 1 to 7, 10, 11. */
 KBUCKETS_MUST_USE uint32_t kbuckets_explain_absent_insert(
     const uint8_t *storage, size_t storage_len, const uint8_t *key, size_t key_len, uint8_t flag, uint8_t a, uint8_t b, uint8_t c,
-    uint8_t d, kbuckets_slot slot, uint8_t state, uint8_t direction, uint64_t now, uint8_t *output, size_t output_len);
+    uint8_t d, kbuckets_slot slot, uint8_t state, uint8_t direction, uint64_t now, const uint16_t *windows, size_t windows_len,
+    const uint16_t *closed, size_t closed_len, uint16_t year, uint16_t month, uint16_t day, uint16_t minute, uint8_t *output,
+    size_t output_len);
 
 /* A table that survives a change of machine: kbuckets_write puts the held nodes out as bytes, and kbuckets_read loads them into storage that
  * kbuckets_new has just made. The bytes are 256 one-byte sizes, of the buckets 0 to 255; then the keys of all nodes, in bucket and place

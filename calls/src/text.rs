@@ -84,6 +84,17 @@ impl From<Unplaced> for EndingCodes {
     }
 }
 
+/// The hours that come with a call that inserts, as numbers of any kind (02, slip 8): three a window (weekday, opening minute, closing
+/// minute), three a closed date (year, month, day), perhaps with a rest of one or two; then the UTC date and minute.
+#[derive(Clone, Debug, Default, PartialEq, Eq)]
+pub struct SessionCodes {
+    pub windows: Vec<u16>,
+    pub closed: Vec<u16>,
+    /// Year, month, day.
+    pub date: [u16; 3],
+    pub minute: u16,
+}
+
 /// Which values `closest_values_predicate` marks. `Code` is a number alone: 0 always, 1 has an address, others out of range.
 #[derive(Clone, Debug, PartialEq, Eq)]
 pub enum Predicate {
@@ -129,6 +140,7 @@ pub enum TableCall {
         value: ValueCodes,
         state: u8,
         direction: u8,
+        session: SessionCodes,
     },
     Remove {
         now: u64,
@@ -154,6 +166,7 @@ pub enum TableCall {
         value: ValueCodes,
         state: u8,
         direction: u8,
+        session: SessionCodes,
     },
     /// `room`: the entries that the lent output has room for, where the line says it.
     List {
@@ -255,12 +268,12 @@ pub const TABLE_FORMS: [&str; 19] = [
     "new LOCAL TIMEOUT MAX_INCOMING TABLE_FILTER BUCKET_FILTER",
     "update_node_status NOW KEY STATE DIRECTION?",
     "update_node NOW KEY VALUE STATE?",
-    "insert_or_update NOW KEY VALUE STATE DIRECTION",
+    "insert_or_update NOW KEY VALUE STATE DIRECTION [WINDOWS CLOSED DATE MINUTE]",
     "remove NOW KEY",
     "entry NOW KEY",
     "present_update KEY STATE DIRECTION?",
     "pending_update KEY STATE DIRECTION",
-    "absent_insert NOW KEY VALUE STATE DIRECTION",
+    "absent_insert NOW KEY VALUE STATE DIRECTION [WINDOWS CLOSED DATE MINUTE]",
     "iter NOW N",
     "nodes_by_distances NOW DISTANCES N",
     "closest_keys NOW TARGET N",
@@ -396,6 +409,7 @@ fn table_call(name: &str, words: &mut Words) -> Result<Option<TableCall>, String
             value: words.value()?,
             state: words.code()?,
             direction: words.code()?,
+            session: words.session()?,
         },
         "remove" => TableCall::Remove { now: words.number()?, key: words.key()? },
         "entry" => TableCall::Entry { now: words.number()?, key: words.key()? },
@@ -411,6 +425,7 @@ fn table_call(name: &str, words: &mut Words) -> Result<Option<TableCall>, String
             value: words.value()?,
             state: words.code()?,
             direction: words.code()?,
+            session: words.session()?,
         },
         "iter" | "nodes_by_distances" | "closest_keys" | "closest_values" | "closest_values_predicate" => {
             TableCall::List {
@@ -575,6 +590,19 @@ impl<'a> Words<'a> {
         }
     }
 
+    /// Four words, or none: an empty window list. What stands before a room are no hours.
+    fn session(&mut self) -> Result<SessionCodes, String> {
+        if self.rest.is_none_or(|rest| rest.starts_with("out=")) {
+            return Ok(SessionCodes::default());
+        }
+        Ok(SessionCodes {
+            windows: threes(self.word()?, ':', "window")?,
+            closed: threes(self.word()?, '-', "date")?,
+            date: three(self.word()?, '-', "date")?,
+            minute: short_number(self.word()?)?,
+        })
+    }
+
     fn room(&mut self) -> Result<Option<u64>, String> {
         match self.rest {
             None => Ok(None),
@@ -599,6 +627,28 @@ fn number(word: &str, most: u64) -> Result<u64, String> {
 
 fn octet(word: &str) -> Result<u8, String> {
     number(word, 255).map(|n| n as u8)
+}
+
+/// A number that two bytes hold.
+fn short_number(word: &str) -> Result<u16, String> {
+    number(word, u16::MAX.into()).map(|n| n as u16)
+}
+
+/// Three numbers, as a window or a date has them.
+fn three(word: &str, mark: char, what: &str) -> Result<[u16; 3], String> {
+    let numbers = word.split(mark).map(short_number).collect::<Result<Vec<u16>, String>>()?;
+    numbers.try_into().map_err(|_| format!("no {what}: {word:?}"))
+}
+
+/// Windows or dates joined by commas, `-` for none; `+` behind them for one number more, 0.
+fn threes(word: &str, mark: char, what: &str) -> Result<Vec<u16>, String> {
+    let (entries, rest) = word.strip_suffix('+').map_or((word, false), |entries| (entries, true));
+    let mut numbers = match entries {
+        "-" => Vec::new(),
+        _ => entries.split(',').map(|entry| three(entry, mark, what)).collect::<Result<Vec<_>, String>>()?.concat(),
+    };
+    numbers.extend(rest.then_some(0));
+    Ok(numbers)
 }
 
 fn dotted<const COUNT: usize>(word: &str) -> Result<[u8; COUNT], String> {

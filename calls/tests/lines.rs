@@ -6,15 +6,16 @@ use calls::layout::{
 };
 use calls::text::{
     BUCKET_FORMS, BucketCall, EndingCodes, Line, Listing, NodeCodes, PEER_CALLS, Predicate, RAW_FORMS, Raw,
-    RecordCodes, Slot, TABLE_FORMS, TableCall, Unplaced, ValueCodes, Which, Write, parse,
+    RecordCodes, SessionCodes, Slot, TABLE_FORMS, TableCall, Unplaced, ValueCodes, Which, Write, parse,
 };
 
 fn read(line: &str) -> Line {
     parse(line).unwrap_or_else(|fault| panic!("{fault}")).unwrap_or_else(|| panic!("passed over: {line}"))
 }
 
-/// A line of a form, with a word for each of its words.
+/// A line of a form, with a word for each of its words but those that may be left out.
 fn example(form: &str) -> String {
+    let form = form.split(" [").next().unwrap();
     let word = |word: &str| match word {
         "KEY" | "LOCAL" | "TARGET" => ":4".to_string(),
         "VALUE" => "1:10.0.0.1:7".to_string(),
@@ -94,6 +95,86 @@ fn explained_calls() {
         assert!(fault.ends_with(&format!("its form is: explain CALL [out=K], with the CALL {form}")), "{fault}");
     }
     assert!(parse("explain").unwrap_err().ends_with("too few words; its form is: explain CALL [out=K]"));
+}
+
+/// The hours behind the two calls that insert, and behind their explanations: four words or none, with any number that two bytes hold.
+#[test]
+fn hours() {
+    let session = |line: &str| {
+        let Line::Table { call, .. } = read(line) else { panic!() };
+        let call = match call {
+            TableCall::Explain { call, .. } => *call,
+            call => call,
+        };
+        match call {
+            TableCall::InsertOrUpdate { session, .. } | TableCall::AbsentInsert { session, .. } => session,
+            other => panic!("{other:?}"),
+        }
+    };
+    let mut dates = SessionCodes { date: [2024, 2, 29], minute: 1439, ..SessionCodes::default() };
+    for name in ["insert_or_update", "absent_insert"] {
+        for call in [format!("{name} 1 :4 1:10.0.0.1:7 1 0"), format!("! explain {name} 1 :4 1:10.0.0.1:7 1 0")] {
+            assert_eq!(session(&call), SessionCodes::default());
+            assert_eq!(session(&format!("{call} - - 0-0-0 0")), SessionCodes::default());
+            for (words, windows, closed) in [
+                ("- -", vec![], vec![]),
+                ("1:540:1020,5:540:1440 -", vec![1, 540, 1020, 5, 540, 1440], vec![]),
+                ("- 2024-12-25,2399-12-31", vec![], vec![2024, 12, 25, 2399, 12, 31]),
+                ("6:0:1440+ -+", vec![6, 0, 1440, 0], vec![0]),
+                ("-+ 0-0-0+", vec![0], vec![0, 0, 0, 0]),
+                ("65535:65535:65535 65535-0-65535", vec![65535; 3], vec![65535, 0, 65535]),
+            ] {
+                (dates.windows, dates.closed) = (windows, closed);
+                assert_eq!(session(&format!("{call} {words} 2024-2-29 1439")), dates, "{words}");
+            }
+            for count in [33, 65, 1000] {
+                let many = |entry: &str| vec![entry; count].join(",");
+                let session = session(&format!("{call} {} {} 0-0-0 0", many("1:2:3"), many("4-5-6")));
+                assert_eq!((session.windows, session.closed), ([1, 2, 3].repeat(count), [4, 5, 6].repeat(count)));
+            }
+            for words in [
+                "-",
+                "- -",
+                "- - 0-0-0",
+                "- - 0-0-0 0 0",
+                "- - 0-0-0 -",
+                "- - 0-0 0",
+                "- - 0-0-0-0 0",
+                "- - - 0",
+                "- - 0-0-0+ 0",
+                "- - 0-0-65536 0",
+                "- - 0-0-0 65536",
+                "+ - 0-0-0 0",
+                "-++ - 0-0-0 0",
+                "1:2 - 0-0-0 0",
+                "1:2:3: - 0-0-0 0",
+                "1-2-3 - 0-0-0 0",
+                "1:2:3, - 0-0-0 0",
+                "1:2:3,- - 0-0-0 0",
+                "1:2:3+,1:2:3 - 0-0-0 0",
+                "1:2:65536 - 0-0-0 0",
+                "1:2:-3 - 0-0-0 0",
+                "- 1:2:3 0-0-0 0",
+                "- 0-0-0, 0-0-0 0",
+                "- 0-0-65536 0-0-0 0",
+                "- -- 0-0-0 0",
+            ] {
+                assert!(parse(&format!("{call} {words}")).is_err(), "{words}");
+            }
+        }
+        let Line::Table { call: TableCall::Explain { room, .. }, .. } =
+            read(&format!("explain {name} 1 :4 1:10.0.0.1:7 1 0 1:0:1 - 2000-1-1 0 out=2048"))
+        else {
+            panic!()
+        };
+        assert_eq!(room, Some(2048));
+        assert!(parse(&format!("{name} 1 :4 1:10.0.0.1:7 1 0 out=2048")).is_err());
+        assert!(parse(&format!("explain {name} 1 :4 1:10.0.0.1:7 1 0 out=2048 1:0:1 - 2000-1-1 0")).is_err());
+    }
+    for call in ["b_insert 1 :4 1:10.0.0.1:7 1 0", "update_node 1 :4 1:10.0.0.1:7 1", "remove 1 :4"] {
+        read(call);
+        assert!(parse(&format!("{call} - - 0-0-0 0")).is_err(), "{call}");
+    }
 }
 
 /// A table's bytes are read digit by digit and written alike.

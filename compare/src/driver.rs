@@ -3,6 +3,7 @@
 //! bucket is malformed, the Rust has no such table: `write` and `read`, which read all buckets, are refused with 2, and no other call but
 //! `new` is answered (02, slip 7).
 
+use crate::hours;
 use crate::kbucket::access::{self, KBucket};
 use crate::kbucket::filter::{Filter, IpBucketFilter, IpTableFilter};
 use crate::kbucket::{
@@ -15,7 +16,8 @@ use crate::stand_ins::Value;
 use crate::stand_ins::clock::{self, Instant};
 use crate::stand_ins::enr::NodeId;
 use crate::text::{
-    BucketCall, EndingCodes, Listing, NodeCodes, Predicate, RecordCodes, TableCall, Unplaced, ValueCodes, Write,
+    BucketCall, EndingCodes, Listing, NodeCodes, Predicate, RecordCodes, SessionCodes, TableCall, Unplaced, ValueCodes,
+    Write,
 };
 use endings::Reach;
 use std::collections::VecDeque;
@@ -210,7 +212,7 @@ impl HeldTable {
         HeldTable { settings, table: new_table(local, &settings), queue: VecDeque::new() }
     }
 
-    /// Questions 3 to 8, then the call.
+    /// Questions 3 to 11, then the call.
     fn call(&mut self, call: &TableCall, out: &mut Vec<u8>) -> Result<(), Unanswered> {
         let settings = &self.settings;
         match call {
@@ -232,12 +234,12 @@ impl HeldTable {
                 let result = self.run(Some(*now), Reach::Applied(&key), update)?;
                 update_result(&result, out);
             }
-            TableCall::InsertOrUpdate { now, key, value, state, direction } => {
+            TableCall::InsertOrUpdate { now, key, value, state, direction, session } => {
                 let key = key_of(&key_bytes(key)?);
                 ask(4, layout::value_in_range(value) && *state <= 1 && *direction <= 1)?;
                 ask_clock(*now, settings)?;
                 let insert = |t: &mut Table| t.insert_or_update(&key, value_of(value), status_of(*state, *direction));
-                let result = self.run(Some(*now), Reach::Applied(&key), insert)?;
+                let result = self.run_in_session(session, Some(*now), Reach::Applied(&key), insert)?;
                 insert_result(&result, out);
             }
             TableCall::Remove { now, key } => {
@@ -279,15 +281,16 @@ impl HeldTable {
                 })?;
                 out.text("UpdatedPending");
             }
-            TableCall::AbsentInsert { now, key, value, state, direction } => {
+            TableCall::AbsentInsert { now, key, value, state, direction, session } => {
                 let key = key_of(&key_bytes(key)?);
                 ask(4, layout::value_in_range(value) && *state <= 1 && *direction <= 1)?;
                 ask_clock(*now, settings)?;
                 ask(7, self.kind(&key) == Some(Kind::Absent))?;
-                let result = self.run(Some(*now), Reach::Stored(&key), |t| match access::stored_entry(t, &key) {
+                let insert = |t: &mut Table| match access::stored_entry(t, &key) {
                     Entry::Absent(entry) => entry.insert(value_of(value), status_of(*state, *direction)),
                     _ => unreachable!(),
-                })?;
+                };
+                let result = self.run_in_session(session, Some(*now), Reach::Stored(&key), insert)?;
                 bucket_insert_result(&result, out);
             }
             TableCall::List { now, listing, n, room } => self.list(*now, listing, *n, *room, out)?,
@@ -318,7 +321,27 @@ impl HeldTable {
         Ok(result)
     }
 
-    /// Question 7: the kind of a key as stored.
+    /// The call with hours. Questions 10 and 11 are asked after 8, of the key as it is before the call (02, slip 8): a call that they refuse
+    /// is made on a clone, for question 8 alone.
+    fn run_in_session<R>(
+        &mut self,
+        session: &SessionCodes,
+        now: Option<u64>,
+        reach: Reach,
+        call: impl FnOnce(&mut Table) -> R,
+    ) -> Result<R, Unanswered> {
+        let (Reach::Applied(key) | Reach::Stored(key)) = &reach else { unreachable!("no call on one key") };
+        let known = self.kind(key) != Some(Kind::Absent);
+        match hours::refusal(session, known) {
+            None => self.run(now, reach, call),
+            Some(question) => {
+                self.clone().run(now, reach, call)?;
+                Err(Unanswered::Refused(question))
+            }
+        }
+    }
+
+    /// The kind of a key as stored, none of the local key.
     fn kind(&mut self, key: &Key<NodeId>) -> Option<Kind> {
         match access::stored_entry(&mut self.table, key) {
             Entry::Present(..) => Some(Kind::Present),

@@ -1,9 +1,13 @@
 //! Seeded random lists of calls that reach deep states: full buckets, pendings due and not, clocks that go back, shared /24s, slots that
-//! differ in one byte alone, small maxima, a full queue, tables that no calls reach, malformed storage, and arguments that each question refuses.
+//! differ in one byte alone, small maxima, a full queue, hours, tables that no calls reach, malformed storage, and arguments that each
+//! question refuses.
 
 use crate::explained::ROOM;
 use crate::layout;
 use crate::text::{self as line, Line, NodeCodes, PEER_CALLS, Raw, Slot, TableCall, Which, Write};
+use hours::with_hours;
+
+mod hours;
 
 /// The splitmix64 generator.
 pub struct Random(u64);
@@ -230,11 +234,13 @@ pub struct Generator {
     pub small: bool,
     /// Where calls are explained: a generator of its own, so that the calls are those of a list without explanations.
     explaining: Option<Random>,
+    /// For the hours, another one.
+    hours: Random,
 }
 
 impl Generator {
     pub fn new(seed: u64) -> Generator {
-        Generator { random: Random::new(seed), small: false, explaining: None }
+        Generator { random: Random::new(seed), small: false, explaining: None, hours: Random::new(seed ^ 1 << 63) }
     }
 
     /// Of lists in which most of the calls that can be explained stand behind their explanation.
@@ -245,7 +251,8 @@ impl Generator {
     /// The next list of calls.
     pub fn list(&mut self) -> Vec<String> {
         let Some(mut random) = self.explaining.take() else {
-            return self.calls();
+            let list = self.calls();
+            return with_hours(list, &mut self.hours);
         };
         let list = if random.percent(8) {
             let mut world = World::new(&mut random, Theme::Limits);
@@ -254,6 +261,7 @@ impl Generator {
         } else {
             self.calls()
         };
+        let list = with_hours(list, &mut self.hours);
         let list = saved(explained(list, &mut random), &mut random);
         self.explaining = Some(random);
         list

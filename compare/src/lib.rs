@@ -3,6 +3,7 @@
 
 pub mod explained;
 pub mod generate;
+pub mod hours;
 pub mod outcome;
 pub mod run;
 pub mod shrink;

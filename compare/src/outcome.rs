@@ -1,10 +1,11 @@
 //! The outcomes that a comparison reaches: by call, the answer without what it carries; by explained call, the answer and the reason with
-//! the number of its keys; by call, how it ended pendings. And what the listings and the explanations were asked for, and which slots were
-//! told apart.
+//! the number of its keys; by call, how it ended pendings; by call, the hours that came with it. And what the listings and the explanations
+//! were asked for, and which slots were told apart.
 
 use crate::explained::{self, Parts};
+use crate::hours::{self, CLOSED_FAULTS, DATE_FAULTS, MINUTE_FAULT, WINDOW_FAULTS};
 use crate::program::MALFORMED;
-use crate::text::{self, BucketCall, Line, Listing, Predicate, Slot, TableCall, ValueCodes, Write};
+use crate::text::{self, BucketCall, Line, Listing, Predicate, SessionCodes, Slot, TableCall, ValueCodes, Write};
 use std::collections::BTreeMap;
 use std::str::Split;
 
@@ -69,6 +70,8 @@ const OUTCOMES: [(&str, &[&str]); 22] = [
             "Refused 4",
             "Refused 5",
             "Refused 8",
+            "Refused 10",
+            "Refused 11",
         ],
     ),
     ("remove", &["true", "false", "Refused 1", "Refused 2", "Refused 3", "Refused 5", "Refused 8"]),
@@ -107,6 +110,8 @@ const OUTCOMES: [(&str, &[&str]); 22] = [
             "Refused 4",
             "Refused 5",
             "Refused 7",
+            "Refused 10",
+            "Refused 11",
         ],
     ),
     ("iter", &["List none", "List n", "List fewer", "Refused 1", "Refused 2", "Refused 5", "Refused 6", "Refused 8"]),
@@ -295,6 +300,8 @@ const EXPLAINED: [(&str, &[&str]); 7] = [
             "Refused 5",
             "Refused 6",
             "Refused 8",
+            "Refused 10",
+            "Refused 11",
         ],
     ),
     (
@@ -345,6 +352,8 @@ const EXPLAINED: [(&str, &[&str]); 7] = [
             "Refused 5",
             "Refused 6",
             "Refused 7",
+            "Refused 10",
+            "Refused 11",
         ],
     ),
 ];
@@ -390,6 +399,90 @@ const SAVED: [(&str, &[&str]); 2] = [
     ("write", &["Written", "Refused 1", "Refused 2", "Refused 6"]),
     ("read", &["Read", "Refused 1", "Refused 2", "Refused 9"]),
 ];
+
+/// The calls with hours, what the key is before the call, and when the call is made; the local key is met by the first alone, and of the
+/// second only a new key is asked for hours (02, slip 8). The minutes are those of a window of the day; where none has them, of the call.
+const HOURS: [&str; 2] = ["insert_or_update", "absent_insert"];
+const KNOWN: [&str; 3] = ["held", "pending", "local"];
+const WHEN: [&str; 8] = [
+    "opening minute",
+    "last minute",
+    "open",
+    "minute before opening",
+    "closing minute",
+    "shut",
+    "closed date",
+    "no window",
+];
+
+/// When a call is made whose hours pass question 10.
+fn when(session: &SessionCodes) -> &'static str {
+    let SessionCodes { windows, date, minute, .. } = session;
+    let today = hours::weekday(*date).map(u16::from);
+    let of_today = || windows.chunks_exact(3).filter(|window| Some(window[0]) == today);
+    let at = |edge: &dyn Fn(&[u16]) -> u16| of_today().any(|window| edge(window) == *minute);
+    if windows.is_empty() {
+        WHEN[7]
+    } else if hours::is_closed(session) {
+        WHEN[6]
+    } else if hours::is_open(session) {
+        match (at(&|window| window[1]), at(&|window| window[2] - 1)) {
+            (true, _) => WHEN[0],
+            (_, true) => WHEN[1],
+            _ => WHEN[2],
+        }
+    } else {
+        match (at(&|window| window[1].wrapping_sub(1)), at(&|window| window[2])) {
+            (true, _) => WHEN[3],
+            (_, true) => WHEN[4],
+            _ => WHEN[5],
+        }
+    }
+}
+
+/// What a key is in a table, as a dump shows it.
+fn kind(key: &[u8], dump: &[u8]) -> Option<&'static str> {
+    let mut text = Vec::new();
+    text.key(key.try_into().ok()?);
+    let key = String::from_utf8(text).ok()?;
+    let dump = str::from_utf8(dump).ok()?.split(" queue=").next()?.strip_prefix("dump local=")?;
+    Some(if dump.starts_with(&key) {
+        "local"
+    } else {
+        match dump.find(&format!("{key}/")) {
+            Some(at) if dump[..at].ends_with('=') => "pending",
+            Some(_) => "held",
+            None => "new",
+        }
+    })
+}
+
+/// Hours that would be refused, of a call that question 7 or 8 refuses before. They are counted, and need not be reached.
+const BEFORE_HOURS: [&str; 3] = ["8 before 10", "8 before 11", "7 before 10"];
+
+/// Which hours came with a call that no question before 10 refused: one fault alone, or when and for which key; or which of
+/// [`BEFORE_HOURS`]. `before`: the dump before it.
+fn hours_of(line: &str, answer: &str, before: &[u8]) -> Option<(&'static str, String)> {
+    let Ok(Some(Line::Table { call, .. })) = text::parse(line) else { return None };
+    let (name, key, session) = match call {
+        TableCall::InsertOrUpdate { key, session, .. } => (HOURS[0], key, session),
+        TableCall::AbsentInsert { key, session, .. } => (HOURS[1], key, session),
+        _ => return None,
+    };
+    let refusal = answer.strip_prefix("Refused ").unwrap_or("10");
+    if !["10", "11"].contains(&refusal) {
+        let known = kind(&key, before).is_none_or(|kind| kind != "new");
+        let hours = hours::refusal(&session, known)?;
+        let one = format!("{refusal} before {hours}");
+        return BEFORE_HOURS.contains(&&one[..]).then_some((name, one));
+    }
+    let one = match &hours::faults(&session)[..] {
+        [] => format!("{} {}", kind(&key, before)?, when(&session)),
+        [(what, fault)] => format!("{what}: {fault}"),
+        _ => return None,
+    };
+    Some((name, one))
+}
 
 /// What explanations are asked for, in bytes of the output.
 const ASKED_TO_EXPLAIN: [&str; 4] = ["out=0 refused", "out=2047 refused", "out=2048 explained", "out=2049 explained"];
@@ -601,6 +694,28 @@ impl Counts {
         Counts::none(&[SLOT_EQUALS, VALUE_GIVEN].map(|name| (name, &SLOTS[..])))
     }
 
+    /// Of the hours: each fault alone, and each moment for each kind of key.
+    pub fn hours() -> Counts {
+        let faults =
+            |what: &str, of: &[&str]| of.iter().map(|fault| format!("{what}: {fault}")).collect::<Vec<String>>();
+        let moments = |kind: &str| WHEN.map(|when| format!("{kind} {when}")).to_vec();
+        let new = [
+            faults("windows", &WINDOW_FAULTS),
+            faults("closed", &CLOSED_FAULTS),
+            faults("closed", &DATE_FAULTS),
+            faults("date", &DATE_FAULTS),
+            faults("minute", &[MINUTE_FAULT]),
+            moments("new"),
+        ]
+        .concat();
+        let all = [&new[..], &KNOWN.map(moments).concat()].concat();
+        let mut counts = Counts::none(&HOURS.map(|name| (name, &[][..])));
+        for (name, all) in HOURS.into_iter().zip([all, new]) {
+            counts.counts.extend(all.into_iter().map(|one| ((name, one), 0)));
+        }
+        counts
+    }
+
     fn endings() -> Counts {
         let all: Vec<(&str, Vec<&str>)> = ENDED.iter().map(|(name, parts)| (*name, parts.concat())).collect();
         Counts::none(&all.iter().map(|(name, endings)| (*name, &endings[..])).collect::<Vec<_>>())
@@ -637,6 +752,13 @@ impl Counts {
         }
         for (name, one) in slots(call, answer, before) {
             *self.counts.entry((name, one.to_string())).or_default() += 1;
+        }
+    }
+
+    /// `before`: the dump before the call.
+    pub fn add_hours(&mut self, line: &str, answer: &str, before: &[u8]) {
+        if let Some(one) = hours_of(line, answer, before) {
+            *self.counts.entry(one).or_default() += 1;
         }
     }
 
@@ -857,6 +979,62 @@ mod tests {
                 "value given byte 1 alone 1",
                 "value given byte 7 alone 1",
                 "value given equal 1",
+            ]
+        );
+    }
+
+    /// One fault alone; else what the key is in the dump before the call, and when the call is made.
+    #[test]
+    fn counts_hours() {
+        let key = |n: u64| format!("{n:0>64x}");
+        let (local, held, waiting, gone) = (key(0), key(4), key(5), key(6));
+        let dump = format!(
+            "dump local={local} timeout=0 max=16 tf=0 bf=0 b2{{fcp=- nodes=[{held}/0:0.0.0.0:7/0/0] \
+             pending={waiting}/0:0.0.0.0:1/1/0@9}} queue=[{gone}^{gone}/0:0.0.0.0:1/1/0]"
+        );
+        let mut counts = Counts::hours();
+        for (call, hours, answer) in [
+            ("insert_or_update 0 :0", "1:0:1440 - 2026-11-16 0", "Failed(InvalidSelfUpdate)"),
+            ("insert_or_update 0 :4", "2:0:1440 - 2026-11-16 0", "ValueUpdated"),
+            ("insert_or_update 0 :5", "1:540:1020 - 2026-11-16 1020", "Inserted"),
+            ("insert_or_update 0 :6", "1:540:1020 - 2026-11-16 539", "Refused 11"),
+            ("absent_insert 0 :6", "1:540:1020 - 2026-11-16 1019", "Inserted"),
+            ("absent_insert 0 :7", "1:540:1020 - 2026-11-16 1018", "Inserted"),
+            ("absent_insert 0 :7", "1:540:1020 2026-11-16 2026-11-16 600", "Refused 11"),
+            ("absent_insert 0 :7", "- 0-0-0 0-0-0 0", "Inserted"),
+            ("absent_insert 0 :7", "8:540:1020 - 2026-11-16 0", "Refused 10"),
+            ("insert_or_update 0 :7", "1:540:1020 - 2100-2-29 0", "Refused 10"),
+            ("insert_or_update 0 :7", "1:540:1020 - 2100-2-29 0", "Refused 8"),
+            ("insert_or_update 0 :7", "2:540:1020 - 2026-11-16 600", "Refused 8"),
+            ("absent_insert 0 :4", "1:540:1020 - 2100-2-29 0", "Refused 7"),
+            // Refused before, with hours that are not; refused by an earlier question; two faults; no call with hours.
+            ("insert_or_update 0 :4", "2:540:1020 - 2026-11-16 600", "Refused 8"),
+            ("insert_or_update 0 :7", "1:540:1020 - 2100-2-29 0", "Refused 5"),
+            ("insert_or_update 0 :7", "1:540:1020 - 2100-2-29 1440", "Refused 10"),
+        ] {
+            counts.add_hours(&format!("{call} 0:0.0.0.0:1 1 0 {hours}"), answer, dump.as_bytes());
+        }
+        counts.add_hours("remove 0 :7", "false", dump.as_bytes());
+        // Without a dump the key is not known.
+        counts.add_hours("insert_or_update 0 :7 0:0.0.0.0:1 1 0", "Inserted", b"");
+        let reached: Vec<String> =
+            counts.counts.iter().filter(|(_, c)| **c > 0).map(|((n, o), c)| format!("{n} {o} {c}")).collect();
+        assert_eq!(
+            reached,
+            [
+                "absent_insert 7 before 10 1",
+                "absent_insert new closed date 1",
+                "absent_insert new last minute 1",
+                "absent_insert new no window 1",
+                "absent_insert new open 1",
+                "absent_insert windows: weekday over 7 1",
+                "insert_or_update 8 before 10 1",
+                "insert_or_update 8 before 11 1",
+                "insert_or_update date: 29 February of a century 1",
+                "insert_or_update held shut 1",
+                "insert_or_update local opening minute 1",
+                "insert_or_update new minute before opening 1",
+                "insert_or_update pending closing minute 1",
             ]
         );
     }

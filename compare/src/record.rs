@@ -3,15 +3,15 @@
 
 use crate::driver::Driver;
 use crate::layout::{KEY, NODE, RECORD, VALUE};
-use crate::text::{self, BucketCall, Line, Listing, Predicate, Slot, TableCall, ValueCodes};
+use crate::text::{self, BucketCall, Line, Listing, Predicate, SessionCodes, Slot, TableCall, ValueCodes};
 use calls::program;
 
 pub const BYTES: usize = 128;
 type Record = [u8; BYTES];
 
 /// The places in a record: number of the call; how many bytes, or distances; key; state and direction; flag, or predicate; octets; slot;
-/// time; length of the storage or bucket; n, or where a write begins; length of the output or answer; code; checksum; distances, or the
-/// bytes of a write.
+/// time; length of the storage or bucket; n, or where a write begins, or date and minute; length of the output or answer; code; checksum;
+/// distances, or the bytes of a write, or how many numbers of windows and of closed dates there are, and these.
 const COUNT_AT: usize = 1;
 const KEY_AT: usize = COUNT_AT + 1;
 const CODES_AT: usize = KEY_AT + KEY + 1;
@@ -25,6 +25,8 @@ const ROOM_AT: usize = N_AT + 8;
 const CODE_AT: usize = ROOM_AT + 4;
 const CHECKSUM_AT: usize = CODE_AT + 4;
 const REST_AT: usize = CHECKSUM_AT + 8;
+const WINDOWS_AT: usize = REST_AT + 2;
+const CLOSED_AT: usize = WINDOWS_AT + 2 * (3 * WINDOWS + 1);
 
 /// What the output or the answer holds before a call.
 const FILL: u8 = 165;
@@ -35,6 +37,11 @@ pub const ANSWER: usize = RECORD;
 /// The distances that a record has room for, and the bytes of a write.
 const DISTANCES: usize = (BYTES - REST_AT) / 8;
 const WRITTEN: usize = BYTES - REST_AT;
+
+/// The windows and the closed dates that a record has room for, each with one number more.
+const WINDOWS: usize = 4;
+const CLOSED: usize = 2;
+const _: () = assert!(CLOSED_AT + 2 * (3 * CLOSED + 1) == BYTES);
 
 /// The entries that an output has room for, at most.
 const ENTRIES: u64 = 4096 + 5;
@@ -85,14 +92,21 @@ fn parts(line: &str) -> (&str, Option<usize>) {
     }
 }
 
-/// A line that fits a record: at most as many distances as it has room for.
+/// A line that fits a record: at most as many distances, windows and closed dates as it has room for.
 pub fn fitting(line: &str) -> String {
-    if name(line) != "nodes_by_distances" {
-        return line.to_string();
-    }
+    let cut: &[(usize, usize)] = match name(line) {
+        "nodes_by_distances" => &[(2, DISTANCES)],
+        "insert_or_update" | "absent_insert" => &[(6, WINDOWS), (7, CLOSED)],
+        _ => return line.to_string(),
+    };
     let mut words: Vec<String> = line.split(' ').map(str::to_string).collect();
-    let at = if line.starts_with("! ") { 3 } else { 2 };
-    words[at] = words[at].split(',').take(DISTANCES).collect::<Vec<_>>().join(",");
+    for (at, most) in cut {
+        let at = at + usize::from(line.starts_with("! "));
+        if let Some(word) = words.get_mut(at) {
+            let (entries, rest) = word.strip_suffix('+').map_or((&word[..], ""), |entries| (entries, "+"));
+            *word = entries.split(',').take(*most).collect::<Vec<_>>().join(",") + rest;
+        }
+    }
     words.join(" ")
 }
 
@@ -211,6 +225,19 @@ fn put_time(time: u64, record: &mut Record) {
     put(TIME_AT, &time.to_be_bytes(), record);
 }
 
+fn put_numbers(at: usize, numbers: &[u16], record: &mut Record) {
+    put(at, &numbers.iter().flat_map(|number| number.to_be_bytes()).collect::<Vec<u8>>(), record);
+}
+
+fn put_session(session: &SessionCodes, record: &mut Record) {
+    let SessionCodes { windows, closed, date: [year, month, day], minute } = session;
+    assert!(windows.len() <= 3 * WINDOWS + 1 && closed.len() <= 3 * CLOSED + 1, "hours that do not fit a record");
+    put_numbers(N_AT, &[*year, *month, *day, *minute], record);
+    put(REST_AT, &[windows.len() as u8, closed.len() as u8], record);
+    put_numbers(WINDOWS_AT, windows, record);
+    put_numbers(CLOSED_AT, closed, record);
+}
+
 /// Puts the arguments and gives the length of the output or the answer.
 fn table_arguments(call: &TableCall, answer: usize, record: &mut Record) -> usize {
     match call {
@@ -234,12 +261,13 @@ fn table_arguments(call: &TableCall, answer: usize, record: &mut Record) -> usiz
             put_time(*now, record);
             0
         }
-        TableCall::InsertOrUpdate { now, key, value, state, direction }
-        | TableCall::AbsentInsert { now, key, value, state, direction } => {
+        TableCall::InsertOrUpdate { now, key, value, state, direction, session }
+        | TableCall::AbsentInsert { now, key, value, state, direction, session } => {
             put_key(key, record);
             put_codes([*state, *direction], record);
             put_value(value, record);
             put_time(*now, record);
+            put_session(session, record);
             answer
         }
         TableCall::Remove { now, key } | TableCall::Entry { now, key } => {

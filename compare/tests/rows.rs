@@ -1,5 +1,5 @@
-//! The reference answers the twelve positions and the questions of document 01, explains, writes and reads tables, and ends pendings, as the
-//! files say, and refuses bad lines.
+//! The reference answers the twelve positions and the questions of document 01, explains, writes and reads tables, ends pendings, and admits
+//! in session hours, as the files say, and refuses bad lines.
 
 mod programs;
 
@@ -44,6 +44,13 @@ fn written_and_read() {
 fn endings() {
     if has_reference() {
         programs::answers_as_written(REFERENCE, "endings.txt");
+    }
+}
+
+#[test]
+fn hours() {
+    if has_reference() {
+        programs::answers_as_written(REFERENCE, "hours.txt");
     }
 }
 

@@ -19,6 +19,10 @@ pub enum Refusal {
     Kind,
     Queue,
     Load,
+    /// Windows, closed dates, date or minute of a [`Session`](crate::Session).
+    Hours,
+    /// A new key outside all windows.
+    Closed,
 }
 
 impl Refusal {
@@ -41,6 +45,8 @@ impl fmt::Display for Refusal {
             Refusal::Kind => "the key is not of the kind that the entry action needs",
             Refusal::Queue => "the call would leave more than 64 records in the queue",
             Refusal::Load => "the table holds something, or the bytes to be read are no table's that fits it",
+            Refusal::Hours => "the windows, the closed dates, the date or the minute are no session hours",
+            Refusal::Closed => "the key is new, and the time outside all windows",
         })
     }
 }
@@ -203,6 +209,8 @@ pub(crate) fn answered(returned: u32) -> Result<u32, Refusal> {
         Some(7) => Refusal::Kind,
         Some(8) => Refusal::Queue,
         Some(9) => Refusal::Load,
+        Some(10) => Refusal::Hours,
+        Some(11) => Refusal::Closed,
         Some(_) => no_answer(returned),
     })
 }

@@ -41,8 +41,10 @@ fn rust_parameter(parameter: &str) -> String {
         "uint8_t *" => "*mut u8",
         "const uint8_t *" => "*const u8",
         "const uint64_t *" => "*const u64",
+        "const uint16_t *" => "*const u16",
         "size_t" => "usize",
         "uint8_t" => "u8",
+        "uint16_t" => "u16",
         "uint64_t" => "u64",
         "kbuckets_slot" => "Slot",
         other => panic!("{other}"),
@@ -126,6 +128,9 @@ fn sizes() {
         ("CLOSEST_VALUES_ENTRY_BYTES", lent::CLOSEST_VALUES_ENTRY),
         ("CLOSEST_VALUES_PREDICATE_ENTRY_BYTES", lent::CLOSEST_VALUES_PREDICATE_ENTRY),
         ("MAX_COUNT", lent::MAX_COUNT),
+        ("MAX_WINDOWS", lent::MAX_WINDOWS),
+        ("MAX_CLOSED_DATES", lent::MAX_CLOSED_DATES),
+        ("MINUTES", lent::MINUTES.into()),
         ("EXPLANATION_BYTES", lent::EXPLANATION_BYTES),
         ("WRITTEN_ENTRY_BYTES", layout::NODE - layout::KEY),
         ("MAX_NODES", lent::MAX_NODES),
@@ -166,6 +171,8 @@ fn codes() {
         ("KIND", Refusal::Kind),
         ("QUEUE", Refusal::Queue),
         ("LOAD", Refusal::Load),
+        ("HOURS", Refusal::Hours),
+        ("CLOSED", Refusal::Closed),
     ] {
         let code = code(&format!("REFUSED_{name}"));
         assert_eq!(answers::answered(code), Err(refusal));

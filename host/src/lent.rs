@@ -8,7 +8,7 @@ use crate::answers::{
 };
 use crate::ffi;
 use calls::layout::{self, BUCKETS, KEY, NODE, PLACES, RECORD, VALUE};
-pub use calls::text::{EndingCodes, NodeCodes, RecordCodes, Slot, Unplaced, ValueCodes};
+pub use calls::text::{EndingCodes, NodeCodes, RecordCodes, SessionCodes, Slot, Unplaced, ValueCodes};
 
 pub const STORAGE_BYTES: usize = layout::STORAGE;
 pub const BUCKET_BYTES: usize = layout::ALONE;
@@ -21,6 +21,12 @@ pub const NODES_BY_DISTANCES_ENTRY: usize = NODE;
 pub const CLOSEST_KEYS_ENTRY: usize = KEY;
 pub const CLOSEST_VALUES_ENTRY: usize = KEY + VALUE;
 pub const CLOSEST_VALUES_PREDICATE_ENTRY: usize = KEY + 1 + VALUE;
+
+/// The most windows and the most closed dates of a [`SessionCodes`].
+pub const MAX_WINDOWS: usize = 32;
+pub const MAX_CLOSED_DATES: usize = 64;
+/// The minutes of a day: the last closing minute.
+pub const MINUTES: u16 = 1440;
 
 /// What the output of an explanation must have room for.
 pub const EXPLANATION_BYTES: usize = 2048;
@@ -95,6 +101,8 @@ pub fn update_node(
     answered(returned).map(update_result)
 }
 
+/// With an empty window list, as that of [`SessionCodes::default`], hours are not asked for, here and in the three others that take them.
+#[allow(clippy::too_many_arguments)]
 pub fn insert_or_update(
     storage: &mut [u8],
     key: &[u8],
@@ -102,9 +110,11 @@ pub fn insert_or_update(
     state: u8,
     direction: u8,
     now: u64,
+    session: &SessionCodes,
     answer: &mut [u8],
 ) -> Result<InsertResult, Refusal> {
     let ValueCodes { flag, octets: [a, b, c, d], slot } = value;
+    let SessionCodes { windows, closed, date: [year, month, day], minute } = session;
     let returned = unsafe {
         ffi::kbuckets_insert_or_update(
             storage.as_mut_ptr(),
@@ -120,6 +130,14 @@ pub fn insert_or_update(
             state,
             direction,
             now,
+            windows.as_ptr(),
+            windows.len(),
+            closed.as_ptr(),
+            closed.len(),
+            *year,
+            *month,
+            *day,
+            *minute,
             answer.as_mut_ptr(),
             answer.len(),
         )
@@ -151,6 +169,7 @@ pub fn pending_update(storage: &mut [u8], key: &[u8], state: u8, direction: u8) 
     answered(returned).map(update_result)
 }
 
+#[allow(clippy::too_many_arguments)]
 pub fn absent_insert(
     storage: &mut [u8],
     key: &[u8],
@@ -158,9 +177,11 @@ pub fn absent_insert(
     state: u8,
     direction: u8,
     now: u64,
+    session: &SessionCodes,
     answer: &mut [u8],
 ) -> Result<BucketInsertResult, Refusal> {
     let ValueCodes { flag, octets: [a, b, c, d], slot } = value;
+    let SessionCodes { windows, closed, date: [year, month, day], minute } = session;
     let returned = unsafe {
         ffi::kbuckets_absent_insert(
             storage.as_mut_ptr(),
@@ -176,6 +197,14 @@ pub fn absent_insert(
             state,
             direction,
             now,
+            windows.as_ptr(),
+            windows.len(),
+            closed.as_ptr(),
+            closed.len(),
+            *year,
+            *month,
+            *day,
+            *minute,
             answer.as_mut_ptr(),
             answer.len(),
         )
@@ -315,6 +344,7 @@ pub fn explain_update_node(
     answered(returned).map(found)
 }
 
+#[allow(clippy::too_many_arguments)]
 pub fn explain_insert_or_update(
     storage: &[u8],
     key: &[u8],
@@ -322,15 +352,41 @@ pub fn explain_insert_or_update(
     state: u8,
     direction: u8,
     now: u64,
+    session: &SessionCodes,
     output: &mut [u8],
 ) -> Result<usize, Refusal> {
     let (bytes, length) = (storage.as_ptr(), storage.len());
     let (key, count) = (key.as_ptr(), key.len());
     let (line, room) = (output.as_mut_ptr(), output.len());
     let ValueCodes { flag, octets: [a, b, c, d], slot } = value;
+    let SessionCodes { windows, closed, date: [year, month, day], minute } = session;
+    let (windows, windows_len) = (windows.as_ptr(), windows.len());
+    let (closed, closed_len) = (closed.as_ptr(), closed.len());
     let returned = unsafe {
         ffi::kbuckets_explain_insert_or_update(
-            bytes, length, key, count, flag, a, b, c, d, slot, state, direction, now, line, room,
+            bytes,
+            length,
+            key,
+            count,
+            flag,
+            a,
+            b,
+            c,
+            d,
+            slot,
+            state,
+            direction,
+            now,
+            windows,
+            windows_len,
+            closed,
+            closed_len,
+            *year,
+            *month,
+            *day,
+            *minute,
+            line,
+            room,
         )
     };
     answered(returned).map(found)
@@ -374,6 +430,7 @@ pub fn explain_pending_update(
     answered(returned).map(found)
 }
 
+#[allow(clippy::too_many_arguments)]
 pub fn explain_absent_insert(
     storage: &[u8],
     key: &[u8],
@@ -381,15 +438,41 @@ pub fn explain_absent_insert(
     state: u8,
     direction: u8,
     now: u64,
+    session: &SessionCodes,
     output: &mut [u8],
 ) -> Result<usize, Refusal> {
     let (bytes, length) = (storage.as_ptr(), storage.len());
     let (key, count) = (key.as_ptr(), key.len());
     let (line, room) = (output.as_mut_ptr(), output.len());
     let ValueCodes { flag, octets: [a, b, c, d], slot } = value;
+    let SessionCodes { windows, closed, date: [year, month, day], minute } = session;
+    let (windows, windows_len) = (windows.as_ptr(), windows.len());
+    let (closed, closed_len) = (closed.as_ptr(), closed.len());
     let returned = unsafe {
         ffi::kbuckets_explain_absent_insert(
-            bytes, length, key, count, flag, a, b, c, d, slot, state, direction, now, line, room,
+            bytes,
+            length,
+            key,
+            count,
+            flag,
+            a,
+            b,
+            c,
+            d,
+            slot,
+            state,
+            direction,
+            now,
+            windows,
+            windows_len,
+            closed,
+            closed_len,
+            *year,
+            *month,
+            *day,
+            *minute,
+            line,
+            room,
         )
     };
     answered(returned).map(found)

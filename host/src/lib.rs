@@ -43,6 +43,7 @@ mod ffi;
 mod header;
 pub mod lent;
 mod node;
+mod session;
 mod table;
 mod version;
 
@@ -54,5 +55,6 @@ pub use explanation::{Explanation, NoExplanation, PeerCall, Reason, Told};
 pub use node::{
     ClosestValue, ConnectionDirection, ConnectionState, Key, Node, NodeStatus, PredicateValue, Slot, Value,
 };
+pub use session::{Date, Moment, Session, Weekday, Window};
 pub use table::{KBucketsTable, Predicate, Settings};
 pub use version::{OtherLibrary, VERSION, Version, check_library, library_version};

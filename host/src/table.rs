@@ -6,7 +6,9 @@ use crate::lent::{self, ANSWER_BYTES, EXPLANATION_BYTES, MAX_COUNT, MAX_WRITTEN_
 use crate::node::{
     ClosestValue, ConnectionDirection, ConnectionState, Key, NOT_GIVEN, Node, NodeStatus, PredicateValue, Slot, Value,
 };
+use crate::session::Session;
 use calls::layout::{self, KEY, TableBytes};
+use calls::text::SessionCodes;
 use std::fmt;
 
 /// What a table is made with. Filters are off and `max_incoming` is 0 where nothing is said.
@@ -86,7 +88,7 @@ impl KBucketsTable {
         lent::update_node(&mut self.storage, key, value.into(), given(state.map(|s| s as u8)), now)
     }
 
-    /// Inserts a node, or sets status and value of one that is there.
+    /// Inserts a node, or sets status and value of one that is there, at every hour.
     pub fn insert_or_update(
         &mut self,
         key: &Key,
@@ -94,9 +96,32 @@ impl KBucketsTable {
         status: NodeStatus,
         now: u64,
     ) -> Result<InsertResult, Refusal> {
-        let NodeStatus { state, direction } = status;
+        self.insert_or_update_with(key, value, status, now, &SessionCodes::default())
+    }
+
+    /// The same; a new key is inserted in the session's hours only.
+    pub fn insert_or_update_in_session(
+        &mut self,
+        key: &Key,
+        value: Value,
+        status: NodeStatus,
+        now: u64,
+        session: &Session,
+    ) -> Result<InsertResult, Refusal> {
+        self.insert_or_update_with(key, value, status, now, session.codes())
+    }
+
+    fn insert_or_update_with(
+        &mut self,
+        key: &Key,
+        value: Value,
+        status: NodeStatus,
+        now: u64,
+        session: &SessionCodes,
+    ) -> Result<InsertResult, Refusal> {
+        let (state, direction) = (status.state as u8, status.direction as u8);
         let answer = &mut [0; ANSWER_BYTES];
-        lent::insert_or_update(&mut self.storage, key, value.into(), state as u8, direction as u8, now, answer)
+        lent::insert_or_update(&mut self.storage, key, value.into(), state, direction, now, session, answer)
     }
 
     /// Takes a node out; `false` where there is none.
@@ -123,7 +148,7 @@ impl KBucketsTable {
         lent::pending_update(&mut self.storage, key, status.state as u8, status.direction as u8)
     }
 
-    /// The action on a key that is [`Entry::Absent`]; the table filter is skipped.
+    /// The action on a key that is [`Entry::Absent`]; the table filter is skipped. At every hour.
     pub fn absent_insert(
         &mut self,
         key: &Key,
@@ -131,9 +156,32 @@ impl KBucketsTable {
         status: NodeStatus,
         now: u64,
     ) -> Result<BucketInsertResult, Refusal> {
-        let NodeStatus { state, direction } = status;
+        self.absent_insert_with(key, value, status, now, &SessionCodes::default())
+    }
+
+    /// The same, in the session's hours only.
+    pub fn absent_insert_in_session(
+        &mut self,
+        key: &Key,
+        value: Value,
+        status: NodeStatus,
+        now: u64,
+        session: &Session,
+    ) -> Result<BucketInsertResult, Refusal> {
+        self.absent_insert_with(key, value, status, now, session.codes())
+    }
+
+    fn absent_insert_with(
+        &mut self,
+        key: &Key,
+        value: Value,
+        status: NodeStatus,
+        now: u64,
+        session: &SessionCodes,
+    ) -> Result<BucketInsertResult, Refusal> {
+        let (state, direction) = (status.state as u8, status.direction as u8);
         let answer = &mut [0; ANSWER_BYTES];
-        lent::absent_insert(&mut self.storage, key, value.into(), state as u8, direction as u8, now, answer)
+        lent::absent_insert(&mut self.storage, key, value.into(), state, direction, now, session, answer)
     }
 
     /// The first n nodes, bucket by bucket.
@@ -200,6 +248,15 @@ impl KBucketsTable {
     /// # Ok::<(), kbuckets::Refusal>(())
     /// ```
     pub fn explain(&self, call: &PeerCall) -> Result<Explanation, Refusal> {
+        self.explain_with(call, &SessionCodes::default())
+    }
+
+    /// The same of a call in the session's hours. They are asked of `InsertOrUpdate` and `AbsentInsert`; the other calls have none.
+    pub fn explain_in_session(&self, call: &PeerCall, session: &Session) -> Result<Explanation, Refusal> {
+        self.explain_with(call, session.codes())
+    }
+
+    fn explain_with(&self, call: &PeerCall, session: &SessionCodes) -> Result<Explanation, Refusal> {
         let output = &mut [0; EXPLANATION_BYTES];
         let storage = &self.storage;
         let count = match *call {
@@ -212,7 +269,7 @@ impl KBucketsTable {
             }
             PeerCall::InsertOrUpdate { key, value, status: NodeStatus { state, direction }, now } => {
                 let (state, direction) = (state as u8, direction as u8);
-                lent::explain_insert_or_update(storage, &key, value.into(), state, direction, now, output)
+                lent::explain_insert_or_update(storage, &key, value.into(), state, direction, now, session, output)
             }
             PeerCall::Remove { key, now } => lent::explain_remove(storage, &key, now, output),
             PeerCall::PresentUpdate { key, state, direction } => {
@@ -224,7 +281,7 @@ impl KBucketsTable {
             }
             PeerCall::AbsentInsert { key, value, status: NodeStatus { state, direction }, now } => {
                 let (state, direction) = (state as u8, direction as u8);
-                lent::explain_absent_insert(storage, &key, value.into(), state, direction, now, output)
+                lent::explain_absent_insert(storage, &key, value.into(), state, direction, now, session, output)
             }
         }?;
         Ok(Explanation::written(&output[..count]))

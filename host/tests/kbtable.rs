@@ -1,5 +1,5 @@
 //! The tool answers the twelve positions and the questions of document 01, explains calls, ends pendings, reads no bucket that it need not,
-//! refuses bad lines, and explains itself.
+//! admits in session hours, refuses bad lines, and explains itself.
 
 use calls::layout;
 
@@ -41,6 +41,12 @@ fn endings() {
     programs::answers_as_written(KBTABLE, "endings.txt");
 }
 
+/// Admission in session hours.
+#[test]
+fn hours() {
+    programs::answers_as_written(KBTABLE, "hours.txt");
+}
+
 /// Malformed buckets, those that a call reads and others.
 #[test]
 fn malformed_buckets() {
@@ -67,7 +73,7 @@ fn outcomes() {
 
 #[test]
 fn examples() {
-    for file in ["slash24", "pending", "box_swap"] {
+    for file in ["slash24", "pending", "box_swap", "session"] {
         programs::answers_as_written(KBTABLE, &format!("../../host/examples/{file}.calls"));
     }
 }
@@ -104,6 +110,7 @@ fn help() {
     for name in [
         "insert_or_update",
         "closest_values_predicate",
+        "[WINDOWS CLOSED DATE MINUTE]",
         "explain CALL",
         "read HEX",
         "b_apply_pending",

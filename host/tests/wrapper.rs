@@ -1,11 +1,11 @@
 //! The wrapper: owned tables and buckets, and the calls on lent bytes.
 
 use calls::layout::{self, TableBytes};
-use kbuckets::lent::{self, PredicateCodes, RecordCodes, Unplaced, ValueCodes};
+use kbuckets::lent::{self, PredicateCodes, RecordCodes, SessionCodes, Unplaced, ValueCodes};
 use kbuckets::{
-    AppliedPending, BucketInsertResult, ClosestValue, ConnectionDirection, ConnectionState, Ending, Entry, Explanation,
-    FailureReason, InsertResult, KBucket, KBucketsTable, Node, NodeStatus, PeerCall, Predicate, PredicateValue, Reason,
-    Record, Refusal, Settings, Slot, Told, UpdateResult, Value,
+    AppliedPending, BucketInsertResult, ClosestValue, ConnectionDirection, ConnectionState, Date, Ending, Entry,
+    Explanation, FailureReason, InsertResult, KBucket, KBucketsTable, Moment, Node, NodeStatus, PeerCall, Predicate,
+    PredicateValue, Reason, Record, Refusal, Session, Settings, Slot, Told, UpdateResult, Value, Weekday, Window,
 };
 
 fn key(first: u8, last: u8) -> [u8; 32] {
@@ -420,12 +420,175 @@ fn a_full_table_is_written() -> Result<(), Refusal> {
     Ok(())
 }
 
+const WEEK: [Weekday; 7] = [
+    Weekday::Monday,
+    Weekday::Tuesday,
+    Weekday::Wednesday,
+    Weekday::Thursday,
+    Weekday::Friday,
+    Weekday::Saturday,
+    Weekday::Sunday,
+];
+
+fn date(year: u16, month: u16, day: u16) -> Date {
+    Date { year, month, day }
+}
+
+/// A new key is admitted in the hours alone, a held one, a pending one and the local key are not asked; explanations are refused alike.
+#[test]
+fn session() -> Result<(), Refusal> {
+    let monday = date(2026, 11, 16);
+    let window = |weekday, opening, closing| Window { weekday, opening, closing };
+    let office = [window(Weekday::Monday, 540, 1020), window(Weekday::Tuesday, 0, 1440)];
+    let at = |date, minute| Session::new(&office, &[date_of_closing()], Moment { date, minute });
+    let mut table = KBucketsTable::new([0; 32], Settings::default())?;
+    let before = table.clone();
+    for (n, (session, open)) in [
+        (at(monday, 539), false),
+        (at(monday, 540), true),
+        (at(monday, 1019), true),
+        (at(monday, 1020), false),
+        (at(date(2026, 11, 17), 0), true),
+        (at(date(2026, 11, 17), 1439), true),
+        (at(date(2026, 11, 18), 720), false),
+        (at(date_of_closing(), 720), false),
+    ]
+    .into_iter()
+    .enumerate()
+    {
+        let (first, second) = (key(n as u8 + 1, 1), key(n as u8 + 1, 2));
+        let call = PeerCall::InsertOrUpdate { key: first, value: value(1), status: CONNECTED, now: 0 };
+        let explained = table.explain_in_session(&call, &session);
+        let inserted = table.insert_or_update_in_session(&first, value(1), CONNECTED, 0, &session);
+        let call = PeerCall::AbsentInsert { key: second, value: value(2), status: CONNECTED, now: 0 };
+        let absent_explained = table.explain_in_session(&call, &session);
+        let absent = table.absent_insert_in_session(&second, value(2), CONNECTED, 0, &session);
+        if open {
+            assert_eq!(inserted?, InsertResult::Inserted);
+            assert_eq!(absent?, BucketInsertResult::Inserted);
+            assert_eq!((explained?.told(), absent_explained?.told()), (Told::Inserted, Told::Inserted));
+        } else {
+            assert_eq!((inserted, absent), (Err(Refusal::Closed), Err(Refusal::Closed)), "{session:?}");
+            assert_eq!((explained, absent_explained), (Err(Refusal::Closed), Err(Refusal::Closed)));
+            // The calls without hours are answered.
+            assert_eq!(table.explain(&call)?.told(), Told::Inserted);
+        }
+    }
+    assert_ne!(table, before);
+
+    let shut = at(monday, 0);
+    let held = table.insert_or_update_in_session(&key(2, 1), value(9), CONNECTED, 0, &shut)?;
+    assert_eq!(held, InsertResult::ValueUpdated);
+    let local = table.insert_or_update_in_session(&[0; 32], value(9), CONNECTED, 0, &shut)?;
+    assert_eq!(local, InsertResult::Failed(FailureReason::InvalidSelfUpdate));
+    let mut table = waiting()?;
+    let pending = table.insert_or_update_in_session(&key(128, 16), value(9), CONNECTED, 0, &shut)?;
+    assert_eq!(pending, InsertResult::Failed(FailureReason::BucketFull));
+    // Without a window nothing is asked.
+    let none = Session::new(&[], &[date(0, 0, 0)], Moment { date: date(1, 2, 3), minute: 65535 });
+    let inserted = table.insert_or_update_in_session(&key(1, 1), value(9), CONNECTED, 0, &none)?;
+    assert_eq!(inserted, InsertResult::Inserted);
+    // Where the hours are none the call is refused, whatever the key.
+    for session in [
+        Session::new(&[window(Weekday::Monday, 9, 9)], &[], Moment { date: monday, minute: 0 }),
+        Session::new(&[window(Weekday::Monday, 0, 1441)], &[], Moment { date: monday, minute: 0 }),
+        Session::new(&office, &[date(2100, 2, 29)], Moment { date: monday, minute: 0 }),
+        Session::new(&office, &[], Moment { date: date(2027, 2, 29), minute: 0 }),
+        Session::new(&office, &[], Moment { date: monday, minute: 1440 }),
+        Session::new(&[office[0]; 33], &[], Moment { date: monday, minute: 600 }),
+        Session::new(&office, &[date(2026, 12, 25); 65], Moment { date: monday, minute: 600 }),
+    ] {
+        let before = table.clone();
+        for key in [[0; 32], key(1, 1), key(1, 2)] {
+            let refused = table.insert_or_update_in_session(&key, value(9), CONNECTED, 0, &session);
+            assert_eq!(refused, Err(Refusal::Hours), "{session:?}");
+        }
+        assert_eq!(table, before);
+    }
+    let most = Session::new(&[office[0]; 32], &[date(2026, 12, 25); 64], Moment { date: monday, minute: 600 });
+    assert_eq!(
+        table.absent_insert_in_session(&key(1, 2), value(9), CONNECTED, 0, &most)?,
+        BucketInsertResult::Inserted
+    );
+    Ok(())
+}
+
+fn date_of_closing() -> Date {
+    date(2026, 11, 23)
+}
+
+/// The days of a week that ends a leap year's February, one after the other.
+#[test]
+fn weekdays() -> Result<(), Refusal> {
+    let days =
+        [26, 27, 28, 29].map(|day| date(2024, 2, day)).into_iter().chain([1, 2, 3].map(|day| date(2024, 3, day)));
+    let table = KBucketsTable::new([0; 32], Settings::default())?;
+    let call = PeerCall::AbsentInsert { key: key(1, 1), value: value(1), status: CONNECTED, now: 0 };
+    for (today, date) in WEEK.into_iter().zip(days) {
+        for weekday in WEEK {
+            let window = Window { weekday, opening: 0, closing: lent::MINUTES };
+            let session = Session::new(&[window], &[], Moment { date, minute: 720 });
+            let admitted = table.explain_in_session(&call, &session).map(|explanation| explanation.told());
+            let expected = if weekday == today { Ok(Told::Inserted) } else { Err(Refusal::Closed) };
+            assert_eq!(admitted, expected, "{date:?} {weekday:?}");
+        }
+    }
+    Ok(())
+}
+
+/// Numbers of any kind, and lengths that are no whole entries: the calls on lent bytes pass them on.
+#[test]
+fn lent_hours() -> Result<(), Refusal> {
+    let mut storage = vec![0; lent::STORAGE_BYTES];
+    let none = ValueCodes { flag: 0, octets: [0; 4], slot: 5 };
+    let open = SessionCodes { windows: vec![1, 0, 1440], closed: vec![], date: [2026, 11, 16], minute: 0 };
+    let with = |change: &dyn Fn(&mut SessionCodes)| {
+        let mut session = open.clone();
+        change(&mut session);
+        session
+    };
+    let answer = &mut [0xaa; lent::ANSWER_BYTES];
+    let output = &mut [0xaa; lent::EXPLANATION_BYTES];
+    for session in [
+        with(&|s| s.windows.push(0)),
+        with(&|s| s.windows.extend([1, 0])),
+        with(&|s| s.windows = vec![1]),
+        with(&|s| s.windows[0] = 0),
+        with(&|s| s.windows[0] = 8),
+        with(&|s| s.windows = vec![65535; 3]),
+        with(&|s| s.closed = vec![2026]),
+        with(&|s| s.closed = vec![2026, 12]),
+        with(&|s| s.date = [65535; 3]),
+        with(&|s| s.minute = 65535),
+    ] {
+        for key in [[0; 32], key(0, 2)] {
+            let refused = lent::insert_or_update(&mut storage, &key, none, 1, 0, 0, &session, answer);
+            assert_eq!(refused, Err(Refusal::Hours), "{session:?}");
+            let refused = lent::explain_insert_or_update(&storage, &key, none, 1, 0, 0, &session, output);
+            assert_eq!(refused, Err(Refusal::Hours), "{session:?}");
+        }
+        let refused = lent::absent_insert(&mut storage, &key(0, 2), none, 1, 0, 0, &session, answer);
+        assert_eq!(refused, Err(Refusal::Hours), "{session:?}");
+        let refused = lent::explain_absent_insert(&storage, &key(0, 2), none, 1, 0, 0, &session, output);
+        assert_eq!(refused, Err(Refusal::Hours), "{session:?}");
+    }
+    assert!(storage.iter().all(|byte| *byte == 0) && answer.iter().chain(&output[..]).all(|byte| *byte == 0xaa));
+    assert_eq!(
+        lent::explain_absent_insert(&storage, &key(0, 2), none, 1, 0, 0, &open, output)?,
+        "Inserted none\n".len()
+    );
+    let inserted = lent::absent_insert(&mut storage, &key(0, 2), none, 1, 0, 0, &open, answer)?;
+    assert_eq!(inserted, BucketInsertResult::Inserted);
+    Ok(())
+}
+
 /// Bytes past the entries that are found stay; where the call is refused, all do.
 #[test]
 fn lent_output() -> Result<(), Refusal> {
     let mut storage = vec![0; lent::STORAGE_BYTES];
     let none = ValueCodes { flag: 0, octets: [0; 4], slot: 5 };
-    let inserted = lent::insert_or_update(&mut storage, &key(0, 2), none, 1, 0, 0, &mut [0; lent::ANSWER_BYTES])?;
+    let (every_hour, answer) = (SessionCodes::default(), &mut [0; lent::ANSWER_BYTES]);
+    let inserted = lent::insert_or_update(&mut storage, &key(0, 2), none, 1, 0, 0, &every_hour, answer)?;
     assert_eq!(inserted, InsertResult::Inserted);
     let mut output = [0xaa; 3 * lent::CLOSEST_VALUES_PREDICATE_ENTRY + 7];
     let slot = PredicateCodes { predicate: 3, net: [0; 3], slot: 5 };

@@ -1,8 +1,10 @@
 /* Uses libkbuckets.a through its header: every export, every refusal, and the rows of document 01 that a host can see. */
+#define _DEFAULT_SOURCE /* timegm */
 #include "kbuckets.h"
 
 #include <stdio.h>
 #include <string.h>
+#include <time.h>
 
 #ifdef __cplusplus
 #define ASSERT_SIZE(n, m) static_assert((n) == (m), #n)
@@ -26,8 +28,8 @@ ASSERT_SIZE(KBUCKETS_MAX_NODES, 4047);
 ASSERT_SIZE(KBUCKETS_MAX_WRITTEN_BYTES, 190465);
 
 /* A host may test the header's version while it compiles. */
-#if KBUCKETS_VERSION < 0x000600 || KBUCKETS_VERSION >= 0x010000
-#error "this program is written for versions from 0.6.0 to below 1.0.0"
+#if KBUCKETS_VERSION < 0x000700 || KBUCKETS_VERSION >= 0x010000
+#error "this program is written for versions from 0.7.0 to below 1.0.0"
 #endif
 
 static unsigned checks, failures;
@@ -51,6 +53,10 @@ static uint8_t key[KBUCKETS_KEY_BYTES];
 enum { TIMEOUT = 60000, UNTOUCHED = 0xA5 };
 enum { ANSWER = KBUCKETS_ANSWER_BYTES, SHORT = ANSWER - 1 };
 
+/* No windows: a host without hours. */
+static const uint16_t none[1] = {0};
+#define EVERY_HOUR none, 0, none, 0, 0, 0, 0, 0
+
 /* The key of a number; with local key zero, a key is its distance. */
 static const uint8_t *of(unsigned n) {
     memset(key, 0, sizeof key);
@@ -71,7 +77,7 @@ static void new_table(void) {
 
 static uint32_t put(unsigned n, uint8_t state, uint8_t direction, uint64_t now) {
     return kbuckets_insert_or_update(
-        table, sizeof table, of(n), KBUCKETS_KEY_BYTES, KBUCKETS_NO_ADDRESS, 0, 0, 0, 0, (kbuckets_slot)n, state, direction, now, answer,
+        table, sizeof table, of(n), KBUCKETS_KEY_BYTES, KBUCKETS_NO_ADDRESS, 0, 0, 0, 0, (kbuckets_slot)n, state, direction, now, EVERY_HOUR, answer,
         sizeof answer);
 }
 
@@ -105,12 +111,12 @@ static void refusals(void) {
     memset(answer, UNTOUCHED, sizeof answer);
     CHECK(kbuckets_take_applied_pending(table, sizeof table, answer, SHORT), KBUCKETS_REFUSED_OUTPUT);
     CHECK(kbuckets_take_applied_pending(table, 5, answer, SHORT), KBUCKETS_REFUSED_SIZE);
-    CHECK(kbuckets_insert_or_update(table, sizeof table, of(4), 32, 0, 0, 0, 0, 0, 4, 1, 0, 0, answer, SHORT), KBUCKETS_REFUSED_OUTPUT);
-    CHECK(kbuckets_insert_or_update(table, sizeof table, of(4), 32, 2, 0, 0, 0, 0, 4, 1, 0, 0, answer, SHORT), KBUCKETS_REFUSED_CODE);
-    CHECK(kbuckets_absent_insert(table, sizeof table, of(4), 32, 0, 0, 0, 0, 0, 4, 1, 0, 0, answer, SHORT), KBUCKETS_REFUSED_OUTPUT);
+    CHECK(kbuckets_insert_or_update(table, sizeof table, of(4), 32, 0, 0, 0, 0, 0, 4, 1, 0, 0, EVERY_HOUR, answer, SHORT), KBUCKETS_REFUSED_OUTPUT);
+    CHECK(kbuckets_insert_or_update(table, sizeof table, of(4), 32, 2, 0, 0, 0, 0, 4, 1, 0, 0, EVERY_HOUR, answer, SHORT), KBUCKETS_REFUSED_CODE);
+    CHECK(kbuckets_absent_insert(table, sizeof table, of(4), 32, 0, 0, 0, 0, 0, 4, 1, 0, 0, EVERY_HOUR, answer, SHORT), KBUCKETS_REFUSED_OUTPUT);
     CHECK(kbuckets_present_update(table, sizeof table, of(4), 32, 1, 0), KBUCKETS_REFUSED_KIND);
     CHECK(kbuckets_pending_update(table, sizeof table, of(4), 32, 1, 0), KBUCKETS_REFUSED_KIND);
-    CHECK(kbuckets_absent_insert(table, sizeof table, of(0), 32, 0, 0, 0, 0, 0, 4, 1, 0, 0, answer, ANSWER), KBUCKETS_REFUSED_KIND);
+    CHECK(kbuckets_absent_insert(table, sizeof table, of(0), 32, 0, 0, 0, 0, 0, 4, 1, 0, 0, EVERY_HOUR, answer, ANSWER), KBUCKETS_REFUSED_KIND);
     CHECK(memcmp(before, table, sizeof table), 0);
     for (size_t i = 0; i < sizeof answer; i++) CHECK(answer[i], UNTOUCHED);
 }
@@ -163,7 +169,7 @@ static void pendings(void) {
     CHECK(put(256, 0, 0, 100), KBUCKETS_INSERT_INSERTED);
     for (unsigned i = 1; i < 16; i++) CHECK(put(256 + i, 1, 0, 100), KBUCKETS_INSERT_INSERTED);
     memset(answer, UNTOUCHED, sizeof answer);
-    CHECK(kbuckets_absent_insert(table, sizeof table, of(300), 32, 0, 0, 0, 0, 0, 7, 1, 0, 100, answer, sizeof answer), KBUCKETS_BUCKET_INSERT_PENDING);
+    CHECK(kbuckets_absent_insert(table, sizeof table, of(300), 32, 0, 0, 0, 0, 0, 7, 1, 0, 100, EVERY_HOUR, answer, sizeof answer), KBUCKETS_BUCKET_INSERT_PENDING);
     CHECK(last(answer), 256);
     CHECK(answer[32], UNTOUCHED);
     CHECK(put(301, 1, 0, 100), KBUCKETS_FAILED_BUCKET_FULL);
@@ -194,7 +200,7 @@ static void slots(void) {
     for (unsigned i = 0; i < KBUCKETS_SLOT_BYTES; i++) {
         const kbuckets_slot twin = slot ^ (kbuckets_slot)0x80 << 8 * i, third = slot ^ (kbuckets_slot)0x40 << 8 * i;
         new_table();
-        CHECK(kbuckets_absent_insert(table, sizeof table, of(4), 32, 1, 10, 0, 0, 1, slot, 1, 0, 0, answer, ANSWER), KBUCKETS_BUCKET_INSERT_INSERTED);
+        CHECK(kbuckets_absent_insert(table, sizeof table, of(4), 32, 1, 10, 0, 0, 1, slot, 1, 0, 0, EVERY_HOUR, answer, ANSWER), KBUCKETS_BUCKET_INSERT_INSERTED);
         CHECK(kbuckets_update_node(table, sizeof table, of(4), 32, 1, 10, 0, 0, 1, slot, KBUCKETS_NOT_GIVEN, 0), KBUCKETS_UPDATE_NOT_MODIFIED);
         CHECK(kbuckets_update_node(table, sizeof table, of(4), 32, 1, 10, 0, 0, 1, twin, KBUCKETS_NOT_GIVEN, 0), KBUCKETS_UPDATE_UPDATED);
         CHECK(kbuckets_iter(table, sizeof table, 1, 0, output, sizeof output), 1);
@@ -296,7 +302,7 @@ static void waiting(void) {
     CHECK(kbuckets_new(table, sizeof table, zero, sizeof zero, TIMEOUT, 1, KBUCKETS_FILTER_OFF, KBUCKETS_FILTER_ON), 0);
     for (unsigned i = 0; i < 16; i++) CHECK(put(256 + i, i > 0, 0, 100), KBUCKETS_INSERT_INSERTED);
     CHECK(
-        kbuckets_absent_insert(table, sizeof table, of(300), 32, 1, 10, 0, 0, 9, 7, 1, 0, 100, answer, sizeof answer),
+        kbuckets_absent_insert(table, sizeof table, of(300), 32, 1, 10, 0, 0, 9, 7, 1, 0, 100, EVERY_HOUR, answer, sizeof answer),
         KBUCKETS_BUCKET_INSERT_PENDING);
 }
 
@@ -403,13 +409,13 @@ static void explanations(void) {
     uint8_t zero[KBUCKETS_KEY_BYTES] = {0};
     memset(output, UNTOUCHED, sizeof output);
     CHECK(kbuckets_new(table, sizeof table, zero, sizeof zero, TIMEOUT, 1, KBUCKETS_FILTER_ON, KBUCKETS_FILTER_ON), 0);
-    CHECK(kbuckets_absent_insert(table, sizeof table, of(256), 32, 1, 10, 0, 0, 1, 0, 0, 0, 100, answer, ANSWER), 0);
-    CHECK(kbuckets_absent_insert(table, sizeof table, of(257), 32, 1, 10, 0, 0, 2, 0, 1, 1, 100, answer, ANSWER), 0);
+    CHECK(kbuckets_absent_insert(table, sizeof table, of(256), 32, 1, 10, 0, 0, 1, 0, 0, 0, 100, EVERY_HOUR, answer, ANSWER), 0);
+    CHECK(kbuckets_absent_insert(table, sizeof table, of(257), 32, 1, 10, 0, 0, 2, 0, 1, 1, 100, EVERY_HOUR, answer, ANSWER), 0);
     for (unsigned i = 258; i < 271; i++) CHECK(put(i, 1, 0, 100), KBUCKETS_INSERT_INSERTED);
     memcpy(before, table, sizeof table);
-    SAYS(kbuckets_explain_insert_or_update(table, sizeof table, of(271), 32, 0, 0, 0, 0, 0, 0, 1, 0, 100, output, ROOM), "Inserted none\n");
+    SAYS(kbuckets_explain_insert_or_update(table, sizeof table, of(271), 32, 0, 0, 0, 0, 0, 0, 1, 0, 100, EVERY_HOUR, output, ROOM), "Inserted none\n");
     SAYS(
-        kbuckets_explain_insert_or_update(table, sizeof table, of(271), 32, 1, 10, 0, 0, 3, 0, 1, 0, 100, output, ROOM),
+        kbuckets_explain_insert_or_update(table, sizeof table, of(271), 32, 1, 10, 0, 0, 3, 0, 1, 0, 100, EVERY_HOUR, output, ROOM),
         "Failed BucketFilter bucket filter #100 #101\n");
     SAYS(
         kbuckets_explain_update_node(table, sizeof table, of(258), 32, 1, 10, 0, 0, 3, 0, KBUCKETS_NOT_GIVEN, 100, output, ROOM),
@@ -420,7 +426,7 @@ static void explanations(void) {
     SAYS(
         kbuckets_explain_present_update(table, sizeof table, of(256), 32, 1, KBUCKETS_NOT_GIVEN, output, ROOM),
         "UpdatedAndPromoted none\n");
-    SAYS(kbuckets_explain_insert_or_update(table, sizeof table, of(256), 32, 0, 0, 0, 0, 0, 9, 1, 0, 100, output, ROOM), "Updated true none\n");
+    SAYS(kbuckets_explain_insert_or_update(table, sizeof table, of(256), 32, 0, 0, 0, 0, 0, 9, 1, 0, 100, EVERY_HOUR, output, ROOM), "Updated true none\n");
     SAYS(kbuckets_explain_remove(table, sizeof table, of(256), 32, 100, output, ROOM), "true none\n");
     SAYS(kbuckets_explain_remove(table, sizeof table, of(300), 32, 100, output, ROOM), "false no such key\n");
     SAYS(kbuckets_explain_remove(table, sizeof table, zero, 32, 100, output, ROOM), "false local key\n");
@@ -428,19 +434,19 @@ static void explanations(void) {
     /* Full: the newcomer waits for place 0, and is the reason that another cannot. */
     CHECK(put(271, 1, 0, 100), KBUCKETS_INSERT_INSERTED);
     memcpy(before, table, sizeof table);
-    SAYS(kbuckets_explain_absent_insert(table, sizeof table, of(300), 32, 0, 0, 0, 0, 0, 7, 1, 0, 100, output, ROOM), "Pending #100 none\n");
+    SAYS(kbuckets_explain_absent_insert(table, sizeof table, of(300), 32, 0, 0, 0, 0, 0, 7, 1, 0, 100, EVERY_HOUR, output, ROOM), "Pending #100 none\n");
     SAYS(
-        kbuckets_explain_absent_insert(table, sizeof table, of(300), 32, 0, 0, 0, 0, 0, 7, 0, 0, 100, output, ROOM),
+        kbuckets_explain_absent_insert(table, sizeof table, of(300), 32, 0, 0, 0, 0, 0, 7, 0, 0, 100, EVERY_HOUR, output, ROOM),
         "Full newcomer disconnected\n");
     CHECK(put(300, 1, 0, 100), KBUCKETS_INSERT_PENDING);
     memcpy(before, table, sizeof table);
     SAYS(
-        kbuckets_explain_insert_or_update(table, sizeof table, of(301), 32, 0, 0, 0, 0, 0, 7, 1, 0, 100, output, ROOM),
+        kbuckets_explain_insert_or_update(table, sizeof table, of(301), 32, 0, 0, 0, 0, 0, 7, 1, 0, 100, EVERY_HOUR, output, ROOM),
         "Failed BucketFull pending #12c\n");
     SAYS(kbuckets_explain_pending_update(table, sizeof table, of(300), 32, 1, 0, output, ROOM), "UpdatedPending none\n");
     CHECK(kbuckets_update_node_status(table, sizeof table, of(256), 32, 1, 0, 100), KBUCKETS_UPDATE_UPDATED_AND_PROMOTED);
     memcpy(before, table, sizeof table);
-    SAYS(kbuckets_explain_absent_insert(table, sizeof table, of(301), 32, 0, 0, 0, 0, 0, 7, 1, 0, 100, output, ROOM), "Full all connected\n");
+    SAYS(kbuckets_explain_absent_insert(table, sizeof table, of(301), 32, 0, 0, 0, 0, 0, 7, 1, 0, 100, EVERY_HOUR, output, ROOM), "Full all connected\n");
 
     /* Refused as the call, and with OUTPUT in its turn. */
     CHECK(kbuckets_explain_remove(table, sizeof table, of(1), 32, 100, output, ROOM - 1), KBUCKETS_REFUSED_OUTPUT);
@@ -452,7 +458,7 @@ static void explanations(void) {
     CHECK(kbuckets_explain_present_update(table, sizeof table, of(1), 32, 1, 0, output, ROOM - 1), KBUCKETS_REFUSED_OUTPUT);
     CHECK(kbuckets_explain_present_update(table, sizeof table, of(1), 32, 1, 0, output, ROOM), KBUCKETS_REFUSED_KIND);
     CHECK(kbuckets_explain_pending_update(table, sizeof table, of(1), 32, 1, 0, output, ROOM), KBUCKETS_REFUSED_KIND);
-    CHECK(kbuckets_explain_absent_insert(table, sizeof table, zero, 32, 0, 0, 0, 0, 0, 7, 1, 0, 100, output, ROOM), KBUCKETS_REFUSED_KIND);
+    CHECK(kbuckets_explain_absent_insert(table, sizeof table, zero, 32, 0, 0, 0, 0, 0, 7, 1, 0, 100, EVERY_HOUR, output, ROOM), KBUCKETS_REFUSED_KIND);
     SAYS(0, "");
 }
 
@@ -478,7 +484,7 @@ static void box_swap(void) {
     CHECK(kbuckets_present_update(table, sizeof table, of(257), 32, 0, KBUCKETS_NOT_GIVEN), KBUCKETS_UPDATE_UPDATED);
     CHECK(put(300, 1, 0, 100), KBUCKETS_INSERT_PENDING);
     CHECK(put(5, 1, 1, 100), KBUCKETS_INSERT_INSERTED);
-    CHECK(kbuckets_absent_insert(table, sizeof table, of(4), 32, 1, 10, 1, 2, 3, (kbuckets_slot)0x0102030405060708u, 0, 0, 100, answer, ANSWER), KBUCKETS_BUCKET_INSERT_INSERTED);
+    CHECK(kbuckets_absent_insert(table, sizeof table, of(4), 32, 1, 10, 1, 2, 3, (kbuckets_slot)0x0102030405060708u, 0, 0, 100, EVERY_HOUR, answer, ANSWER), KBUCKETS_BUCKET_INSERT_INSERTED);
     memcpy(before, table, sizeof table);
     const size_t all = head + 18 * KBUCKETS_NODE_BYTES, entries = head + 18 * KBUCKETS_KEY_BYTES;
     memset(bytes, UNTOUCHED, sizeof bytes);
@@ -610,6 +616,219 @@ static void malformed_elsewhere(void) {
     CHECK(kbuckets_iter(table, sizeof table, 16, 0, output, sizeof output), 0);
 }
 
+enum { MONDAY = 1, SUNDAY = 7 };
+
+/* What a call that inserts is given of the hours. */
+typedef struct {
+    const uint16_t *windows;
+    size_t windows_len;
+    const uint16_t *closed;
+    size_t closed_len;
+    uint16_t year, month, day, minute;
+} hours;
+#define HOURS(h) (h).windows, (h).windows_len, (h).closed, (h).closed_len, (h).year, (h).month, (h).day, (h).minute
+
+static hours at(const uint16_t *windows, size_t windows_len, uint16_t year, uint16_t month, uint16_t day, uint16_t minute) {
+    const hours h = {windows, windows_len, none, 0, year, month, day, minute};
+    return h;
+}
+
+/* Both calls that insert: a connected node without an address. */
+static uint32_t put_in(hours h, unsigned n, kbuckets_slot slot, uint64_t now, size_t room) {
+    return kbuckets_insert_or_update(table, sizeof table, of(n), 32, 0, 0, 0, 0, 0, slot, 1, 0, now, HOURS(h), answer, room);
+}
+static uint32_t put_absent_in(hours h, unsigned n, kbuckets_slot slot, uint64_t now) {
+    return kbuckets_absent_insert(table, sizeof table, of(n), 32, 0, 0, 0, 0, 0, slot, 1, 0, now, HOURS(h), answer, ANSWER);
+}
+
+/* A key by both calls that insert, and by their explanations; all answer alike where they refuse, and leave all as it is. */
+static uint32_t admitted(unsigned n, hours h) {
+    static uint8_t line[KBUCKETS_EXPLANATION_BYTES];
+    const size_t size = sizeof table;
+    memcpy(before, table, size);
+    memset(answer, UNTOUCHED, sizeof answer);
+    memset(line, UNTOUCHED, sizeof line);
+    const uint32_t told = kbuckets_explain_insert_or_update(
+        table, size, of(n), 32, 0, 0, 0, 0, 0, 1, 1, 0, 0, HOURS(h), line, sizeof line);
+    const uint32_t absent_told = kbuckets_explain_absent_insert(
+        table, size, of(n), 32, 0, 0, 0, 0, 0, 1, 1, 0, 0, HOURS(h), line, sizeof line);
+    CHECK(memcmp(before, table, size), 0);
+    const uint32_t absent = put_absent_in(h, n, 1, 0);
+    if (absent < KBUCKETS_REFUSED) CHECK(kbuckets_remove(table, size, of(n), 32, 0), KBUCKETS_REMOVE_REMOVED);
+    CHECK(memcmp(before, table, size), 0);
+    const uint32_t inserted = put_in(h, n, 1, 0, ANSWER);
+    CHECK(absent, inserted);
+    if (inserted < KBUCKETS_REFUSED) {
+        CHECK(told, sizeof "Inserted none\n" - 1);
+        CHECK(absent_told, sizeof "Inserted none\n" - 1);
+        CHECK(kbuckets_remove(table, size, of(n), 32, 0), KBUCKETS_REMOVE_REMOVED);
+    } else {
+        CHECK(told, inserted);
+        CHECK(absent_told, inserted);
+        for (size_t i = 0; i < sizeof line; i++) CHECK(line[i], UNTOUCHED);
+    }
+    for (size_t i = 0; i < sizeof answer; i++) CHECK(answer[i], UNTOUCHED);
+    CHECK(memcmp(before, table, size), 0);
+    return inserted;
+}
+
+/* Windows, closed dates, and what is none of them. 16 November 2026 is a Monday. */
+static void session_hours(void) {
+    const uint16_t office[6] = {1, 540, 1020, 5, 0, 1440};
+    hours h = at(office, 6, 2026, 11, 16, 539);
+    new_table();
+    CHECK(put(4, 1, 0, 0), KBUCKETS_INSERT_INSERTED);
+    CHECK(admitted(5, h), KBUCKETS_REFUSED_CLOSED);
+    h.minute = 540;
+    CHECK(admitted(5, h), 0);
+    h.minute = 1019;
+    CHECK(admitted(5, h), 0);
+    h.minute = 1020;
+    CHECK(admitted(5, h), KBUCKETS_REFUSED_CLOSED);
+    h.day = 20;
+    CHECK(admitted(5, h), 0);
+    h.minute = KBUCKETS_MINUTES - 1;
+    CHECK(admitted(5, h), 0);
+    h.minute = KBUCKETS_MINUTES;
+    CHECK(admitted(5, h), KBUCKETS_REFUSED_HOURS);
+    h.minute = 0;
+    h.windows_len = 3;
+    CHECK(admitted(5, h), KBUCKETS_REFUSED_CLOSED);
+    h.windows_len = 0;
+    h.year = h.month = 0;
+    CHECK(admitted(5, h), 0);
+
+    /* A closed date has no windows; it is one with its year, month and day. */
+    const uint16_t closed[9] = {2026, 11, 20, 2026, 11, 16, 2025, 11, 16};
+    h = at(office, 6, 2026, 11, 16, 600);
+    h.closed = closed;
+    for (size_t i = 0; i <= 9; i++) {
+        h.closed_len = i;
+        CHECK(admitted(5, h), i % 3 ? KBUCKETS_REFUSED_HOURS : i < 6 ? 0 : KBUCKETS_REFUSED_CLOSED);
+    }
+    h.closed = closed + 6;
+    h.closed_len = 3;
+    CHECK(admitted(5, h), 0);
+
+    /* Outside all windows the local key is answered and a held key updated; hours that are none are refused, whatever the key. */
+    h = at(office, 6, 2026, 11, 17, 600);
+    CHECK(put_in(h, 0, 4, 0, ANSWER), KBUCKETS_FAILED_INVALID_SELF_UPDATE);
+    CHECK(put_in(h, 4, 5, 0, ANSWER), KBUCKETS_INSERT_VALUE_UPDATED);
+    CHECK(put_absent_in(h, 4, 5, 0), KBUCKETS_REFUSED_KIND);
+    CHECK(put_in(h, 5, 5, 0, SHORT), KBUCKETS_REFUSED_OUTPUT);
+    h.day = 31;
+    CHECK(put_in(h, 0, 4, 0, ANSWER), KBUCKETS_REFUSED_HOURS);
+    CHECK(put_in(h, 4, 6, 0, ANSWER), KBUCKETS_REFUSED_HOURS);
+    CHECK(put_absent_in(h, 4, 5, 0), KBUCKETS_REFUSED_KIND);
+
+    /* Lists: 32 windows and 64 dates, and one more; a rest of one or two numbers. */
+    uint16_t windows[3 * (KBUCKETS_MAX_WINDOWS + 1)], dates[3 * (KBUCKETS_MAX_CLOSED_DATES + 1)];
+    for (size_t i = 0; i < sizeof windows / sizeof windows[0]; i++) windows[i] = i % 3 == 0 ? 2 : i % 3 == 1 ? 0 : KBUCKETS_MINUTES;
+    for (size_t i = 0; i < sizeof dates / sizeof dates[0]; i++) dates[i] = i % 3 == 0 ? 2024 : i % 3 == 1 ? 2 : 29;
+    h = at(windows, 3 * KBUCKETS_MAX_WINDOWS, 2026, 11, 17, 600);
+    h.closed = dates;
+    h.closed_len = 3 * KBUCKETS_MAX_CLOSED_DATES;
+    CHECK(admitted(5, h), 0);
+    for (size_t more = 1; more <= 3; more++) {
+        const uint32_t fewest = more == 3 ? 0 : (uint32_t)KBUCKETS_REFUSED_HOURS;
+        h.windows_len = 3 * KBUCKETS_MAX_WINDOWS + more;
+        CHECK(admitted(5, h), KBUCKETS_REFUSED_HOURS);
+        h.windows_len = more;
+        CHECK(admitted(5, h), fewest);
+        h.windows_len = 3;
+        h.closed_len = 3 * KBUCKETS_MAX_CLOSED_DATES + more;
+        CHECK(admitted(5, h), KBUCKETS_REFUSED_HOURS);
+        h.closed_len = more;
+        CHECK(admitted(5, h), fewest);
+        h.closed_len = 3 * KBUCKETS_MAX_CLOSED_DATES;
+    }
+    /* One window that is none, at each place; then one date. */
+    h.windows_len = 3 * KBUCKETS_MAX_WINDOWS;
+    const uint16_t bad_windows[][3] = {{0, 0, 1440}, {8, 0, 1440}, {2, 600, 600}, {2, 601, 600}, {2, 0, 1441}, {2, 65535, 0}, {65535, 0, 1}};
+    for (size_t i = 0; i < KBUCKETS_MAX_WINDOWS; i++)
+        for (size_t j = 0; j < sizeof bad_windows / sizeof bad_windows[0]; j++) {
+            uint16_t good[3];
+            memcpy(good, windows + 3 * i, sizeof good);
+            memcpy(windows + 3 * i, bad_windows[j], sizeof good);
+            CHECK(put_absent_in(h, 5, 1, 0), KBUCKETS_REFUSED_HOURS);
+            memcpy(windows + 3 * i, good, sizeof good);
+        }
+    const uint16_t bad_dates[][3] = {{1999, 12, 31}, {2400, 1, 1}, {2026, 0, 1}, {2026, 13, 1}, {2026, 1, 0}, {2026, 1, 32}, {2026, 4, 31},
+                                     {2026, 2, 29}, {2100, 2, 29}, {2200, 2, 29}, {2300, 2, 29}, {2000, 2, 30}, {65535, 65535, 65535}};
+    for (size_t j = 0; j < sizeof bad_dates / sizeof bad_dates[0]; j++) {
+        const hours moment = at(windows, 3, bad_dates[j][0], bad_dates[j][1], bad_dates[j][2], 600);
+        CHECK(admitted(5, moment), KBUCKETS_REFUSED_HOURS);
+        for (size_t i = 0; i < KBUCKETS_MAX_CLOSED_DATES; i++) {
+            uint16_t good[3];
+            memcpy(good, dates + 3 * i, sizeof good);
+            memcpy(dates + 3 * i, bad_dates[j], sizeof good);
+            CHECK(put_absent_in(h, 5, 1, 0), KBUCKETS_REFUSED_HOURS);
+            memcpy(dates + 3 * i, good, sizeof good);
+        }
+    }
+    CHECK(admitted(5, h), 0);
+
+    /* The hours come last: a full queue and a due pending, in whose bucket nothing is applied where they refuse. */
+    waiting();
+    memcpy(before, table, sizeof table);
+    h = at(office, 3, 2026, 11, 17, 600);
+    CHECK(put_in(h, 301, 7, 60100, ANSWER), KBUCKETS_REFUSED_CLOSED);
+    CHECK(memcmp(before, table, sizeof table), 0);
+    table[KBUCKETS_PADDING_OFFSET - 1] = KBUCKETS_MAX_RECORDS;
+    CHECK(put_in(h, 301, 7, 60100, ANSWER), KBUCKETS_REFUSED_QUEUE);
+    h.day = 31;
+    CHECK(put_in(h, 301, 7, 60100, ANSWER), KBUCKETS_REFUSED_QUEUE);
+    CHECK(put_in(h, 301, 7, 60099, ANSWER), KBUCKETS_REFUSED_HOURS);
+    table[KBUCKETS_PADDING_OFFSET - 1] = 0;
+    h.day = 17;
+    /* 300 is pending as it is stored, 256 held; the call places the one and evicts the other, and neither is new. */
+    CHECK(put_in(h, 256, 7, 60100, ANSWER), KBUCKETS_FAILED_BUCKET_FULL);
+    ENDED(REPLACED);
+    CHECK(put_in(h, 256, 7, 60100, ANSWER), KBUCKETS_REFUSED_CLOSED);
+    waiting();
+    CHECK(kbuckets_insert_or_update(table, sizeof table, of(300), 32, 1, 10, 0, 0, 9, 7, 1, 0, 60099, HOURS(h), answer, ANSWER), KBUCKETS_FAILED_BUCKET_FULL);
+    CHECK(kbuckets_insert_or_update(table, sizeof table, of(300), 32, 1, 10, 0, 0, 9, 7, 1, 0, 60100, HOURS(h), answer, ANSWER), KBUCKETS_INSERT_UPDATED);
+    ENDED(REPLACED);
+}
+
+/* Every date from 2000 to 2399 has the weekday that the C library gives it: the window of that day admits a new key, and no other does. What
+ * the C library takes for another date is none. */
+static void calendar(void) {
+    unsigned dates = 0;
+    new_table();
+    for (int year = 1999; year <= 2400; year++)
+        for (int month = 0; month <= 13; month++)
+            for (int day = 0; day <= 32; day++) {
+                struct tm given, back;
+                memset(&given, 0, sizeof given);
+                given.tm_year = year - 1900;
+                given.tm_mon = month - 1;
+                given.tm_mday = day;
+                const time_t seconds = timegm(&given);
+                const struct tm *found = gmtime(&seconds);
+                if (!found) {
+                    CHECK(0, 1);
+                    return;
+                }
+                back = *found;
+                const int is_date = year >= 2000 && year <= 2399 && back.tm_year == year - 1900 && back.tm_mon == month - 1 && back.tm_mday == day;
+                dates += (unsigned)is_date;
+                const unsigned today = (unsigned)(back.tm_wday + 6) % 7 + 1;
+                for (unsigned weekday = MONDAY; weekday <= SUNDAY; weekday++) {
+                    const uint16_t all_day[3] = {(uint16_t)weekday, 0, KBUCKETS_MINUTES};
+                    const hours h = at(all_day, 3, (uint16_t)year, (uint16_t)month, (uint16_t)day, 720);
+                    const uint32_t code = put_in(h, 5, 1, 0, ANSWER);
+                    if (is_date && weekday == today) {
+                        CHECK(code, KBUCKETS_INSERT_INSERTED);
+                        CHECK(kbuckets_remove(table, sizeof table, of(5), 32, 0), KBUCKETS_REMOVE_REMOVED);
+                    } else {
+                        CHECK(code, is_date ? KBUCKETS_REFUSED_CLOSED : KBUCKETS_REFUSED_HOURS);
+                    }
+                }
+            }
+    CHECK(dates, 146097);
+}
+
 /* Header and library belong together: what a host asks at its start. */
 static inline int same_version(void) { return kbuckets_version() == KBUCKETS_VERSION; }
 
@@ -628,6 +847,8 @@ int main(void) {
     explanations();
     box_swap();
     malformed_elsewhere();
+    session_hours();
+    calendar();
     printf("kbuckets.c: %u of %u checks passed\n", checks - failures, checks);
     return failures != 0;
 }

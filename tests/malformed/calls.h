@@ -62,12 +62,12 @@ enum {
     X(new, Q(1) | Q(3) | Q(4), 0, 1)                                                                                                       \
     X(update_node_status, Q(1) | Q(2) | Q(3) | Q(4) | Q(5) | Q(8), 0, STATUS_UPDATES)                                                      \
     X(update_node, Q(1) | Q(2) | Q(3) | Q(4) | Q(5) | Q(8), 0, NODE_UPDATES)                                                               \
-    X(insert_or_update, Q(1) | Q(2) | Q(3) | Q(4) | Q(5) | Q(6) | Q(8), 0, INSERTS)                                                        \
+    X(insert_or_update, Q(1) | Q(2) | Q(3) | Q(4) | Q(5) | Q(6) | Q(8) | Q(10) | Q(11), 0, INSERTS)                                        \
     X(remove, Q(1) | Q(2) | Q(3) | Q(5) | Q(8), 0, 3)                                                                                      \
     X(entry, Q(1) | Q(2) | Q(3) | Q(5) | Q(8), 0, ENTRIES)                                                                                 \
     X(present_update, Q(1) | Q(2) | Q(3) | Q(4) | Q(7) | Q(8), 0, PRESENT_UPDATES)                                                         \
     X(pending_update, Q(1) | Q(2) | Q(3) | Q(4) | Q(7), 0, 1 << 3)                                                                         \
-    X(absent_insert, Q(1) | Q(2) | Q(3) | Q(4) | Q(5) | Q(6) | Q(7), 0, ABSENT_INSERTS)                                                    \
+    X(absent_insert, Q(1) | Q(2) | Q(3) | Q(4) | Q(5) | Q(6) | Q(7) | Q(10) | Q(11), 0, ABSENT_INSERTS)                                    \
     X(iter, Q(1) | Q(2) | Q(5) | Q(6) | Q(8), KBUCKETS_ITER_ENTRY_BYTES, 0)                                                                \
     X(nodes_by_distances, Q(1) | Q(2) | Q(5) | Q(6) | Q(8), KBUCKETS_NODES_BY_DISTANCES_ENTRY_BYTES, 0)                                    \
     X(closest_keys, Q(1) | Q(2) | Q(3) | Q(5) | Q(6) | Q(8), KBUCKETS_CLOSEST_KEYS_ENTRY_BYTES, 0)                                         \
@@ -145,6 +145,9 @@ struct args {
     uint64_t now, timeout;
     uint64_t *distances;
     size_t distances_len, n;
+    uint16_t *windows, *closed; /* three numbers each */
+    size_t windows_len, closed_len;
+    uint16_t date[3], minute; /* year, month, day */
     uint8_t *output; /* or the answer */
     size_t output_len;
 };
@@ -154,17 +157,18 @@ static uint32_t call(const struct args *a)
 #define S a->storage, a->storage_len
 #define K a->key, a->key_len
 #define V a->flag, a->octet[0], a->octet[1], a->octet[2], a->octet[3], a->slot
+#define T a->windows, a->windows_len, a->closed, a->closed_len, a->date[0], a->date[1], a->date[2], a->minute
 #define O a->output, a->output_len
     switch (a->call) {
     case C_new: return kbuckets_new(S, K, a->timeout, a->max_incoming, a->table_filter, a->bucket_filter);
     case C_update_node_status: return kbuckets_update_node_status(S, K, a->state, a->direction, a->now);
     case C_update_node: return kbuckets_update_node(S, K, V, a->state, a->now);
-    case C_insert_or_update: return kbuckets_insert_or_update(S, K, V, a->state, a->direction, a->now, O);
+    case C_insert_or_update: return kbuckets_insert_or_update(S, K, V, a->state, a->direction, a->now, T, O);
     case C_remove: return kbuckets_remove(S, K, a->now);
     case C_entry: return kbuckets_entry(S, K, a->now);
     case C_present_update: return kbuckets_present_update(S, K, a->state, a->direction);
     case C_pending_update: return kbuckets_pending_update(S, K, a->state, a->direction);
-    case C_absent_insert: return kbuckets_absent_insert(S, K, V, a->state, a->direction, a->now, O);
+    case C_absent_insert: return kbuckets_absent_insert(S, K, V, a->state, a->direction, a->now, T, O);
     case C_iter: return kbuckets_iter(S, a->n, a->now, O);
     case C_nodes_by_distances: return kbuckets_nodes_by_distances(S, a->distances, a->distances_len, a->n, a->now, O);
     case C_closest_keys: return kbuckets_closest_keys(S, K, a->n, a->now, O);
@@ -197,22 +201,24 @@ static uint32_t explain(const struct args *a, uint8_t *output, size_t output_len
     switch (a->call) {
     case C_update_node_status: return kbuckets_explain_update_node_status(S, K, a->state, a->direction, a->now, O);
     case C_update_node: return kbuckets_explain_update_node(S, K, V, a->state, a->now, O);
-    case C_insert_or_update: return kbuckets_explain_insert_or_update(S, K, V, a->state, a->direction, a->now, O);
+    case C_insert_or_update: return kbuckets_explain_insert_or_update(S, K, V, a->state, a->direction, a->now, T, O);
     case C_remove: return kbuckets_explain_remove(S, K, a->now, O);
     case C_present_update: return kbuckets_explain_present_update(S, K, a->state, a->direction, O);
     case C_pending_update: return kbuckets_explain_pending_update(S, K, a->state, a->direction, O);
-    case C_absent_insert: return kbuckets_explain_absent_insert(S, K, V, a->state, a->direction, a->now, O);
+    case C_absent_insert: return kbuckets_explain_absent_insert(S, K, V, a->state, a->direction, a->now, T, O);
     default: abort();
     }
 #undef S
 #undef K
 #undef V
+#undef T
 #undef O
 }
 
 /* Which of its lent things a call has. */
 static bool has_key(enum call c) { return calls[c].questions & Q(3); }
 static bool has_output(enum call c) { return calls[c].questions & Q(6); }
+static bool has_hours(enum call c) { return calls[c].questions & Q(10); }
 static bool is_listing(enum call c) { return calls[c].entry != 0; }
 
 #endif

@@ -1,7 +1,7 @@
 /* Malformed storage at scale: hands the library storages that are well-formed, changed in a few bytes, random, or of another length, with
  * arguments good and bad, and holds each call to the questions and to what a refusal and an accepted call may write. Malformed buckets, one
  * and several, stand among those that the call reads and among the others; where they stand elsewhere, the call is made a second time on a
- * copy in which those are empty, and must do the same.
+ * copy in which those are empty, and must do the same. Calls that insert come with session hours of every kind.
  *
  * questions.h asks the questions once more, from documents 01 and 02 and the layout in kbuckets.h, and shares no code with the library.
  *
@@ -44,6 +44,15 @@ static _Noreturn void violation(const char *form, ...)
         printf("    storage %zu bytes, key %zu, now %llu, n %zu, output %zu, state %u, direction %u, flag %u, predicate %u\n",
                current->storage_len, current->key_len, (unsigned long long)current->now, current->n, current->output_len, current->state,
                current->direction, current->flag, current->predicate);
+    if (current && has_hours(current->call)) {
+        printf("    windows");
+        for (size_t k = 0; k < current->windows_len; k++)
+            printf("%c%u", k % 3 ? ':' : ' ', current->windows[k]);
+        printf("\n    closed");
+        for (size_t k = 0; k < current->closed_len; k++)
+            printf("%c%u", k % 3 ? '-' : ' ', current->closed[k]);
+        printf("\n    date %u-%u-%u, minute %u\n", current->date[0], current->date[1], current->date[2], current->minute);
+    }
     for (int i = 0; i < num_changes; i++)
         printf("    byte %zu was %u, is %u\n", changes[i].at, changes[i].old, changes[i].new);
     fflush(stdout);
@@ -64,7 +73,7 @@ static void on_fault(int signal)
 
 /* --- what is lent --- */
 
-static struct arena storages[NUM_PLACINGS], alones[NUM_PLACINGS], keys, outputs, distances, cuts;
+static struct arena storages[NUM_PLACINGS], alones[NUM_PLACINGS], keys, outputs, distances, windows, closed_dates, cuts;
 
 /* --- tables and buckets --- */
 
@@ -129,6 +138,106 @@ static void choose_key(uint8_t *key, const uint8_t *b, const uint8_t *local, int
             memcpy(key, b + NODES_AT + (chance(20) ? 0 : below(held)) * NODE, KEY);
         else
             noise(key, KEY);
+    }
+}
+
+enum { MOST_WINDOWS = 33, MOST_DATES = 65 }; /* one more than there may be */
+
+static void some_date(uint16_t *date)
+{
+    do {
+        date[0] = (uint16_t)(chance(20) ? 2000 + 100 * below(4) : 2000 + below(400));
+        date[1] = (uint16_t)(chance(20) ? 2 : 1 + below(12));
+        date[2] = (uint16_t)(chance(20) ? 28 + below(4) : 1 + below(31));
+    } while (!is_date(date));
+}
+
+/* One number of a date out of its range, or 29 February of a year that has none. */
+static void no_date(uint16_t *date)
+{
+    static const uint16_t bad[][3] = {{1999, 12, 31}, {2400, 1, 1}, {2026, 0, 1}, {2026, 13, 1}, {2026, 1, 0}, {2026, 1, 32}, {2026, 4, 31},
+                                      {2026, 2, 29}, {2100, 2, 29}, {2200, 2, 29}, {2300, 2, 29}, {2000, 2, 30}, {0, 0, 0}};
+    if (chance(80))
+        memcpy(date, bad[below(13)], 3 * sizeof *date);
+    else
+        do
+            noise((uint8_t *)date, 3 * sizeof *date);
+        while (is_date(date));
+}
+
+/* A window of this weekday, and a minute: of its first, its last, one between, the one before it or the closing one. */
+static uint16_t some_window(uint16_t *w, unsigned weekday)
+{
+    w[0] = (uint16_t)weekday;
+    w[1] = (uint16_t)(chance(20) ? 0 : below(1440));
+    w[2] = (uint16_t)(chance(20) ? 1440 : w[1] + 1 + below(1440 - w[1]));
+    unsigned minutes[] = {w[1], w[2] - 1u, w[1] + below(w[2] - w[1]), w[1] ? w[1] - 1u : 0, w[2] < 1440 ? w[2] : 1439};
+    return (uint16_t)minutes[below(chance(70) ? 3 : 5)];
+}
+
+/* The hours of a call. `good`: open, or no windows. */
+static void choose_hours(struct args *a, bool good)
+{
+    a->windows = (uint16_t *)(void *)windows.low;
+    a->closed = (uint16_t *)(void *)closed_dates.low;
+    if (!has_hours(a->call))
+        return;
+    unsigned count = chance(30) ? 0 : chance(20) ? 32 : 1 + below(4), dates = chance(60) ? 0 : chance(10) ? 64 : 1 + below(4);
+    bool many_windows = !good && chance(3), many_dates = !good && chance(3);
+    a->windows_len = 3 * (many_windows ? MOST_WINDOWS : count);
+    a->closed_len = 3 * (many_dates ? MOST_DATES : dates);
+    if (!good && chance(6))
+        a->windows_len += 1 + below(2);
+    if (!good && chance(4))
+        a->closed_len += 1 + below(2);
+    if (chance(50))
+        a->windows = (uint16_t *)(void *)windows.high - a->windows_len;
+    if (chance(50))
+        a->closed = (uint16_t *)(void *)closed_dates.high - a->closed_len;
+    some_date(a->date);
+    for (size_t k = 0; k < a->closed_len; k++)
+        a->closed[k] = (uint16_t)below(3000);
+    for (size_t k = 0; k + 3 <= a->closed_len; k += 3) {
+        do
+            some_date(a->closed + k);
+        while (good && memcmp(a->closed + k, a->date, sizeof a->date) == 0);
+        if (chance(20)) { /* but for the year, the month or the day, that of the call */
+            uint16_t other[3];
+            memcpy(other, a->date, sizeof other);
+            other[below(3)] = a->closed[k + below(3)];
+            if (is_date(other) && memcmp(other, a->date, sizeof other) != 0)
+                memcpy(a->closed + k, other, sizeof other);
+        }
+        if (!good && chance(4))
+            memcpy(a->closed + k, a->date, sizeof a->date);
+    }
+    a->minute = (uint16_t)below(1440);
+    for (size_t k = 0; k < a->windows_len; k++)
+        a->windows[k] = (uint16_t)below(9);
+    size_t own = count ? 3 * below(count) : 0;
+    for (size_t k = 0; k + 3 <= a->windows_len; k += 3) {
+        bool today = k == own && (good || chance(70));
+        uint16_t minute = some_window(a->windows + k, today ? weekday(a->date) : 1 + below(7));
+        if (today)
+            a->minute = good ? (uint16_t)(a->windows[k + 1]) : minute;
+    }
+    if (good || !chance(20))
+        return;
+    uint16_t *w = a->windows + (a->windows_len >= 3 ? 3 * below((unsigned)a->windows_len / 3) : 0);
+    uint16_t *c = a->closed + (a->closed_len >= 3 ? 3 * below((unsigned)a->closed_len / 3) : 0);
+    switch (a->windows_len < 3 ? 6 : below(7)) {
+    case 0: w[0] = (uint16_t)(chance(40) ? 0 : chance(60) ? 8 : draw()); break;
+    case 1: w[1] = (uint16_t)(w[2] + (chance(50) ? 0 : below(100))); break;
+    case 2: w[2] = (uint16_t)(1441 + (chance(50) ? 0 : below(60000))); break;
+    case 3: a->minute = (uint16_t)(1440 + (chance(50) ? 0 : below(60000))); break;
+    case 4: no_date(a->date); break;
+    case 5:
+        if (a->closed_len >= 3)
+            no_date(c);
+        break;
+    default:
+        noise((uint8_t *)a->date, sizeof a->date);
+        noise((uint8_t *)a->closed, a->closed_len * sizeof *a->closed);
     }
 }
 
@@ -214,6 +323,7 @@ static void choose(struct args *a, const uint8_t *b, const uint8_t *local, int i
         for (size_t k = 0; k < a->distances_len; k++)
             a->distances[k] = chance(10) ? (uint64_t)index + 1 : chance(90) ? 1 + below(BUCKETS) : chance(50) ? below(2) * 257 : draw();
     }
+    choose_hours(a, good && chance(80));
 }
 
 /* Turns a call to bucket b's pending before its time: its key is inserted, or the node at place 0 given CONNECTED. */
@@ -234,23 +344,41 @@ static void aim_at_pending(struct args *a, const uint8_t *b)
 
 enum { NUM_OUTCOMES = 64 };
 static struct {
-    unsigned long refused[9], answered[NUM_OUTCOMES], listed[4]; /* none found, fewer than n, n, more asked than n = 0 gives */
+    unsigned long refused[12], answered[NUM_OUTCOMES], listed[4]; /* none found, fewer than n, n, more asked than n = 0 gives */
     unsigned long total;
 } outcomes[NUM_CALLS];
 static unsigned long faults[2][NUM_FAULTS], changed_formed, wrong_lengths;
 static unsigned long endings[KBUCKETS_ENDING_FIRST_CONFIRMED + 1];
+
+/* Of calls that no question before 10 refuses: by what it finds first; with windows that fit, by key (local, held, pending, new), shut and open. */
+static unsigned long hour_faults[NUM_HOUR_FAULTS], hour_keys[4][2];
 
 /* Malformed buckets beside a call of a table. */
 static struct {
     unsigned long settings, bucket;       /* refused with 2: of settings or queue, of a bucket that it reads */
     unsigned long later[2];               /* so refused, and 7 or 8 fails too */
     unsigned long earlier[7];             /* refused with 3 to 6, and a bucket is malformed; with 2 for one, and another is */
-    unsigned long elsewhere[2], after[2]; /* accepted, or refused with 7 or 8, with one malformed bucket that it does not read; several */
+    unsigned long elsewhere[2], after[2]; /* accepted, or refused with 7 or later, with one malformed bucket that it does not read; several */
     unsigned long explained[2];           /* its explanation is refused with 2 for a bucket; is given with one elsewhere */
 } beside[NUM_CALLS];
 
 static struct outlook outlook;
 static struct args args, probing;
+
+static void shut_hours(const struct args *a)
+{
+    if (!has_hours(a->call))
+        return;
+    shut(&windows, (uint8_t *)a->windows, sizeof *a->windows * a->windows_len);
+    shut(&closed_dates, (uint8_t *)a->closed, sizeof *a->closed * a->closed_len);
+}
+static void reopen_hours(const struct args *a)
+{
+    if (!has_hours(a->call))
+        return;
+    reopen(&windows);
+    reopen(&closed_dates);
+}
 
 static uint32_t guarded_call(const struct args *a, const struct arena *r)
 {
@@ -262,8 +390,10 @@ static uint32_t guarded_call(const struct args *a, const struct arena *r)
         shut(&outputs, a->output, a->output_len);
     if (a->call == C_nodes_by_distances)
         shut(&distances, (uint8_t *)a->distances, 8 * a->distances_len);
+    shut_hours(a);
     uint32_t code = call(a);
     reopen(r);
+    reopen_hours(a);
     if (has_key(a->call))
         reopen(&keys);
     if (has_output(a->call))
@@ -499,8 +629,10 @@ static uint32_t guarded_explanation(const struct args *a, const struct arena *r,
     shut(r, a->storage, a->storage_len);
     shut(&keys, a->key, a->key_len);
     shut(&outputs, out, out_len);
+    shut_hours(a);
     uint32_t code = explain(a, out, out_len);
     reopen(r);
+    reopen_hours(a);
     reopen(&keys);
     reopen(&outputs);
     return code;
@@ -563,6 +695,18 @@ static void check_beside(const struct args *a, const uint8_t *before, uint32_t c
     check_cut(a, before, code, list, count);
 }
 
+/* Counts the hours of a call that no question before them refuses. */
+static void count_hours(const struct args *a)
+{
+    const uint8_t *s = a->storage;
+    enum hour_fault f = hour_fault(a);
+    int i = bucket_index(s, a->key);
+    int key = i < 0 ? 0 : place(bucket_of(s, i), a->key) >= 0 ? 1 : is_pending(bucket_of(s, i), a->key) ? 2 : 3;
+    hour_faults[f]++;
+    if (!f)
+        hour_keys[key][is_open(a)]++;
+}
+
 /* Makes the call in `args` on bytes that are equal to `before`, and checks all of it. Answers whether it was accepted. */
 static bool held_to(const struct arena *r, uint8_t *stands, size_t size, const uint8_t *before)
 {
@@ -570,10 +714,15 @@ static bool held_to(const struct arena *r, uint8_t *stands, size_t size, const u
     bool alone = a->call >= FIRST_B;
     uint8_t lent_key[128];
     static uint64_t lent_distances[BUCKETS];
+    static uint16_t lent_windows[3 * MOST_WINDOWS + 2], lent_dates[3 * MOST_DATES + 2];
     current = a;
     foresee(&outlook, a->storage, a);
     memcpy(lent_key, a->key, a->key_len);
     memcpy(lent_distances, a->distances, 8 * a->distances_len);
+    memcpy(lent_windows, a->windows, sizeof *a->windows * a->windows_len);
+    memcpy(lent_dates, a->closed, sizeof *a->closed * a->closed_len);
+    if (has_hours(a->call) && (outlook.refusal == 0 || outlook.refusal >= 10) && a->windows_len)
+        count_hours(a);
     if (is_explained(a->call) && kbuckets_explain_remove != NULL && chance(40))
         explain_held(a, r, stands, size, before);
     uint32_t code = guarded_call(a, r);
@@ -589,6 +738,9 @@ static bool held_to(const struct arena *r, uint8_t *stands, size_t size, const u
     }
     if (memcmp(lent_key, a->key, a->key_len) != 0 || memcmp(lent_distances, a->distances, 8 * a->distances_len) != 0)
         violation("a key or the distances changed");
+    if (memcmp(lent_windows, a->windows, sizeof *a->windows * a->windows_len) != 0 ||
+        memcmp(lent_dates, a->closed, sizeof *a->closed * a->closed_len) != 0)
+        violation("the windows or the closed dates changed");
     if (!patterned(r, r->low, stands) || !patterned(r, stands + size, r->high))
         violation("bytes around the storage changed");
     size_t wrote = refused || !has_output(a->call) ? 0 : written(a, code);
@@ -792,6 +944,8 @@ static void lend_back(void)
 {
     repair(&keys, args.key, args.key + (args.key_len < KEY ? args.key_len : KEY));
     repair(&distances, (uint8_t *)args.distances, (uint8_t *)(args.distances + args.distances_len));
+    repair(&windows, (uint8_t *)args.windows, (uint8_t *)(args.windows + args.windows_len));
+    repair(&closed_dates, (uint8_t *)args.closed, (uint8_t *)(args.closed + args.closed_len));
 }
 
 /* A length that is not `size`: shorter anywhere, longer where the arena goes on. */
@@ -1021,7 +1175,7 @@ static int report_beside(void)
 {
     int missing = 0;
     printf("malformed buckets: 2 of settings or queue, of a bucket read (another malformed too; 7 or 8 fails too); 3 to 6 before it; elsewhere,\n"
-           "one and several: accepted, refused with 7 or 8; explanations refused with 2, given\n");
+           "one and several: accepted, refused with 7 or later; explanations refused with 2, given\n");
     for (int c = 0; c < FIRST_B; c++) {
         unsigned q = calls[c].questions;
         if (!here[c] || !(q & Q(2)))
@@ -1059,7 +1213,7 @@ static int report(bool tables_here, bool alones_here)
         if (!here[c])
             continue;
         printf("%-25s %8lu calls; refused", calls[c].name, outcomes[c].total);
-        for (int q = 1; q <= 8; q++)
+        for (int q = 1; q <= 11; q++)
             if (calls[c].questions & Q(q)) {
                 printf(" %d:%lu", q, outcomes[c].refused[q]);
                 missing += !outcomes[c].refused[q];
@@ -1095,6 +1249,20 @@ static int report(bool tables_here, bool alones_here)
     for (int k = 0; k <= KBUCKETS_ENDING_FIRST_CONFIRMED; k++) {
         printf(" %d:%lu", k, endings[k]);
         missing += tables_here && !endings[k];
+    }
+#define TEXT(name, text) text,
+    static const char *const hour_texts[] = {"they fit", HOUR_FAULTS(TEXT)}, *const key_texts[] = {"local", "held", "pending", "new"};
+#undef TEXT
+    bool with_hours = here[C_insert_or_update];
+    printf("\nhours, by what question 10 finds first:");
+    for (int f = 0; f < NUM_HOUR_FAULTS; f++) {
+        printf("%s %s:%lu", f ? "," : "", hour_texts[f], hour_faults[f]);
+        missing += with_hours && !hour_faults[f];
+    }
+    printf("\nhours that fit, by key, shut and open:");
+    for (int k = 0; k < 4; k++) {
+        printf(" %s:%lu %lu", key_texts[k], hour_keys[k][0], hour_keys[k][1]);
+        missing += with_hours && (!hour_keys[k][0] || !hour_keys[k][1]);
     }
     printf("\nchanged, and nothing malformed that the call asks about: %lu; of another length: %lu\n", changed_formed, wrong_lengths);
     for (int c = 0, first = 1; c < NUM_CALLS; c++)
@@ -1154,6 +1322,8 @@ int main(int argc, char **argv)
     keys = arena(128);
     outputs = arena((KBUCKETS_MAX_COUNT + 2) * NODE + 1024);
     distances = arena(8 * BUCKETS);
+    windows = arena(sizeof(uint16_t) * (3 * MOST_WINDOWS + 2));
+    closed_dates = arena(sizeof(uint16_t) * (3 * MOST_DATES + 2));
     cuts = arena(STORAGE);
     double start = seconds(), told = start;
     make_pool();

@@ -1,6 +1,6 @@
-/* Document 01's questions once more, in plain C, as 02's slip 7 has them: question 2 of settings and queue, of each bucket and of a bucket by
- * itself, the buckets that a call reads, the other questions in turn, and what an accepted call may write. Nothing here is shared with the
- * library. */
+/* Document 01's questions once more, in plain C, as 02's slips 7 and 8 have them: question 2 of settings and queue, of each bucket and of a
+ * bucket by itself, the buckets that a call reads, the other questions in turn, those about session hours at the end, and what an accepted
+ * call may write. Nothing here is shared with the library. */
 #ifndef QUESTIONS_H
 #define QUESTIONS_H
 
@@ -519,6 +519,102 @@ static void foresee_on_key(struct outlook *o, const uint8_t *s, const struct arg
         add_record(o, b, (uint8_t)ending);
 }
 
+/* --- session hours, from document 02, slip 8 --- */
+
+/* The days of a month; 0 of none from January 2000 to December 2399. */
+static unsigned days_of(unsigned year, unsigned month)
+{
+    if (year < 2000 || year > 2399)
+        return 0;
+    switch (month) {
+    case 2: return year % 4 ? 28 : year % 100 ? 29 : year % 400 ? 28 : 29;
+    case 4:
+    case 6:
+    case 9:
+    case 11: return 30;
+    default: return month >= 1 && month <= 12 ? 31 : 0;
+    }
+}
+static bool is_date(const uint16_t *date) { return date[2] >= 1 && date[2] <= days_of(date[0], date[1]); }
+
+/* 1, Monday, to 7, Sunday, by Zeller's congruence: January and February count as months 13 and 14 of the year before. */
+static unsigned weekday(const uint16_t *date)
+{
+    unsigned early = date[1] < 3, year = date[0] - early, month = date[1] + 12 * early;
+    unsigned from_saturday = (date[2] + 13 * (month + 1) / 5 + year % 100 + year % 100 / 4 + year / 100 / 4 + 5 * (year / 100)) % 7;
+    return (from_saturday + 5) % 7 + 1;
+}
+
+#define HOUR_FAULTS(X)                                                                                                                     \
+    X(WINDOWS_REST, "windows and a rest")                                                                                                  \
+    X(WINDOWS_MANY, "more than 32 windows")                                                                                                \
+    X(WEEKDAY, "a window's weekday")                                                                                                       \
+    X(OPENING, "opening not before closing")                                                                                               \
+    X(CLOSING, "closing above 1440")                                                                                                       \
+    X(DATES_REST, "closed dates and a rest")                                                                                               \
+    X(DATES_MANY, "more than 64 closed dates")                                                                                             \
+    X(CLOSED_DATE, "a closed date that is none")                                                                                           \
+    X(DATE, "a date that is none")                                                                                                         \
+    X(MINUTE, "minute above 1439")
+#define HOUR_FAULT(name, text) H_##name,
+enum hour_fault { HOURS_FIT, HOUR_FAULTS(HOUR_FAULT) NUM_HOUR_FAULTS };
+#undef HOUR_FAULT
+
+/* The first of them that question 10 finds, with a window list that is not empty. */
+static enum hour_fault hour_fault(const struct args *a)
+{
+    if (a->windows_len % 3)
+        return H_WINDOWS_REST;
+    if (a->windows_len > 3 * 32)
+        return H_WINDOWS_MANY;
+    for (const uint16_t *w = a->windows; w < a->windows + a->windows_len; w += 3) {
+        if (w[0] < 1 || w[0] > 7)
+            return H_WEEKDAY;
+        if (w[1] >= w[2])
+            return H_OPENING;
+        if (w[2] > 1440)
+            return H_CLOSING;
+    }
+    if (a->closed_len % 3)
+        return H_DATES_REST;
+    if (a->closed_len > 3 * 64)
+        return H_DATES_MANY;
+    for (const uint16_t *c = a->closed; c < a->closed + a->closed_len; c += 3)
+        if (!is_date(c))
+            return H_CLOSED_DATE;
+    if (!is_date(a->date))
+        return H_DATE;
+    return a->minute > 1439 ? H_MINUTE : HOURS_FIT;
+}
+
+static bool is_open(const struct args *a)
+{
+    for (const uint16_t *c = a->closed; c < a->closed + a->closed_len; c += 3)
+        if (memcmp(c, a->date, sizeof a->date) == 0)
+            return false;
+    for (const uint16_t *w = a->windows; w < a->windows + a->windows_len; w += 3)
+        if (w[0] == weekday(a->date) && w[1] <= a->minute && a->minute < w[2])
+            return true;
+    return false;
+}
+
+/* The local key, or held or pending as stored; its bucket is well-formed. */
+static bool is_known(const uint8_t *s, const uint8_t *key)
+{
+    int i = bucket_index(s, key);
+    return i < 0 || place(bucket_of(s, i), key) >= 0 || is_pending(bucket_of(s, i), key);
+}
+
+/* Questions 10 and 11; 0 where neither refuses. */
+static unsigned hours_refuse(const uint8_t *s, const struct args *a)
+{
+    if (a->windows_len == 0)
+        return 0;
+    if (hour_fault(a))
+        return 10;
+    return is_known(s, a->key) || is_open(a) ? 0 : 11;
+}
+
 /* The questions in turn on storage s, and what an accepted call may write. `fits`: question 6 holds. */
 static void foresee_asking(struct outlook *o, const uint8_t *s, const struct args *a, unsigned q, bool fits)
 {
@@ -561,6 +657,8 @@ static void foresee_asking(struct outlook *o, const uint8_t *s, const struct arg
         else if (o->refusal == 2)
             o->also[1] = true;
     }
+    if (q & Q(10) && !o->refusal)
+        o->refusal = hours_refuse(s, a);
 }
 
 static void foresee(struct outlook *o, const uint8_t *s, const struct args *a)

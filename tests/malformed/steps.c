@@ -26,6 +26,7 @@ static const char *const step_text[NUM_STEPS] = {
 
 static uint8_t storage[STORAGE], before[STORAGE], alone[ALONE], answers[2][KBUCKETS_ANSWER_BYTES];
 static unsigned long met[NUM_STEPS][64];
+static uint16_t no_hours[1];
 
 static _Noreturn void differs(enum step step, const char *what, uint32_t in_table, uint32_t by_itself)
 {
@@ -125,7 +126,7 @@ static void one_bucket(void)
         .call = of_step[step], .storage = storage, .storage_len = STORAGE, .key = key, .key_len = KEY, .flag = value[0],
         .octet = {value[1], value[2], value[3], value[4]}, .slot = number(value + SLOT_AT - VALUE_AT),
         .state = (uint8_t)below(2), .direction = (uint8_t)below(step == STATUS || step == PRESENT_UPDATE ? 3 : 2), .now = 0,
-        .output = answers[0], .output_len = sizeof answers[0],
+        .windows = no_hours, .closed = no_hours, .output = answers[0], .output_len = sizeof answers[0],
     };
     if (step == VALUE)
         a.state = KBUCKETS_NOT_GIVEN;

@@ -36,6 +36,7 @@ static void make_new(uint8_t *storage) {
 
 // Each bucket with all the nodes that it can hold: half of them disconnected, each of a /24 of its own.
 static void fill(void) {
+    static const uint16_t none[1]; // no windows: at every hour
     unsigned nodes = 0;
     make_new(full);
     for (int i = 0; i < 256; i++)
@@ -46,7 +47,8 @@ static void fill(void) {
             memset(key, 0, (size_t)byte);
             key[byte] = (uint8_t)((key[byte] & ((1 << bit) - 1)) | (1 << bit));
             uint32_t code = kbuckets_absent_insert(
-                full, sizeof full, key, 32, 1, 10, (uint8_t)i, (uint8_t)n, 1, nodes, n % 2 ? 1 : 0, next_byte() & 1, 0, answer, sizeof answer);
+                full, sizeof full, key, 32, 1, 10, (uint8_t)i, (uint8_t)n, 1, nodes, n % 2 ? 1 : 0, next_byte() & 1, 0, none, 0, none, 0, 0, 0,
+                0, 0, answer, sizeof answer);
             if (code == KBUCKETS_BUCKET_INSERT_INSERTED) n++, nodes++;
             else if (code != KBUCKETS_REFUSED_KIND) abort();
         }

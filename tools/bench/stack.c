@@ -42,8 +42,10 @@ static struct {
     uint8_t flag, a, b, c, d, state, direction, predicate, given_state, given_direction;
     kbuckets_slot slot;
     uint64_t now, distances[8];
-    size_t n;
+    size_t n, windows, closed;
+    uint16_t date[3], minute;
 } with;
+static uint16_t windows[3 * KBUCKETS_MAX_WINDOWS], closed[3 * KBUCKETS_MAX_CLOSED_DATES];
 
 static void choose(void) {
     static const uint64_t times[] = {0, 1, TIMEOUT + 2};
@@ -64,6 +66,17 @@ static void choose(void) {
     with.now = times[below(3)];
     with.n = counts[below(4)];
     for (int i = 0; i < 8; i++) with.distances[i] = below(258);
+    // No hours, or the most, of windows that are open or shut; sometimes a date that is none.
+    with.windows = below(2) ? 0 : sizeof windows / sizeof windows[0];
+    with.closed = below(2) ? 0 : sizeof closed / sizeof closed[0];
+    for (size_t i = 0; i < sizeof windows / sizeof windows[0]; i += 3)
+        windows[i] = (uint16_t)(1 + below(7)), windows[i + 1] = (uint16_t)below(720), windows[i + 2] = (uint16_t)(720 + below(721));
+    for (size_t i = 0; i < sizeof closed / sizeof closed[0]; i += 3)
+        closed[i] = (uint16_t)(2000 + below(400)), closed[i + 1] = (uint16_t)(1 + below(12)), closed[i + 2] = (uint16_t)(1 + below(28));
+    with.date[0] = (uint16_t)(2000 + below(400));
+    with.date[1] = (uint16_t)(1 + below(12));
+    with.date[2] = (uint16_t)(1 + below(31));
+    with.minute = (uint16_t)below(1441);
 }
 
 static volatile uint32_t answered;
@@ -72,6 +85,7 @@ static volatile uint32_t answered;
 #define KEY with.key, KBUCKETS_KEY_BYTES
 #define VALUE with.flag, with.a, with.b, with.c, with.d, with.slot
 #define STATUS with.state, with.direction
+#define HOURS windows, with.windows, closed, with.closed, with.date[0], with.date[1], with.date[2], with.minute
 #define ANSWER answer, sizeof answer
 #define OUTPUT output, sizeof output
 #define CALLS_OF_THE_LIBRARY(call) \
@@ -79,12 +93,12 @@ static volatile uint32_t answered;
     call(new, (STORAGE, KEY, TIMEOUT, 16, 1, 1)) \
     call(update_node_status, (STORAGE, KEY, with.state, with.given_direction, with.now)) \
     call(update_node, (STORAGE, KEY, VALUE, with.given_state, with.now)) \
-    call(insert_or_update, (STORAGE, KEY, VALUE, STATUS, with.now, ANSWER)) \
+    call(insert_or_update, (STORAGE, KEY, VALUE, STATUS, with.now, HOURS, ANSWER)) \
     call(remove, (STORAGE, KEY, with.now)) \
     call(entry, (STORAGE, KEY, with.now)) \
     call(present_update, (STORAGE, KEY, with.state, with.given_direction)) \
     call(pending_update, (STORAGE, KEY, STATUS)) \
-    call(absent_insert, (STORAGE, KEY, VALUE, STATUS, with.now, ANSWER)) \
+    call(absent_insert, (STORAGE, KEY, VALUE, STATUS, with.now, HOURS, ANSWER)) \
     call(iter, (STORAGE, with.n, with.now, OUTPUT)) \
     call(nodes_by_distances, (STORAGE, with.distances, 8, with.n, with.now, OUTPUT)) \
     call(closest_keys, (STORAGE, KEY, with.n, with.now, OUTPUT)) \
@@ -93,11 +107,11 @@ static volatile uint32_t answered;
     call(take_applied_pending, (STORAGE, ANSWER)) \
     call(explain_update_node_status, (STORAGE, KEY, with.state, with.given_direction, with.now, OUTPUT)) \
     call(explain_update_node, (STORAGE, KEY, VALUE, with.given_state, with.now, OUTPUT)) \
-    call(explain_insert_or_update, (STORAGE, KEY, VALUE, STATUS, with.now, OUTPUT)) \
+    call(explain_insert_or_update, (STORAGE, KEY, VALUE, STATUS, with.now, HOURS, OUTPUT)) \
     call(explain_remove, (STORAGE, KEY, with.now, OUTPUT)) \
     call(explain_present_update, (STORAGE, KEY, with.state, with.given_direction, OUTPUT)) \
     call(explain_pending_update, (STORAGE, KEY, STATUS, OUTPUT)) \
-    call(explain_absent_insert, (STORAGE, KEY, VALUE, STATUS, with.now, OUTPUT)) \
+    call(explain_absent_insert, (STORAGE, KEY, VALUE, STATUS, with.now, HOURS, OUTPUT)) \
     call(write, (STORAGE, OUTPUT)) \
     call(read, (STORAGE, saved, with.n < 2 ? with.n : saved_bytes)) \
     call(b_new, (BUCKET, TIMEOUT, 16, 1)) \
@@ -113,8 +127,8 @@ CALLS_OF_THE_LIBRARY(FUNCTION)
 static void run_nothing(void) {}
 
 // Six arguments are in registers, the others on the stack, whose pointer is a multiple of 16 at a call.
-#define NUMBER(a1, a2, a3, a4, a5, a6, a7, a8, a9, a10, a11, a12, a13, a14, a15, number, ...) number
-#define COUNT(...) NUMBER(__VA_ARGS__, 15, 14, 13, 12, 11, 10, 9, 8, 7, 6, 5, 4, 3, 2, 1, 0)
+#define NUMBER(a1, a2, a3, a4, a5, a6, a7, a8, a9, a10, a11, a12, a13, a14, a15, a16, a17, a18, a19, a20, a21, a22, a23, number, ...) number
+#define COUNT(...) NUMBER(__VA_ARGS__, 23, 22, 21, 20, 19, 18, 17, 16, 15, 14, 13, 12, 11, 10, 9, 8, 7, 6, 5, 4, 3, 2, 1, 0)
 #define ON_STACK(...) (COUNT(__VA_ARGS__) > 6 ? (COUNT(__VA_ARGS__) - 5) / 2 * 16 : 0)
 static const struct {
     const char *name;
@@ -159,7 +173,8 @@ static void ok(uint32_t code) {
 
 static uint32_t put(const uint8_t *key, uint8_t state, kbuckets_slot slot) {
     return kbuckets_insert_or_update(
-        STORAGE, key, 32, 1, 10, (uint8_t)(slot >> 8), (uint8_t)slot, 1, slot, state, (uint8_t)below(2), 1, ANSWER);
+        STORAGE, key, 32, 1, 10, (uint8_t)(slot >> 8), (uint8_t)slot, 1, slot, state, (uint8_t)below(2), 1, windows, 0, closed, 0, 0, 0, 0, 0,
+        ANSWER);
 }
 
 // Each value in a /24 of its own, so that no filter fails.

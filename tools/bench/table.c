@@ -38,9 +38,13 @@ static void random_key(uint8_t *key, int i) {
     key[byte] = (uint8_t)((key[byte] & ((1 << bit) - 1)) | (1 << bit));
 }
 
+// No windows: at every hour.
+static const uint16_t none[1];
+
 static uint32_t put(const uint8_t *key) {
     return kbuckets_insert_or_update(
-        storage, sizeof storage, key, 32, 0, 0, 0, 0, 0, 1, KBUCKETS_CONNECTED, KBUCKETS_OUTGOING, 0, answer, sizeof answer);
+        storage, sizeof storage, key, 32, 0, 0, 0, 0, 0, 1, KBUCKETS_CONNECTED, KBUCKETS_OUTGOING, 0, none, 0, none, 0, 0, 0, 0, 0, answer,
+        sizeof answer);
 }
 
 // A new table with up to `most` nodes in each of the buckets from the first on.

@@ -18,8 +18,9 @@ of the table is, the table's lines are passed over up to the next new table, and
 Exits with 0 where they agree on all calls, with 2 where it cannot run, and with 1 otherwise: after a disagreement, which is shrunk to its
 fewest lines, and a command that ends before its answers are through is one, whatever the other does; where fewer calls or explanations
 ran than were asked for; and, from 200,000 calls on, where an outcome of a call or an explanation, two slots that differ in some one byte
-alone, or an ending of a pending by a call that can end it so, are not reached, or an ending occurs less than once in 1,000 calls (from
-2,000,000 on also where listings and explanations are not asked for all that they are to be).
+alone, a fault of the hours or a moment in or outside of them, or an ending of a pending by a call that can end it so, are not reached, or
+an ending occurs less than once in 1,000 calls (from 2,000,000 on also where listings and explanations are not asked for all that they are
+to be).
 
   --calls N          calls to compare (100,000) or to write (3,000); explanations are not counted
   --explanations N   explanations to compare, each with its call, at least (0)
@@ -118,7 +119,7 @@ fn compare(options: &Options, programs: &[Program; 2]) -> Result<bool, String> {
     }
     let mut generator = Generator::explaining(options.seed);
     let (mut counts, mut explained, mut asked) = (Counts::outcomes(), Counts::explained(), Counts::asked());
-    let (mut saved, mut slots) = (Counts::saved(), Counts::slots());
+    let (mut saved, mut slots, mut hours) = (Counts::saved(), Counts::slots(), Counts::hours());
     let mut endings = Endings::new();
     let (mut calls, mut explanations, mut passed) = (0, 0, 0);
     let mut shown = start;
@@ -141,6 +142,7 @@ fn compare(options: &Options, programs: &[Program; 2]) -> Result<bool, String> {
             saved.add_outcome(call, answer);
             asked.add_asked(call, answer);
             slots.add_slots(call, answer, answered.before);
+            hours.add_hours(call, answer, answered.before);
             endings.add(call, answer, answered.after);
         })?;
         if let Some(disagreement) = disagreement {
@@ -164,6 +166,8 @@ fn compare(options: &Options, programs: &[Program; 2]) -> Result<bool, String> {
     print_counts(&asked);
     println!("Slots at equal addresses, by how they differ (byte 0 is the last):");
     print_counts(&slots);
+    println!("Hours, by call: what breaks question 10, alone; or the key before the call, and when it is made:");
+    print_counts(&hours);
     println!("Pendings ended, by call:");
     print_counts(&endings.by_call);
     let totals = endings.totals();
@@ -176,6 +180,7 @@ fn compare(options: &Options, programs: &[Program; 2]) -> Result<bool, String> {
         + missing(&explained, ALL_OUTCOMES)
         + missing(&saved, ALL_OUTCOMES)
         + missing(&slots, ALL_OUTCOMES)
+        + missing(&hours, ALL_OUTCOMES)
         + missing(&endings.by_call, ALL_OUTCOMES)
         + missing(&asked, ALL_ASKED);
     let rare = totals.values().filter(|count| wanted >= ALL_OUTCOMES && **count < calls / CALLS_PER_ENDING).count();

@@ -184,15 +184,17 @@ missing.
         .to_vec()
     }
 
-    /// The calls of tests/endings.txt: each ending of a pending.
-    fn endings() -> impl Iterator<Item = String> {
-        const OTHER: [&str; 4] = ["#", "dump", "bdump", "explain "];
-        let lines = include_str!("../../tests/endings.txt").lines();
-        lines.filter(|line| !line.is_empty() && !OTHER.iter().any(|other| line.starts_with(other))).map(str::to_string)
+    /// The calls of tests/endings.txt, each ending of a pending, and of tests/hours.txt; those that fit a record.
+    fn of_tests() -> impl Iterator<Item = String> {
+        const OTHER: [&str; 5] = ["#", "dump", "bdump", "explain ", "! explain "];
+        let lines = [include_str!("../../tests/endings.txt"), include_str!("../../tests/hours.txt")];
+        let is_call = |line: &&str| !line.is_empty() && !OTHER.iter().any(|other| line.starts_with(other));
+        let lines = lines.into_iter().flat_map(str::lines).filter(is_call);
+        lines.filter(|line| record::fitting(line) == *line).map(str::to_string)
     }
 
     /// Question 1 of each call; short answers; a queue filled by calls alone and question 8 of each call; question 2 of each call, and of the
-    /// padding; a pending of each status before it is due, and when it is; slots that differ in one byte alone; each ending of a pending.
+    /// padding; a pending of each status before it is due, and when it is; slots that differ in one byte alone; each ending of a pending; hours.
     fn fixed() -> Vec<String> {
         let mut lines = vec!["new :0 0 16 0 0".to_string()];
         lines.extend(every().iter().map(|line| format!("! {line}")));
@@ -233,7 +235,7 @@ missing.
                 lines.extend(twins(slot, slot ^ 0x80 << (8 * byte)));
             }
         }
-        lines.extend(endings());
+        lines.extend(of_tests());
         lines
     }
 

@@ -101,6 +101,14 @@ On the tables of 1,008 nodes also the explanations of these calls, and how many 
             state: u8,
             direction: u8,
             now: u64,
+            windows: *const u16,
+            windows_len: usize,
+            closed: *const u16,
+            closed_len: usize,
+            year: u16,
+            month: u16,
+            day: u16,
+            minute: u16,
             answer: *mut u8,
             answer_len: usize,
         ) -> u32;
@@ -154,6 +162,14 @@ On the tables of 1,008 nodes also the explanations of these calls, and how many 
             state: u8,
             direction: u8,
             now: u64,
+            windows: *const u16,
+            windows_len: usize,
+            closed: *const u16,
+            closed_len: usize,
+            year: u16,
+            month: u16,
+            day: u16,
+            minute: u16,
             output: *mut u8,
             output_len: usize,
         ) -> u32;
@@ -243,6 +259,9 @@ On the tables of 1,008 nodes also the explanations of these calls, and how many 
         fn take_applied_pending(&mut self) -> u32;
     }
 
+    /// No windows: at every hour.
+    const NONE: *const u16 = [].as_ptr();
+
     struct Library {
         storage: Vec<u8>,
         answer: [u8; ANSWER],
@@ -281,7 +300,8 @@ On the tables of 1,008 nodes also the explanations of these calls, and how many 
                     }
                     Call::Remove => kbuckets_explain_remove(storage, STORAGE, key, KEY, NOW, line, room),
                     _ => kbuckets_explain_insert_or_update(
-                        storage, STORAGE, key, KEY, 1, a, b, c, d, slot, 1, 0, NOW, line, room,
+                        storage, STORAGE, key, KEY, 1, a, b, c, d, slot, 1, 0, NOW, NONE, 0, NONE, 0, 0, 0, 0, 0, line,
+                        room,
                     ),
                 }
             }
@@ -293,7 +313,10 @@ On the tables of 1,008 nodes also the explanations of these calls, and how many 
             let [a, b, c, d] = peer.octets;
             let (storage, key, answer) = (self.storage.as_mut_ptr(), peer.key.as_ptr(), self.answer.as_mut_ptr());
             unsafe {
-                kbuckets_insert_or_update(storage, STORAGE, key, KEY, 1, a, b, c, d, slot, 1, 0, NOW, answer, ANSWER)
+                kbuckets_insert_or_update(
+                    storage, STORAGE, key, KEY, 1, a, b, c, d, slot, 1, 0, NOW, NONE, 0, NONE, 0, 0, 0, 0, 0, answer,
+                    ANSWER,
+                )
             }
         }
 

@@ -38,7 +38,7 @@ pub fn answers_as_written(program: &str, file: &str) {
 }
 
 /// Lines that are no call, and raw lines that do not fit.
-const BAD_LINES: [&str; 60] = [
+const BAD_LINES: [&str; 79] = [
     "no_such_call",
     "entry 0",
     "entry 0 :1 2",
@@ -55,6 +55,25 @@ const BAD_LINES: [&str; 60] = [
     "update_node 0 :1 1:1.2.3.256:4 0",
     "update_node 0 :1 1:1.2.3.4:18446744073709551616 0",
     "b_update_value :1 1:1.2.3.4:18446744073709617151",
+    "insert_or_update 0 :1 0:0.0.0.0:1 1 0 -",
+    "insert_or_update 0 :1 0:0.0.0.0:1 1 0 - -",
+    "insert_or_update 0 :1 0:0.0.0.0:1 1 0 - - 2026-11-16",
+    "insert_or_update 0 :1 0:0.0.0.0:1 1 0 - - 2026-11-16 0 0",
+    "insert_or_update 0 :1 0:0.0.0.0:1 1 0 - - 2026-11 0",
+    "insert_or_update 0 :1 0:0.0.0.0:1 1 0 - - 2026:11:16 0",
+    "insert_or_update 0 :1 0:0.0.0.0:1 1 0 - - 2026-11-16+ 0",
+    "insert_or_update 0 :1 0:0.0.0.0:1 1 0 - - 2026-11-16 65536",
+    "absent_insert 0 :1 0:0.0.0.0:1 1 0 - - 65536-11-16 0",
+    "absent_insert 0 :1 0:0.0.0.0:1 1 0 1:0:65536 - 2026-11-16 0",
+    "absent_insert 0 :1 0:0.0.0.0:1 1 0 1:0 - 2026-11-16 0",
+    "absent_insert 0 :1 0:0.0.0.0:1 1 0 1-0-1 - 2026-11-16 0",
+    "absent_insert 0 :1 0:0.0.0.0:1 1 0 1:0:1, - 2026-11-16 0",
+    "absent_insert 0 :1 0:0.0.0.0:1 1 0 1:0:1++ - 2026-11-16 0",
+    "absent_insert 0 :1 0:0.0.0.0:1 1 0 - 2026-11-65536 2026-11-16 0",
+    "absent_insert 0 :1 0:0.0.0.0:1 1 0 - + 2026-11-16 0",
+    "explain absent_insert 0 :1 0:0.0.0.0:1 1 0 - out=2048",
+    "update_node 0 :1 0:0.0.0.0:1 1 - - 2026-11-16 0",
+    "b_insert 0 :1 0:0.0.0.0:1 1 0 - - 2026-11-16 0",
     "iter 0 1 room=1",
     "entry 0 :1 out=1",
     "nodes_by_distances 0 1,,2 1",

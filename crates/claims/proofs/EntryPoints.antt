@@ -82,7 +82,7 @@ entry-points =
       new = plain 2 NewKinds.ps NewKinds.r New.Post NewSymbol.routine (λ M. NewMet.met);
       update-node-status = plain 2 UpdateNodeStatusKinds.ps UpdateNodeStatusKinds.r UpdateNodeStatus.Post UpdateNodeStatusSymbol.routine (λ M. UpdateNodeStatusMet.met);
       update-node = plain 2 UpdateNodeKinds.ps UpdateNodeKinds.r UpdateNode.Post UpdateNodeSymbol.routine (λ M. UpdateNodeMet.met);
-      insert-or-update = plain 2 InsertOrUpdateKinds.ps InsertOrUpdateKinds.r InsertOrUpdate.Post InsertOrUpdateSymbol.routine (λ M. InsertOrUpdateMet.met);
+      insert-or-update = plain 4 InsertOrUpdateKinds.ps InsertOrUpdateKinds.r InsertOrUpdate.Post InsertOrUpdateSymbol.routine (λ M. InsertOrUpdateMet.met);
       remove = plain 2 RemoveKinds.ps RemoveKinds.r Remove.Post RemoveSymbol.routine (λ M. RemoveMet.met);
       entry =
           paired 2 EntryKinds.ps EntryKinds.r
@@ -90,7 +90,7 @@ entry-points =
           (λ κs a b e. entryCodes b ≡ true) EntrySymbol.routine (λ M. EntryMet.met);
       present-update = plain 2 PresentUpdateKinds.ps PresentUpdateKinds.r PresentUpdate.Post PresentUpdateSymbol.routine (λ M. PresentUpdateMet.met);
       pending-update = plain 2 PendingUpdateKinds.ps PendingUpdateKinds.r PendingUpdate.Post PendingUpdateSymbol.routine (λ M. PendingUpdateMet.met);
-      absent-insert = plain 2 AbsentInsertKinds.ps AbsentInsertKinds.r AbsentInsert.Post AbsentInsertSymbol.routine (λ M. AbsentInsertMet.met);
+      absent-insert = plain 4 AbsentInsertKinds.ps AbsentInsertKinds.r AbsentInsert.Post AbsentInsertSymbol.routine (λ M. AbsentInsertMet.met);
       iter = plain 2 IterKinds.ps IterKinds.r Iter.Post IterSymbol.routine (λ M. IterMet.met);
       nodes-by-distances = plain 3 NodesByDistancesKinds.ps NodesByDistancesKinds.r NodesByDistances.Post NodesByDistancesSymbol.routine (λ M. NodesByDistancesMet.met);
       closest-keys = plain 3 ClosestKeysKinds.ps ClosestKeysKinds.r ClosestKeys.Post ClosestKeysSymbol.routine (λ M. ClosestKeysMet.met);

@@ -48,12 +48,12 @@ pub sees : {c : Call} {answer s : List ℕ} {code : ℕ} {s′ out′ : List ℕ
 sees (Called.new _ _ _ _ _ _ _ _ _ _ p) = quiet _ _ refl p
 sees (Called.updateNodeStatus _ _ _ _ _ _ _ _ _ p) = quiet _ _ refl p
 sees (Called.updateNode _ _ _ _ _ _ _ _ _ _ _ _ _ _ p) = quiet _ _ refl p
-sees (Called.insertOrUpdate _ _ _ _ _ _ _ _ _ _ _ _ _ _ _ _ _ _ _ _ _ _ _ _ _ _ p) = p
+sees (Called.insertOrUpdate _ _ _ _ _ _ _ _ _ _ _ _ _ _ _ _ _ _ _ _ _ _ _ _ _ _ _ _ _ _ _ _ _ _ _ _ _ _ p) = p
 sees (Called.remove _ _ _ _ _ _ _ p) = quiet _ _ refl p
 sees (Called.entry _ _ _ _ _ _ _ p) = quiet _ _ refl p
 sees (Called.presentUpdate _ _ _ _ _ _ _ _ p) = quiet _ _ refl p
 sees (Called.pendingUpdate _ _ _ _ _ _ _ _ p) = quiet _ _ refl p
-sees (Called.absentInsert _ _ _ _ _ _ _ _ _ _ _ _ _ _ _ _ _ _ _ _ _ _ _ _ _ _ p) = p
+sees (Called.absentInsert _ _ _ _ _ _ _ _ _ _ _ _ _ _ _ _ _ _ _ _ _ _ _ _ _ _ _ _ _ _ _ _ _ _ _ _ _ _ p) = p
 sees (Called.iter _ _ _ _ _ _ _ _ _ _ p) = p
 sees (Called.nodesByDistances _ _ _ _ _ _ _ _ _ _ _ _ p) = p
 sees (Called.closestKeys _ _ _ _ _ _ _ _ _ _ _ _ p) = p

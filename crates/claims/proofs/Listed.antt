@@ -247,23 +247,23 @@ effect-listed : (c : KeyCall) (k : List ℕ) (t : Table) (i : ℕ) (b : Bucket) 
 effect-listed (KeyCall.updateNodeStatus st dr now) k t i b h = status-listed (t .settings .bucket) (number k) (isOne st) (optional dr) _
 effect-listed (KeyCall.updateNode v st now) k t i b h =
     update-node listedNode of-node (t .settings .bucket) (failsTableFilter t i (number k) (valueOf v)) (λ _. refl) now (number k) (valueOf v) (optional st) _
-effect-listed (KeyCall.insertOrUpdate v st dr now) k t i b h =
+effect-listed (KeyCall.insertOrUpdate v st dr now hs) k t i b h =
     insert-or-update listedInsert of-insert (t .settings .bucket) (failsTableFilter t i (number k) (valueOf v)) (λ _. refl) now (nodeOf k v st dr) _
 effect-listed (KeyCall.remove now) k t i b h = refl
 effect-listed (KeyCall.entry now) k t i b h = refl
 effect-listed (KeyCall.presentUpdate st dr) k t i b h = held-status (t .settings .bucket) (number k) (isOne st) (optional dr) b (present-held (number k) b h)
 effect-listed (KeyCall.pendingUpdate st dr) k t i b h = refl
-effect-listed (KeyCall.absentInsert v st dr now) k t i b h = new-insert (t .settings .bucket) now (nodeOf k v st dr) b (absent-not-held (number k) b h)
+effect-listed (KeyCall.absentInsert v st dr now hs) k t i b h = new-insert (t .settings .bucket) now (nodeOf k v st dr) b (absent-not-held (number k) b h)
 
 own-listed : (c : KeyCall) → keyArguments c .kind EntryKind.SelfEntry ≡ true → among (Listed.onKey (keyKinds c)) (ownAnswer c) ≡ true
 own-listed (KeyCall.updateNodeStatus st dr now) h = refl
 own-listed (KeyCall.updateNode v st now) h = refl
-own-listed (KeyCall.insertOrUpdate v st dr now) h = refl
+own-listed (KeyCall.insertOrUpdate v st dr now hs) h = refl
 own-listed (KeyCall.remove now) h = refl
 own-listed (KeyCall.entry now) h = refl
 own-listed (KeyCall.presentUpdate st dr) h = h
 own-listed (KeyCall.pendingUpdate st dr) h = h
-own-listed (KeyCall.absentInsert v st dr now) h = h
+own-listed (KeyCall.absentInsert v st dr now hs) h = h
 
 on-key : (c : KeyCall) (k : List ℕ) (t : Table) (o : Option ℕ) → keyArguments c .kind (kindIn t (number k) o) ≡ true
     → among (Listed.onKey (keyKinds c)) (onKey t (ownAnswer c) (effect c k t) o .answer) ≡ true

@@ -55,27 +55,27 @@ effect-keeps key (KeyCall.updateNode v st now) t i b x =
     not-true _
     (update-node other node-other (t .settings .bucket) (failsTableFilter t i (number key) (valueOf v))
     (λ f. clash f (passes key (KeyCall.updateNode v st now) t i (valueOf v) refl x)) now (number key) (valueOf v) (optional st) _)
-effect-keeps key (KeyCall.insertOrUpdate v st dr now) t i b x =
+effect-keeps key (KeyCall.insertOrUpdate v st dr now hs) t i b x =
     not-true _
     (insert-or-update other insert-other (t .settings .bucket) (failsTableFilter t i (number key) (valueOf v))
-    (λ f. clash f (passes key (KeyCall.insertOrUpdate v st dr now) t i (valueOf v) refl x)) now (nodeOf key v st dr) _)
+    (λ f. clash f (passes key (KeyCall.insertOrUpdate v st dr now hs) t i (valueOf v) refl x)) now (nodeOf key v st dr) _)
 effect-keeps key (KeyCall.updateNodeStatus st dr now) t i b x = gives-none (x .given)
 effect-keeps key (KeyCall.remove now) t i b x = gives-none (x .given)
 effect-keeps key (KeyCall.entry now) t i b x = gives-none (x .given)
 effect-keeps key (KeyCall.presentUpdate st dr) t i b x = gives-none (x .given)
 effect-keeps key (KeyCall.pendingUpdate st dr) t i b x = gives-none (x .given)
-effect-keeps key (KeyCall.absentInsert v st dr now) t i b x = gives-none (x .given)
+effect-keeps key (KeyCall.absentInsert v st dr now hs) t i b x = gives-none (x .given)
 
 -- the local key is told otherwise
 local-other : (c : KeyCall) → failedTableFilter (ownAnswer c) ≡ false
 local-other (KeyCall.updateNodeStatus st dr now) = refl
 local-other (KeyCall.updateNode v st now) = refl
-local-other (KeyCall.insertOrUpdate v st dr now) = refl
+local-other (KeyCall.insertOrUpdate v st dr now hs) = refl
 local-other (KeyCall.remove now) = refl
 local-other (KeyCall.entry now) = refl
 local-other (KeyCall.presentUpdate st dr) = refl
 local-other (KeyCall.pendingUpdate st dr) = refl
-local-other (KeyCall.absentInsert v st dr now) = refl
+local-other (KeyCall.absentInsert v st dr now hs) = refl
 
 act-keeps : (key : List ℕ) (c : KeyCall) (t : Table) → KeepsNet key c t → failedTableFilter (act (Call.onKey key c) t .answer) ≡ false
 unfolding act

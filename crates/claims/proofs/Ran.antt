@@ -54,12 +54,12 @@ pub equation : {c : Call} {s : List ℕ} {a : Answer} {s′ out′ : List ℕ} �
 equation (Ran.new _ _ _ _ _ _ _ _ _ _ p) = quiet _ _ refl p
 equation (Ran.updateNodeStatus _ _ _ _ _ _ _ _ _ p) = quiet _ _ refl p
 equation (Ran.updateNode _ _ _ _ _ _ _ _ _ p) = quiet _ _ refl p
-equation (Ran.insertOrUpdate _ _ _ _ _ _ _ _ _ _ p) = quiet _ _ refl p
+equation (Ran.insertOrUpdate _ _ _ _ _ _ _ _ _ _ _ _ _ p) = quiet _ _ refl p
 equation (Ran.remove _ _ _ _ _ _ _ p) = quiet _ _ refl p
 equation (Ran.entry _ _ _ _ _ _ _ p) = quiet _ _ refl (p .0)
 equation (Ran.presentUpdate _ _ _ _ _ _ _ _ p) = quiet _ _ refl p
 equation (Ran.pendingUpdate _ _ _ _ _ _ _ _ p) = quiet _ _ refl p
-equation (Ran.absentInsert _ _ _ _ _ _ _ _ _ _ p) = quiet _ _ refl p
+equation (Ran.absentInsert _ _ _ _ _ _ _ _ _ _ _ _ _ p) = quiet _ _ refl p
 equation (Ran.iter _ _ _ _ _ _ _ _ _ _ p) = p
 equation (Ran.nodesByDistances _ _ _ _ _ _ _ _ _ _ _ _ p) = p
 equation (Ran.closestKeys _ _ _ _ _ _ _ _ _ _ _ _ p) = p

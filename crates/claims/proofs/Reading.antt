@@ -146,10 +146,10 @@ updates-fit v r = insertUpdates-answers FitsInsert (λ _. tt) tt (λ _. tt) tt (
 abbrev Reads : List ℕ → KeyCall → List ℕ → Answer → Type 0
 Reads k c bs a = Front bs (answerBytes a) → answerOf (Call.onKey k c) (answerCode a) bs ≡ a
 
-insert-or-update-read : (k : List ℕ) (v : _) (st dr time : ℕ) (bs : List ℕ) (s : BucketSettings) (fails : Bool) (now : ℕ) (n : Node) (b : Bucket) → FitsBucket b
-    → Reads k (KeyCall.insertOrUpdate v st dr time) bs (insertOrUpdateIn s fails now n b .0)
-insert-or-update-read k v st dr time bs s fails now n b f =
-    let Q : Answer × Bucket → Type 0 = λ r. Reads k (KeyCall.insertOrUpdate v st dr time) bs (r .0) in
+insert-or-update-read : (k : List ℕ) (v : _) (st dr time : ℕ) (hs : _) (bs : List ℕ) (s : BucketSettings) (fails : Bool) (now : ℕ) (n : Node) (b : Bucket) → FitsBucket b
+    → Reads k (KeyCall.insertOrUpdate v st dr time hs) bs (insertOrUpdateIn s fails now n b .0)
+insert-or-update-read k v st dr time hs bs s fails now n b f =
+    let Q : Answer × Bucket → Type 0 = λ r. Reads k (KeyCall.insertOrUpdate v st dr time hs) bs (r .0) in
     let r = updateStatus s (n .key) (n .connected) (some (n .incoming)) b in
     cases Q fails (λ _ _. refl)
     (λ _. cases Q (holds (n .key) b)
@@ -165,25 +165,25 @@ effect-read (KeyCall.updateNodeStatus st dr now) k t i b bs h f = update-read _
 effect-read (KeyCall.updateNode v st now) k t i b bs h f =
     updateNode-answers (λ (a : Answer). answerOf (Call.onKey k (KeyCall.updateNode v st now)) (answerCode a) bs ≡ a) update-read (t .settings .bucket)
     (failsTableFilter t i (number k) (valueOf v)) now (number k) (valueOf v) (optional st) _
-effect-read (KeyCall.insertOrUpdate v st dr now) k t i b bs h f =
-    insert-or-update-read k v st dr now bs (t .settings .bucket) (failsTableFilter t i (number k) (valueOf v)) now (nodeOf k v st dr) _
+effect-read (KeyCall.insertOrUpdate v st dr now hs) k t i b bs h f =
+    insert-or-update-read k v st dr now hs bs (t .settings .bucket) (failsTableFilter t i (number k) (valueOf v)) now (nodeOf k v st dr) _
     (applyPending-each FitsNode FitsDeadline (t .settings .bucket) now b h) (f refl)
 effect-read (KeyCall.remove now) k t i b bs h f = remove-read _
 effect-read (KeyCall.entry now) k t i b bs h f = entry-read _
 effect-read (KeyCall.presentUpdate st dr) k t i b bs h f = update-read _
 effect-read (KeyCall.pendingUpdate st dr) k t i b bs h f = refl
-effect-read (KeyCall.absentInsert v st dr now) k t i b bs h f =
+effect-read (KeyCall.absentInsert v st dr now hs) k t i b bs h f =
     bucket-insert-read bs _ (insert-fits (t .settings .bucket) now (nodeOf k v st dr) b h) (f refl)
 
 own-read : (c : KeyCall) (k bs : List ℕ) → answerOf (Call.onKey k c) (answerCode (ownAnswer c)) bs ≡ ownAnswer c
 own-read (KeyCall.updateNodeStatus st dr now) k bs = refl
 own-read (KeyCall.updateNode v st now) k bs = refl
-own-read (KeyCall.insertOrUpdate v st dr now) k bs = refl
+own-read (KeyCall.insertOrUpdate v st dr now hs) k bs = refl
 own-read (KeyCall.remove now) k bs = refl
 own-read (KeyCall.entry now) k bs = refl
 own-read (KeyCall.presentUpdate st dr) k bs = refl
 own-read (KeyCall.pendingUpdate st dr) k bs = refl
-own-read (KeyCall.absentInsert v st dr now) k bs = refl
+own-read (KeyCall.absentInsert v st dr now hs) k bs = refl
 
 pub key-call-read : (c : KeyCall) (k : List ℕ) (t : Table) (bs : List ℕ) → ((i : ℕ) → FitsBucket (t .buckets i)) → (o : Option ℕ)
     → (keyCarries c ≡ true → Front bs (answerBytes (onKey t (ownAnswer c) (effect c k t) o .answer)))

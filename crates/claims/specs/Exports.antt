@@ -15,6 +15,7 @@ use Rattle.model.specs.Sizes.{keySize, recordSize}
 use Rattle.model.specs.Call.{Listing, Call, KeyCall, isOne}
 use Rattle.model.specs.Layout.{recordIn}
 use Rattle.model.specs.StepBytes.{allQuestions, outputOf}
+use Rattle.session.specs.Hours.{sessionOf}
 use Rattle.codes.specs.Codes.{refusedCode, answerSize}
 use Rattle.model.specs.Question.{withRoom}
 use Rattle.codes.specs.Exported.{Exported, exported, exportedWith}
@@ -51,10 +52,12 @@ pub data Called : (c : Call) (answer s : List ℕ) (code : ℕ) (s′ out′ : L
   updateNode : (κs : Lfts 2) (s key s′ : Slice) (flag a b c d slot state time : ℕ) (code : ℕ) (others : _)
       → UpdateNode.Post κs (s & key & flag & a & b & c & d & slot & state & time & tt) code (s′ & others)
       → Called (Call.onKey (now key) (KeyCall.updateNode (record { flag = flag; a = a; b = b; c = c; d = d; slot = slot }) state time)) [] (now s) code (now s′) []
-  insertOrUpdate : (κs : Lfts 3) (s key answer s′ key′ answer′ : Slice) (flag a b c d slot state direction time : ℕ) (flag′ a′ b′ c′ d′ slot′ state′ direction′ time′ : ℕ) (code : ℕ)
-      → InsertOrUpdate.Post κs (s & key & flag & a & b & c & d & slot & state & direction & time & answer & tt) code
-      (s′ & key′ & flag′ & a′ & b′ & c′ & d′ & slot′ & state′ & direction′ & time′ & answer′ & tt)
-      → Called (Call.onKey (now key) (KeyCall.insertOrUpdate (record { flag = flag; a = a; b = b; c = c; d = d; slot = slot }) state direction time)) (now answer) (now s) code (now s′) (now answer′)
+  insertOrUpdate : (κs : Lfts 5) (s key windows closed answer s′ key′ windows′ closed′ answer′ : Slice) (flag a b c d slot state direction time year month day minute : ℕ)
+      (flag′ a′ b′ c′ d′ slot′ state′ direction′ time′ year′ month′ day′ minute′ : ℕ) (code : ℕ)
+      → InsertOrUpdate.Post κs (s & key & flag & a & b & c & d & slot & state & direction & time & windows & closed & year & month & day & minute & answer & tt) code
+      (s′ & key′ & flag′ & a′ & b′ & c′ & d′ & slot′ & state′ & direction′ & time′ & windows′ & closed′ & year′ & month′ & day′ & minute′ & answer′ & tt)
+      → Called (Call.onKey (now key) (KeyCall.insertOrUpdate (record { flag = flag; a = a; b = b; c = c; d = d; slot = slot }) state direction time
+      (sessionOf (now windows) (now closed) (record { year = year; month = month; day = day; minute = minute })))) (now answer) (now s) code (now s′) (now answer′)
   remove : (κs : Lfts 2) (s key s′ : Slice) (time : ℕ) (code : ℕ) (others : _)
       → Remove.Post κs (s & key & time & tt) code (s′ & others)
       → Called (Call.onKey (now key) (KeyCall.remove time)) [] (now s) code (now s′) []
@@ -67,10 +70,12 @@ pub data Called : (c : Call) (answer s : List ℕ) (code : ℕ) (s′ out′ : L
   pendingUpdate : (κs : Lfts 2) (s key s′ : Slice) (state direction : ℕ) (code : ℕ) (others : _)
       → PendingUpdate.Post κs (s & key & state & direction & tt) code (s′ & others)
       → Called (Call.onKey (now key) (KeyCall.pendingUpdate state direction)) [] (now s) code (now s′) []
-  absentInsert : (κs : Lfts 3) (s key answer s′ key′ answer′ : Slice) (flag a b c d slot state direction time : ℕ) (flag′ a′ b′ c′ d′ slot′ state′ direction′ time′ : ℕ) (code : ℕ)
-      → AbsentInsert.Post κs (s & key & flag & a & b & c & d & slot & state & direction & time & answer & tt) code
-      (s′ & key′ & flag′ & a′ & b′ & c′ & d′ & slot′ & state′ & direction′ & time′ & answer′ & tt)
-      → Called (Call.onKey (now key) (KeyCall.absentInsert (record { flag = flag; a = a; b = b; c = c; d = d; slot = slot }) state direction time)) (now answer) (now s) code (now s′) (now answer′)
+  absentInsert : (κs : Lfts 5) (s key windows closed answer s′ key′ windows′ closed′ answer′ : Slice) (flag a b c d slot state direction time year month day minute : ℕ)
+      (flag′ a′ b′ c′ d′ slot′ state′ direction′ time′ year′ month′ day′ minute′ : ℕ) (code : ℕ)
+      → AbsentInsert.Post κs (s & key & flag & a & b & c & d & slot & state & direction & time & windows & closed & year & month & day & minute & answer & tt) code
+      (s′ & key′ & flag′ & a′ & b′ & c′ & d′ & slot′ & state′ & direction′ & time′ & windows′ & closed′ & year′ & month′ & day′ & minute′ & answer′ & tt)
+      → Called (Call.onKey (now key) (KeyCall.absentInsert (record { flag = flag; a = a; b = b; c = c; d = d; slot = slot }) state direction time
+      (sessionOf (now windows) (now closed) (record { year = year; month = month; day = day; minute = minute })))) (now answer) (now s) code (now s′) (now answer′)
   iter : (κs : Lfts 2) (s out s′ out′ : Slice) (n time n′ time′ : ℕ) (code : ℕ)
       → Iter.Post κs (s & n & time & out & tt) code (s′ & n′ & time′ & out′ & tt)
       → Called (Call.list Listing.iter n time (now out)) [] (now s) code (now s′) (now out′)
@@ -99,12 +104,12 @@ pub data Called : (c : Call) (answer s : List ℕ) (code : ℕ) (s′ out′ : L
 abbrev pub keyCarries : KeyCall → Bool
 keyCarries (KeyCall.updateNodeStatus st dr now) = false
 keyCarries (KeyCall.updateNode v st now) = false
-keyCarries (KeyCall.insertOrUpdate v st dr now) = true
+keyCarries (KeyCall.insertOrUpdate v st dr now hs) = true
 keyCarries (KeyCall.remove now) = false
 keyCarries (KeyCall.entry now) = false
 keyCarries (KeyCall.presentUpdate st dr) = false
 keyCarries (KeyCall.pendingUpdate st dr) = false
-keyCarries (KeyCall.absentInsert v st dr now) = true
+keyCarries (KeyCall.absentInsert v st dr now hs) = true
 
 abbrev pub carries : Call → Bool
 carries (Call.new k timeout m tf bf) = false
@@ -170,12 +175,12 @@ keyAt bs = number (part bs 0 keySize)
 abbrev pub keyAnswerOf : KeyCall → ℕ → List ℕ → Answer
 keyAnswerOf (KeyCall.updateNodeStatus st dr now) n bs = Answer.Update (updateOf n)
 keyAnswerOf (KeyCall.updateNode v st now) n bs = Answer.Update (updateOf n)
-keyAnswerOf (KeyCall.insertOrUpdate v st dr now) n bs = Answer.InsertOrUpdate (insertOf n (keyAt bs))
+keyAnswerOf (KeyCall.insertOrUpdate v st dr now hs) n bs = Answer.InsertOrUpdate (insertOf n (keyAt bs))
 keyAnswerOf (KeyCall.remove now) n bs = Answer.Remove (isOne n)
 keyAnswerOf (KeyCall.entry now) n bs = Answer.Entry (kindOf n)
 keyAnswerOf (KeyCall.presentUpdate st dr) n bs = Answer.Update (updateOf n)
 keyAnswerOf (KeyCall.pendingUpdate st dr) n bs = Answer.Update (updateOf n)
-keyAnswerOf (KeyCall.absentInsert v st dr now) n bs = Answer.Insert (bucketInsertOf n (keyAt bs))
+keyAnswerOf (KeyCall.absentInsert v st dr now hs) n bs = Answer.Insert (bucketInsertOf n (keyAt bs))
 
 abbrev pub acceptedAnswerOf : Call → ℕ → List ℕ → Answer
 acceptedAnswerOf (Call.new k timeout m tf bf) n bs = Answer.New

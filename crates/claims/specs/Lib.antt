@@ -1,5 +1,5 @@
 -- The answers that each call can give; what demands 1 and 3, and what became of pendings, are stated with, for the code and for a host; that
--- every call returns; the promise of a member's own old record; the writer and the reader; what a call reads.
+-- every call returns; the promise of a member's own old record; the writer and the reader; what a call reads; admission in session hours.
 pub mod Listed
 pub mod Ran
 pub mod Runs
@@ -10,3 +10,4 @@ pub mod HostFunctions
 pub mod OwnRecord
 pub mod Saved
 pub mod CheckingLess
+pub mod Hours

@@ -98,12 +98,12 @@ among k (Answer.Insert r) = k .on-key .insert r
 abbrev pub keyKinds : KeyCall → KeyKinds
 keyKinds (KeyCall.updateNodeStatus st dr now) = kinds false false statusUpdates no no
 keyKinds (KeyCall.updateNode v st now) = kinds false false nodeUpdates no no
-keyKinds (KeyCall.insertOrUpdate v st dr now) = kinds false false no insertResults no
+keyKinds (KeyCall.insertOrUpdate v st dr now hs) = kinds false false no insertResults no
 keyKinds (KeyCall.remove now) = kinds true false no no no
 keyKinds (KeyCall.entry now) = kinds false true no no no
 keyKinds (KeyCall.presentUpdate st dr) = kinds false false presentUpdates no no
 keyKinds (KeyCall.pendingUpdate st dr) = kinds false false pendingUpdates no no
-keyKinds (KeyCall.absentInsert v st dr now) = kinds false false no no absentInserts
+keyKinds (KeyCall.absentInsert v st dr now hs) = kinds false false no no absentInserts
 
 abbrev pub onKey : KeyKinds → Kinds
 onKey k = record { new = false; found = false; take = false; read = false; on-key = k }

@@ -17,13 +17,13 @@ use Rattle.model.specs.Call.{KeyCall, valueOf}
 -- the value that an update gives, in the two calls in which the table filter runs
 abbrev pub newValue : KeyCall → Option Value
 newValue (KeyCall.updateNode v st now) = some (valueOf v)
-newValue (KeyCall.insertOrUpdate v st dr now) = some (valueOf v)
+newValue (KeyCall.insertOrUpdate v st dr now hs) = some (valueOf v)
 newValue (KeyCall.updateNodeStatus st dr now) = none
 newValue (KeyCall.remove now) = none
 newValue (KeyCall.entry now) = none
 newValue (KeyCall.presentUpdate st dr) = none
 newValue (KeyCall.pendingUpdate st dr) = none
-newValue (KeyCall.absentInsert v st dr now) = none
+newValue (KeyCall.absentInsert v st dr now hs) = none
 
 -- 02: the key is held, the call keeps the /24 of its held value, and at most ten are held there, the key's own among them; all this in the
 -- table as the call finds it

@@ -7,6 +7,7 @@ use Rattle.model.specs.Table.{Answer}
 use Rattle.model.specs.Call.{Listing, Call, KeyCall}
 use Rattle.node.specs.Node.{argumentOf}
 use Rattle.on_key.specs.Answers.{updateAnswer}
+use Rattle.session.specs.Hours.{sessionOf}
 use Rattle.table.specs.Calls.{removeAnswer, takeAnswer, newAnswer}
 use Rattle.update.specs.Calls.{insertOrUpdateAnswer}
 use Rattle.entry.specs.Kind.{entryAnswer, insertAnswer}
@@ -51,9 +52,9 @@ pub data Ran : (c : Call) (s : List ℕ) (a : Answer) (s′ out′ : List ℕ) �
   updateNode : (κs : Lfts 2) (s key s′ : Slice) (value : _) (state time : ℕ) (a : _) (others : _)
       → UpdateNode.Post κs (s & key & value & state & time & tt) a (s′ & others)
       → Ran (Call.onKey (now key) (KeyCall.updateNode (argumentOf value) state time)) (now s) (updateAnswer a) (now s′) []
-  insertOrUpdate : (κs : Lfts 2) (s key s′ : Slice) (value : _) (state direction time : ℕ) (a : _) (others : _)
-      → InsertOrUpdate.Post κs (s & key & value & state & direction & time & tt) a (s′ & others)
-      → Ran (Call.onKey (now key) (KeyCall.insertOrUpdate (argumentOf value) state direction time)) (now s) (insertOrUpdateAnswer a) (now s′) []
+  insertOrUpdate : (κs : Lfts 4) (s key windows closed s′ : Slice) (value : _) (state direction time : ℕ) (moment : _) (a : _) (others : _)
+      → InsertOrUpdate.Post κs (s & key & value & state & direction & time & windows & closed & moment & tt) a (s′ & others)
+      → Ran (Call.onKey (now key) (KeyCall.insertOrUpdate (argumentOf value) state direction time (sessionOf (now windows) (now closed) moment))) (now s) (insertOrUpdateAnswer a) (now s′) []
   remove : (κs : Lfts 2) (s key s′ : Slice) (time : ℕ) (a : _) (others : _)
       → Remove.Post κs (s & key & time & tt) a (s′ & others)
       → Ran (Call.onKey (now key) (KeyCall.remove time)) (now s) (removeAnswer a) (now s′) []
@@ -66,9 +67,9 @@ pub data Ran : (c : Call) (s : List ℕ) (a : Answer) (s′ out′ : List ℕ) �
   pendingUpdate : (κs : Lfts 2) (s key s′ : Slice) (state direction : ℕ) (a : _) (others : _)
       → PendingUpdate.Post κs (s & key & state & direction & tt) a (s′ & others)
       → Ran (Call.onKey (now key) (KeyCall.pendingUpdate state direction)) (now s) (updateAnswer a) (now s′) []
-  absentInsert : (κs : Lfts 2) (s key s′ : Slice) (value : _) (state direction time : ℕ) (a : _) (others : _)
-      → AbsentInsert.Post κs (s & key & value & state & direction & time & tt) a (s′ & others)
-      → Ran (Call.onKey (now key) (KeyCall.absentInsert (argumentOf value) state direction time)) (now s) (insertAnswer a) (now s′) []
+  absentInsert : (κs : Lfts 4) (s key windows closed s′ : Slice) (value : _) (state direction time : ℕ) (moment : _) (a : _) (others : _)
+      → AbsentInsert.Post κs (s & key & value & state & direction & time & windows & closed & moment & tt) a (s′ & others)
+      → Ran (Call.onKey (now key) (KeyCall.absentInsert (argumentOf value) state direction time (sessionOf (now windows) (now closed) moment))) (now s) (insertAnswer a) (now s′) []
   iter : (κs : Lfts 2) (s out s′ out′ : Slice) (n time n′ time′ : ℕ) (a : _)
       → Iter.Post κs (s & n & time & out & tt) a (s′ & n′ & time′ & out′ & tt)
       → Ran (Call.list Listing.iter n time (now out)) (now s) (listAnswer a) (now s′) (now out′)

@@ -12,6 +12,7 @@ use borrow.Author.Tests.{le-leb, lt-leb, leb-true}
 use Rattle.model.specs.Base.{given, joined}
 use Rattle.model.specs.Bytes.{splice}
 use Rattle.model.specs.Table.{Answer}
+use Rattle.model.specs.Session.{Session}
 use Rattle.model.specs.Call.{ValueArgument, Listing, Call, KeyCall}
 use Rattle.model.specs.Question.{firstFailed, withRoom, valueInRange, maxCount, keysFit, codesInRange, clockFits, outputFits}
 use Rattle.model.specs.Listing.{most, visitOrder, shown, found}
@@ -88,13 +89,13 @@ take-asked s = refl
 abbrev pub nodeFive : List ℕ → ValueArgument → ℕ → ℕ → ℕ → List ℕ → Option ℕ
 nodeFive k v st dr now s = failedOfFive k (valueInRange v && (leb st 1 && leb dr 1)) (some now) s
 
-pub insert-or-update-asked : (k : List ℕ) (v : ValueArgument) (st dr now : ℕ) (s : List ℕ) → firstFailed (upToFive (Call.onKey k (KeyCall.insertOrUpdate v st dr now)) s) ≡ nodeFive k v st dr now s
+pub insert-or-update-asked : (k : List ℕ) (v : ValueArgument) (st dr now : ℕ) (hs : Session) (s : List ℕ) → firstFailed (upToFive (Call.onKey k (KeyCall.insertOrUpdate v st dr now hs)) s) ≡ nodeFive k v st dr now s
 unfolding failedOfFive keysFit codesInRange clockFits
-insert-or-update-asked k v st dr now s = rw and-true
+insert-or-update-asked k v st dr now hs s = rw and-true
 
-pub absent-insert-asked : (k : List ℕ) (v : ValueArgument) (st dr now : ℕ) (s : List ℕ) → firstFailed (upToFive (Call.onKey k (KeyCall.absentInsert v st dr now)) s) ≡ nodeFive k v st dr now s
+pub absent-insert-asked : (k : List ℕ) (v : ValueArgument) (st dr now : ℕ) (hs : Session) (s : List ℕ) → firstFailed (upToFive (Call.onKey k (KeyCall.absentInsert v st dr now hs)) s) ≡ nodeFive k v st dr now s
 unfolding failedOfFive keysFit codesInRange clockFits
-absent-insert-asked k v st dr now s = rw and-true
+absent-insert-asked k v st dr now hs s = rw and-true
 
 -- a listing
 

@@ -9,6 +9,7 @@ ghost use Rattle.key.specs.Key.{num};
 ghost use Rattle.node.specs.Node.{argumentOf};
 ghost use Rattle.bucket.specs.Bucket.{bucketOf, Sound};
 ghost use Rattle.on_key.specs.Answers.{Answers, updateAnswer};
+ghost use Rattle.session.specs.Hours.{sessionOf};
 ghost use Rattle.entry.specs.Kind as kind;
 use bucket::EndedPending;
 use bucket::InsertAnswer;
@@ -21,6 +22,7 @@ use node::Node;
 use node::NodeStatus;
 use node::Value;
 use on_key::Start;
+use session::Moment;
 
 // The kind of a key's entry, with its status.
 pub enum EntryKind {
@@ -179,7 +181,7 @@ pub fn pending_update(s: &mut [u8], key: &[u8], state: u8, direction: u8) -> Upd
     }
 }
 
-// Absent: inserts the node into its bucket; the table filter is skipped.
+// Absent: inserts the node into its bucket, while it is open (document 02, slip 8); the table filter is skipped.
 pub fn absent_insert(
     s: &mut [u8],
     key: &[u8],
@@ -187,8 +189,11 @@ pub fn absent_insert(
     state: u8,
     direction: u8,
     time: u64,
+    windows: &[u16],
+    closed: &[u16],
+    moment: Moment,
 ) -> InsertAnswer
-    ensures { λ r. ⌜ Answers (kind.insertAnswer r) (now (s .exit)) (stepBytes (Call.onKey (now (key .entry)) (KeyCall.absentInsert (argumentOf value) state direction time)) (now (s .entry))) ⌝ }
+    ensures { λ r. ⌜ Answers (kind.insertAnswer r) (now (s .exit)) (stepBytes (Call.onKey (now (key .entry)) (KeyCall.absentInsert (argumentOf value) state direction time (sessionOf (now (windows .entry)) (now (closed .entry)) moment))) (now (s .entry))) ⌝ }
 {
     let codes = value.in_range() & ((state <= 1) & (direction <= 1));
     let start = on_key::begin_at(s, key, codes, time);
@@ -211,9 +216,14 @@ pub fn absent_insert(
             let filled = inserted.bucket;
             let result = inserted.result;
             let nothing = EndedPending::Nothing;
-            if !on_key::finish(s, i, nothing, filled) {
+            if !on_key::has_room(s, nothing) {
                 return InsertAnswer::Refused(8);
             }
+            let q = session::asked(windows, closed, moment, false);
+            if q != 0 {
+                return InsertAnswer::Refused(q);
+            }
+            on_key::write_back(s, i, nothing, filled);
             InsertAnswer::Answered(result)
         }
     }

@@ -1,7 +1,7 @@
 -- The query, by the questions, by the key's index, and by what the call does to the key's bucket.
 use Prim.Native.Nat.{ℕ, _+_}
 use native.Mathlib.Nat.{add-zero}
-use mathlib.Core.Path.{_≡_, sym, ap, _∙_, subst}
+use mathlib.Core.Path.{_≡_, refl, sym, ap, _∙_, subst}
 use mathlib.Core.Bool.{Bool, true, false, cond, and-true}
 use mathlib.Core.List.{List, [], _∷_, _++_}
 use mathlib.Core.Option.{Option, none, some}
@@ -26,29 +26,34 @@ use Rattle.on_key.specs.declared.Start.{Start}
 use Rattle.on_key.specs.Answers.{Replies, firstFive, failedOfFive, roomFor}
 use Rattle.on_key.specs.Start.{keyFormed, Located}
 use Rattle.on_key.proofs.Questions.{stricter-fails}
-use Rattle.on_key.proofs.OneKey.{ReadFormed, read-own}
+use Rattle.on_key.proofs.OneKey.{ReadFormed, hours, read-own}
 use Rattle.on_key.proofs.Steps.{begun-at}
 use Rattle.explanation.specs.declared.Why.{Why}
 use Rattle.explanation.specs.Explanation.{whyOf}
 use Rattle.explain.specs.declared.ExplainAnswer.{ExplainAnswer}
 use Rattle.reasons.specs.Reasons.{Tells}
-use Rattle.explain.specs.Calls.{Explains, failedAtOpening, Opened, lastTwo}
+use Rattle.explain.specs.Calls.{Explains, failedAtOpening, Opened, lastAsked}
 
--- the last two questions, in turn
+-- the last questions, in turn
 
-module _ (kind room : Bool) (l out : List ℕ) where
-  pub refused-kind : kind ≡ false → Explains (ExplainAnswer.Refused 7) out (lastTwo kind room l out)
-  unfolding lastTwo
+module _ (kind room : Bool) (hrs : Option ℕ) (l out : List ℕ) where
+  pub refused-kind : kind ≡ false → Explains (ExplainAnswer.Refused 7) out (lastAsked kind room hrs l out)
+  unfolding lastAsked
   refused-kind k = record { answer = rw k; output = rw k }
 
   module _ (k : kind ≡ true) where
-    pub refused-queue : room ≡ false → Explains (ExplainAnswer.Refused 8) out (lastTwo kind room l out)
-    unfolding lastTwo
+    pub refused-queue : room ≡ false → Explains (ExplainAnswer.Refused 8) out (lastAsked kind room hrs l out)
+    unfolding lastAsked
     refused-queue q = record { answer = rw (k, q); output = rw (k, q) }
 
-    pub answered : room ≡ true → {n : ℕ} {out′ : List ℕ} → n ≡ length l → out′ ≡ splice out 0 l → Explains (ExplainAnswer.Answered n) out′ (lastTwo kind room l out)
-    unfolding lastTwo
-    answered q {n} {out′} p w = record { answer = ap (λ (m : ℕ). Reply.Answered m) p ∙ rw (k, q); output = w ∙ rw (k, q) }
+    module _ (q : room ≡ true) where
+      pub refused-hours : (n : ℕ) → hrs ≡ some n → Explains (ExplainAnswer.Refused n) out (lastAsked kind room hrs l out)
+      unfolding lastAsked
+      refused-hours n h = record { answer = rw (k, q, h); output = rw (k, q, h) }
+
+      pub answered : hrs ≡ none → {n : ℕ} {out′ : List ℕ} → n ≡ length l → out′ ≡ splice out 0 l → Explains (ExplainAnswer.Answered n) out′ (lastAsked kind room hrs l out)
+      unfolding lastAsked
+      answered h {n} {out′} p w = record { answer = ap (λ (m : ℕ). Reply.Answered m) p ∙ rw (k, q, h); output = w ∙ rw (k, q, h) }
 
 -- how it starts, by what was asked in turn
 
@@ -76,9 +81,9 @@ pub opened : (s key : List ℕ) (now : Option ℕ) (room : Bool) {codes codes′
 opened s key now room {codes} {codes′} {r} {v} e b f = subst (Opened s key codes′ now room) f (subst (λ (q : Bool). Opened s key q now room r) e b)
 
 -- a reason under another name
-pub as-reason : {r : Reply ℕ} {out′ : List ℕ} (kind room : Bool) (d : Told) (out : List ℕ) {w w′ : Reason} → w ≡ w′
-    → Replies r out′ (lastTwo kind room (line (record { told = d; reason = w })) out) → Replies r out′ (lastTwo kind room (line (record { told = d; reason = w′ })) out)
-as-reason {r} {out′} kind room d out e x = subst (λ (v : Reason). Replies r out′ (lastTwo kind room (line (record { told = d; reason = v })) out)) e x
+pub as-reason : {r : Reply ℕ} {out′ : List ℕ} (kind room : Bool) (hrs : Option ℕ) (d : Told) (out : List ℕ) {w w′ : Reason} → w ≡ w′
+    → Replies r out′ (lastAsked kind room hrs (line (record { told = d; reason = w })) out) → Replies r out′ (lastAsked kind room hrs (line (record { told = d; reason = w′ })) out)
+as-reason {r} {out′} kind room hrs d out e x = subst (λ (v : Reason). Replies r out′ (lastAsked kind room hrs (line (record { told = d; reason = v })) out)) e x
 
 -- a call on one key
 
@@ -128,24 +133,33 @@ module _ (s key : List ℕ) (c : KeyCall) (out : List ℕ) where
     refused-read d = refused (asked-then ∙ rw d)
 
   module _ (h : room ≡ true) (e : failed ≡ none) (f : ReadFormed s key c) where
-    asked-last : explainBytes key c out s ≡ lastTwo (keyArguments c .kind (kindOfKey key t)) (queueFits call t) (line (explanation c key t)) out
-    unfolding explainBytes lastTwo kindFits
+    asked-last : explainBytes key c out s ≡ lastAsked (keyArguments c .kind (kindOfKey key t)) (queueFits call t) (firstFailed (hours s key c)) (line (explanation c key t)) out
+    unfolding explainBytes lastAsked kindFits
     asked-last =
         ap (λ (o : Option ℕ). lineUnlessRefused o (line (explanation c key t)) out)
         (asked-then h e ∙ ap (λ (b : Bool). firstFailed ((2, b) ∷ late call t)) f)
 
+    -- the hours where the key is of the kind that the call needs
+    with-hours : (kind fits : Bool) {hrs hrs′ : Option ℕ} (l : List ℕ) → (kind ≡ true → hrs ≡ hrs′) → lastAsked kind fits hrs l out ≡ lastAsked kind fits hrs′ l out
+    unfolding lastAsked
+    with-hours true fits l n = rw (n refl)
+    with-hours false fits l n = refl
+
     -- by what was asked and explained
-    module _ {kind : Bool} (k : kind ≡ keyArguments c .kind (kindOfKey key t)) {d : Told} {w : Reason} {r : Reply ℕ} {out′ : List ℕ} where
+    module _ {kind : Bool} (k : kind ≡ keyArguments c .kind (kindOfKey key t)) {hrs : Option ℕ} (n : kind ≡ true → hrs ≡ firstFailed (hours s key c))
+        {d : Told} {w : Reason} {r : Reply ℕ} {out′ : List ℕ} where
       ends : {fits : Bool} → fits ≡ queueFits call t → d ≡ told (act call t .answer) → w ≡ reason c key t
-          → Replies r out′ (lastTwo kind fits (line (record { told = d; reason = w })) out) → Replies r out′ (explainBytes key c out s)
+          → Replies r out′ (lastAsked kind fits hrs (line (record { told = d; reason = w })) out) → Replies r out′ (explainBytes key c out s)
       unfolding explanation
       ends {fits} f p q x =
-          let z : lastTwo kind fits (line (record { told = d; reason = w })) out ≡ explainBytes key c out s = rw (k, f, p, q) (sym asked-last) in
+          let l : List ℕ = line (record { told = d; reason = w }) in
+          let y : lastAsked kind fits (firstFailed (hours s key c)) l out ≡ explainBytes key c out s = rw (k, f, p, q) (sym asked-last) in
+          let z = with-hours kind fits l n ∙ y in
           record { answer = x .answer ∙ ap (λ (y : Replied). y .answer) z; output = x .output ∙ ap (λ (y : Replied). y .output) z }
 
       -- the local key
       pub ends-local : indexIn t (number key) ≡ none → d ≡ told (ownAnswer c) → w ≡ Reason.LocalKey
-          → Replies r out′ (lastTwo kind (roomFor s []) (line (record { told = d; reason = w })) out) → Replies r out′ (explainBytes key c out s)
+          → Replies r out′ (lastAsked kind (roomFor s []) hrs (line (record { told = d; reason = w })) out) → Replies r out′ (explainBytes key c out s)
       unfolding queueFits roomFor act reason
       ends-local i p q x =
           let a = ap (onKey t (ownAnswer c) (effect c key t)) (sym i) in
@@ -155,7 +169,7 @@ module _ (s key : List ℕ) (c : KeyCall) (out : List ℕ) where
       -- any other key
       pub ends-at : {i : ℕ} → indexIn t (number key) ≡ some i → {rs : List EndedPending} → rs ≡ effect c key t i (t .buckets i) .records
           → d ≡ told (effect c key t i (t .buckets i) .answer) → w ≡ bucketReason c key t i
-          → Replies r out′ (lastTwo kind (roomFor s rs) (line (record { told = d; reason = w })) out) → Replies r out′ (explainBytes key c out s)
+          → Replies r out′ (lastAsked kind (roomFor s rs) hrs (line (record { told = d; reason = w })) out) → Replies r out′ (explainBytes key c out s)
       unfolding queueFits roomFor act reason
       ends-at {i} j {rs} m p q x =
           let a = ap (onKey t (ownAnswer c) (effect c key t)) (sym j) in

@@ -15,10 +15,11 @@ ghost use Rattle.model.specs.Explain.{explanationRoom, line, explainBytes};
 ghost use Rattle.node.specs.Node.{argumentOf};
 ghost use Rattle.bucket.specs.Bucket.{Sound};
 ghost use Rattle.bucket.specs.Calls.{recordsOf};
-ghost use Rattle.on_key.specs.Answers.{roomFor};
+ghost use Rattle.on_key.specs.Answers.{refusal, roomFor};
+ghost use Rattle.session.specs.Hours.{sessionOf};
 ghost use Rattle.explanation.specs.Explanation.{toldOf, whyOf, TableRead};
 ghost use Rattle.reasons.specs.Reasons.{Tells};
-ghost use Rattle.explain.specs.Calls.{callOf, Explains, Opened, lastTwo};
+ghost use Rattle.explain.specs.Calls.{callOf, Explains, Opened, lastAsked};
 use bucket::EndedPending;
 use bucket::FailureReason;
 use bucket::KBucket;
@@ -29,6 +30,7 @@ use node::Node;
 use node::NodeStatus;
 use node::Value;
 use on_key::Start;
+use session::Moment;
 
 // A call on a peer's key, with its arguments: value, state, direction, time.
 pub enum PeerCall {
@@ -78,25 +80,30 @@ fn begin_at(s: &[u8], key: &[u8], codes: bool, time: u64, room: bool) -> Start
     on_key::located(s, key)
 }
 
-// How an explanation ends: questions 7 and 8, then the line. `kind` is question 7's answer, `applied` the record of the call.
+// How an explanation ends: questions 7 and 8, then 10 and 11, then the line. `kind` is question 7's answer, `applied` the record of the call,
+// `hours` the first of 10 and 11 that fails, or 0.
 fn ended(
     s: &[u8],
     out: &mut [u8],
     kind: bool,
     applied: EndedPending,
+    hours: u8,
     told: Told,
     why: Why,
 ) -> ExplainAnswer
     requires { ⌜ (length (now s) ≡ storageSize) × (headerFormed (now s) ≡ true) × TableRead (now s) why ⌝ }
     requires { ⌜ Sound (why .bucket) ⌝ }
     requires { ⌜ explanationRoom ≤ length (now out) ⌝ }
-    ensures { λ r. ⌜ Explains r (now (out .exit)) (lastTwo kind (roomFor (now (s .entry)) (recordsOf applied)) (line (record { told = toldOf told; reason = whyOf (tableOf (now (s .entry)) .buckets) why })) (now (out .entry))) ⌝ }
+    ensures { λ r. ⌜ Explains r (now (out .exit)) (lastAsked kind (roomFor (now (s .entry)) (recordsOf applied)) (refusal hours) (line (record { told = toldOf told; reason = whyOf (tableOf (now (s .entry)) .buckets) why })) (now (out .entry))) ⌝ }
 {
     if !kind {
         return ExplainAnswer::Refused(7);
     }
     if !on_key::has_room(s, applied) {
         return ExplainAnswer::Refused(8);
+    }
+    if hours != 0 {
+        return ExplainAnswer::Refused(hours);
     }
     let n = explanation::put_line(s, out, told, why);
     ExplainAnswer::Answered(n)
@@ -117,14 +124,14 @@ fn local_why() -> Why
 }
 
 // How the explanation of a call on the local key ends: it looks at no bucket.
-fn ended_local(s: &[u8], out: &mut [u8], kind: bool, told: Told) -> ExplainAnswer
+fn ended_local(s: &[u8], out: &mut [u8], kind: bool, hours: u8, told: Told) -> ExplainAnswer
     requires { ⌜ (length (now s) ≡ storageSize) × (headerFormed (now s) ≡ true) ⌝ }
     requires { ⌜ explanationRoom ≤ length (now out) ⌝ }
-    ensures { λ r. ⌜ Explains r (now (out .exit)) (lastTwo kind (roomFor (now (s .entry)) []) (line (record { told = toldOf told; reason = model.Reason.LocalKey })) (now (out .entry))) ⌝ }
+    ensures { λ r. ⌜ Explains r (now (out .exit)) (lastAsked kind (roomFor (now (s .entry)) []) (refusal hours) (line (record { told = toldOf told; reason = model.Reason.LocalKey })) (now (out .entry))) ⌝ }
 {
     let nothing = EndedPending::Nothing;
     let why = local_why();
-    ended(s, out, kind, nothing, told, why)
+    ended(s, out, kind, nothing, hours, told, why)
 }
 
 // remove.
@@ -137,7 +144,7 @@ pub fn explain_remove(s: &[u8], key: &[u8], time: u64, out: &mut [u8]) -> Explai
         Start::Refused(q) => ExplainAnswer::Refused(q),
         Start::Local => {
             let told = Told::Removed(false);
-            ended_local(s, out, true, told)
+            ended_local(s, out, true, 0, told)
         }
         Start::At(k, i) => {
             let a = on_key::apply_at(s, i, time);
@@ -146,7 +153,7 @@ pub fn explain_remove(s: &[u8], key: &[u8], time: u64, out: &mut [u8]) -> Explai
             let r = b.remove_sound(k, time);
             let told = Told::Removed(r.found);
             let why = reasons::remove_reason(b, k);
-            ended(s, out, true, applied, told, why)
+            ended(s, out, true, applied, 0, told, why)
         }
     }
 }
@@ -169,7 +176,7 @@ pub fn explain_update_node_status(
         Start::Refused(q) => ExplainAnswer::Refused(q),
         Start::Local => {
             let told = Told::NotModified;
-            ended_local(s, out, true, told)
+            ended_local(s, out, true, 0, told)
         }
         Start::At(k, i) => {
             let a = on_key::apply_at(s, i, time);
@@ -183,7 +190,7 @@ pub fn explain_update_node_status(
             let record = on_key::record_of(applied, before, after, k);
             let told = explanation::told_update(result);
             let why = reasons::status_reason(b, k, state, direction);
-            ended(s, out, true, record, told, why)
+            ended(s, out, true, record, 0, told, why)
         }
     }
 }
@@ -206,7 +213,7 @@ pub fn explain_update_node(
         Start::Refused(q) => ExplainAnswer::Refused(q),
         Start::Local => {
             let told = Told::NotModified;
-            ended_local(s, out, true, told)
+            ended_local(s, out, true, 0, told)
         }
         Start::At(k, i) => {
             let filter = table_filter::asked_filter(s, i, k, value);
@@ -225,7 +232,7 @@ pub fn explain_update_node(
             let record = on_key::record_of(applied, before, after, k);
             let told = explanation::told_update(result);
             let why = reasons::update_node_why(b, fails, k, value, state);
-            ended(s, out, true, record, told, why)
+            ended(s, out, true, record, 0, told, why)
         }
     }
 }
@@ -238,9 +245,12 @@ pub fn explain_insert_or_update(
     state: u8,
     direction: u8,
     time: u64,
+    windows: &[u16],
+    closed: &[u16],
+    moment: Moment,
     out: &mut [u8],
 ) -> ExplainAnswer
-    ensures { λ r. ⌜ Explains r (now (out .exit)) (explainBytes (now (key .entry)) (KeyCall.insertOrUpdate (argumentOf value) state direction time) (now (out .entry)) (now (s .entry))) ⌝ }
+    ensures { λ r. ⌜ Explains r (now (out .exit)) (explainBytes (now (key .entry)) (KeyCall.insertOrUpdate (argumentOf value) state direction time (sessionOf (now (windows .entry)) (now (closed .entry)) moment)) (now (out .entry)) (now (s .entry))) ⌝ }
 {
     let codes = value.in_range() & ((state <= 1) & (direction <= 1));
     let room = ROOM <= out.len();
@@ -249,7 +259,8 @@ pub fn explain_insert_or_update(
         Start::Refused(q) => ExplainAnswer::Refused(q),
         Start::Local => {
             let told = Told::Failed(FailureReason::InvalidSelfUpdate);
-            ended_local(s, out, true, told)
+            let hours = session::asked(windows, closed, moment, true);
+            ended_local(s, out, true, hours, told)
         }
         Start::At(k, i) => {
             let filter = table_filter::asked_filter(s, i, k, value);
@@ -272,9 +283,10 @@ pub fn explain_insert_or_update(
             let result = r.result;
             let after = left.pending;
             let record = on_key::record_of(applied, before, after, k);
+            let hours = admission::asked_at(s, i, k, windows, closed, moment);
             let told = explanation::told_insert_or_update(result);
             let why = reasons::insert_or_update_why(b, fails, node);
-            ended(s, out, true, record, told, why)
+            ended(s, out, true, record, hours, told, why)
         }
     }
 }
@@ -296,7 +308,7 @@ pub fn explain_present_update(
         Start::Refused(q) => ExplainAnswer::Refused(q),
         Start::Local => {
             let told = Told::NotModified;
-            ended_local(s, out, false, told)
+            ended_local(s, out, false, 0, told)
         }
         Start::At(k, i) => {
             let stored = buckets::load_bucket(s, i);
@@ -311,7 +323,7 @@ pub fn explain_present_update(
             let record = on_key::record_of(nothing, before, after, k);
             let told = explanation::told_update(result);
             let why = reasons::status_reason(stored, k, state, direction);
-            ended(s, out, present, record, told, why)
+            ended(s, out, present, record, 0, told, why)
         }
     }
 }
@@ -333,7 +345,7 @@ pub fn explain_pending_update(
         Start::Refused(q) => ExplainAnswer::Refused(q),
         Start::Local => {
             let told = Told::NotModified;
-            ended_local(s, out, false, told)
+            ended_local(s, out, false, 0, told)
         }
         Start::At(k, i) => {
             let stored = buckets::load_bucket(s, i);
@@ -342,7 +354,7 @@ pub fn explain_pending_update(
             let told = Told::UpdatedPending;
             let why = reasons::no_reason(stored);
             let nothing = EndedPending::Nothing;
-            ended(s, out, pending, nothing, told, why)
+            ended(s, out, pending, nothing, 0, told, why)
         }
     }
 }
@@ -355,9 +367,12 @@ pub fn explain_absent_insert(
     state: u8,
     direction: u8,
     time: u64,
+    windows: &[u16],
+    closed: &[u16],
+    moment: Moment,
     out: &mut [u8],
 ) -> ExplainAnswer
-    ensures { λ r. ⌜ Explains r (now (out .exit)) (explainBytes (now (key .entry)) (KeyCall.absentInsert (argumentOf value) state direction time) (now (out .entry)) (now (s .entry))) ⌝ }
+    ensures { λ r. ⌜ Explains r (now (out .exit)) (explainBytes (now (key .entry)) (KeyCall.absentInsert (argumentOf value) state direction time (sessionOf (now (windows .entry)) (now (closed .entry)) moment)) (now (out .entry)) (now (s .entry))) ⌝ }
 {
     let codes = value.in_range() & ((state <= 1) & (direction <= 1));
     let room = ROOM <= out.len();
@@ -366,7 +381,7 @@ pub fn explain_absent_insert(
         Start::Refused(q) => ExplainAnswer::Refused(q),
         Start::Local => {
             let told = Told::NotModified;
-            ended_local(s, out, false, told)
+            ended_local(s, out, false, 0, told)
         }
         Start::At(k, i) => {
             let stored = buckets::load_bucket(s, i);
@@ -385,20 +400,40 @@ pub fn explain_absent_insert(
             let after = left.pending;
             let nothing = EndedPending::Nothing;
             let record = on_key::record_of(nothing, before, after, k);
+            let hours = session::asked(windows, closed, moment, !absent);
             let told = explanation::told_insert(result);
             let why = reasons::insert_reason(stored, node);
-            ended(s, out, absent, record, told, why)
+            ended(s, out, absent, record, hours, told, why)
         }
     }
 }
 
-// The line of a call: what it would answer, and why.
-pub fn explain(s: &[u8], key: &[u8], call: PeerCall, out: &mut [u8]) -> ExplainAnswer
-    ensures { λ r. ⌜ Explains r (now (out .exit)) (explainBytes (now (key .entry)) (callOf call) (now (out .entry)) (now (s .entry))) ⌝ }
+// The line of a call: what it would answer, and why. The hours are those of insert_or_update and of Absent's insert, and nothing to the others.
+pub fn explain(
+    s: &[u8],
+    key: &[u8],
+    call: PeerCall,
+    windows: &[u16],
+    closed: &[u16],
+    moment: Moment,
+    out: &mut [u8],
+) -> ExplainAnswer
+    ensures { λ r. ⌜ Explains r (now (out .exit)) (explainBytes (now (key .entry)) (callOf call (sessionOf (now (windows .entry)) (now (closed .entry)) moment)) (now (out .entry)) (now (s .entry))) ⌝ }
 {
     match call {
         PeerCall::InsertOrUpdate(value, state, direction, time) => {
-            explain_insert_or_update(s, key, value, state, direction, time, out)
+            explain_insert_or_update(
+                s,
+                key,
+                value,
+                state,
+                direction,
+                time,
+                windows,
+                closed,
+                moment,
+                out,
+            )
         }
         PeerCall::UpdateNodeStatus(state, direction, time) => {
             explain_update_node_status(s, key, state, direction, time, out)
@@ -414,7 +449,18 @@ pub fn explain(s: &[u8], key: &[u8], call: PeerCall, out: &mut [u8]) -> ExplainA
             explain_pending_update(s, key, state, direction, out)
         }
         PeerCall::AbsentInsert(value, state, direction, time) => {
-            explain_absent_insert(s, key, value, state, direction, time, out)
+            explain_absent_insert(
+                s,
+                key,
+                value,
+                state,
+                direction,
+                time,
+                windows,
+                closed,
+                moment,
+                out,
+            )
         }
     }
 }

@@ -5,6 +5,7 @@ ghost use Rattle.model.specs.Call.{Listing, Call, KeyCall};
 ghost use Rattle.model.specs.Explain.{explainBytes};
 ghost use Rattle.model.specs.StepBytes.{writeBytes};
 ghost use Rattle.node.specs.Node.{argumentOf};
+ghost use Rattle.session.specs.Hours.{sessionOf};
 ghost use Rattle.codes.specs.Exported.{Leaves, Writes, exported, exportedWith, Tells};
 ghost use Rattle.bucket_calls.specs.Calls.{BucketCall, bucketStep, bucketNew};
 ghost use Rattle.kbuckets.specs.Version.{version};
@@ -12,13 +13,14 @@ use codes::Answer;
 use node::NodeStatus;
 use node::Slot;
 use node::Value;
+use session::Moment;
 
 // 0x00MMmmpp: major, minor, patch.
 #[no_mangle]
 pub extern "C" fn kbuckets_version() -> u32
     ensures { λ r. ⌜ r ≡ version ⌝ }
 {
-    0x0000_0600
+    0x0000_0700
 }
 
 // The table.
@@ -99,9 +101,15 @@ pub extern "C" fn kbuckets_insert_or_update(
     state: u8,
     direction: u8,
     time: u64,
+    windows: &[u16],
+    closed: &[u16],
+    year: u16,
+    month: u16,
+    day: u16,
+    minute: u16,
     answer: &mut [u8],
 ) -> u32
-    ensures { λ r. ⌜ Writes r (now (storage .exit)) (now (answer .exit)) (exportedWith (Call.onKey (now (key .entry)) (KeyCall.insertOrUpdate (record { flag = flag; a = a; b = b; c = c; d = d; slot = slot }) state direction time)) (now (answer .entry)) (now (storage .entry))) ⌝ }
+    ensures { λ r. ⌜ Writes r (now (storage .exit)) (now (answer .exit)) (exportedWith (Call.onKey (now (key .entry)) (KeyCall.insertOrUpdate (record { flag = flag; a = a; b = b; c = c; d = d; slot = slot }) state direction time (sessionOf (now (windows .entry)) (now (closed .entry)) (record { year = year; month = month; day = day; minute = minute })))) (now (answer .entry)) (now (storage .entry))) ⌝ }
 {
     let value = Value {
         flag,
@@ -114,7 +122,23 @@ pub extern "C" fn kbuckets_insert_or_update(
     if answer.len() < Answer::BYTES {
         return codes::answers::short_node(storage, key, value, state, direction, time);
     }
-    let updated = update::insert_or_update(storage, key, value, state, direction, time);
+    let moment = Moment {
+        year,
+        month,
+        day,
+        minute,
+    };
+    let updated = update::insert_or_update(
+        storage,
+        key,
+        value,
+        state,
+        direction,
+        time,
+        windows,
+        closed,
+        moment,
+    );
     codes::answers::put_updated(answer, updated)
 }
 
@@ -173,9 +197,15 @@ pub extern "C" fn kbuckets_absent_insert(
     state: u8,
     direction: u8,
     time: u64,
+    windows: &[u16],
+    closed: &[u16],
+    year: u16,
+    month: u16,
+    day: u16,
+    minute: u16,
     answer: &mut [u8],
 ) -> u32
-    ensures { λ r. ⌜ Writes r (now (storage .exit)) (now (answer .exit)) (exportedWith (Call.onKey (now (key .entry)) (KeyCall.absentInsert (record { flag = flag; a = a; b = b; c = c; d = d; slot = slot }) state direction time)) (now (answer .entry)) (now (storage .entry))) ⌝ }
+    ensures { λ r. ⌜ Writes r (now (storage .exit)) (now (answer .exit)) (exportedWith (Call.onKey (now (key .entry)) (KeyCall.absentInsert (record { flag = flag; a = a; b = b; c = c; d = d; slot = slot }) state direction time (sessionOf (now (windows .entry)) (now (closed .entry)) (record { year = year; month = month; day = day; minute = minute })))) (now (answer .entry)) (now (storage .entry))) ⌝ }
 {
     let value = Value {
         flag,
@@ -188,7 +218,23 @@ pub extern "C" fn kbuckets_absent_insert(
     if answer.len() < Answer::BYTES {
         return codes::answers::short_node(storage, key, value, state, direction, time);
     }
-    let inserted = entry::absent_insert(storage, key, value, state, direction, time);
+    let moment = Moment {
+        year,
+        month,
+        day,
+        minute,
+    };
+    let inserted = entry::absent_insert(
+        storage,
+        key,
+        value,
+        state,
+        direction,
+        time,
+        windows,
+        closed,
+        moment,
+    );
     codes::answers::put_inserted(answer, inserted)
 }
 
@@ -341,9 +387,15 @@ pub extern "C" fn kbuckets_explain_insert_or_update(
     state: u8,
     direction: u8,
     time: u64,
+    windows: &[u16],
+    closed: &[u16],
+    year: u16,
+    month: u16,
+    day: u16,
+    minute: u16,
     output: &mut [u8],
 ) -> u32
-    ensures { λ r. ⌜ Tells r (now (output .exit)) (explainBytes (now (key .entry)) (KeyCall.insertOrUpdate (record { flag = flag; a = a; b = b; c = c; d = d; slot = slot }) state direction time) (now (output .entry)) (now (storage .entry))) ⌝ }
+    ensures { λ r. ⌜ Tells r (now (output .exit)) (explainBytes (now (key .entry)) (KeyCall.insertOrUpdate (record { flag = flag; a = a; b = b; c = c; d = d; slot = slot }) state direction time (sessionOf (now (windows .entry)) (now (closed .entry)) (record { year = year; month = month; day = day; minute = minute }))) (now (output .entry)) (now (storage .entry))) ⌝ }
 {
     let value = Value {
         flag,
@@ -353,6 +405,12 @@ pub extern "C" fn kbuckets_explain_insert_or_update(
         d,
         slot,
     };
+    let moment = Moment {
+        year,
+        month,
+        day,
+        minute,
+    };
     let answer = explain::explain_insert_or_update(
         storage,
         key,
@@ -360,6 +418,9 @@ pub extern "C" fn kbuckets_explain_insert_or_update(
         state,
         direction,
         time,
+        windows,
+        closed,
+        moment,
         output,
     );
     codes::answers::explain_code(answer)
@@ -419,9 +480,15 @@ pub extern "C" fn kbuckets_explain_absent_insert(
     state: u8,
     direction: u8,
     time: u64,
+    windows: &[u16],
+    closed: &[u16],
+    year: u16,
+    month: u16,
+    day: u16,
+    minute: u16,
     output: &mut [u8],
 ) -> u32
-    ensures { λ r. ⌜ Tells r (now (output .exit)) (explainBytes (now (key .entry)) (KeyCall.absentInsert (record { flag = flag; a = a; b = b; c = c; d = d; slot = slot }) state direction time) (now (output .entry)) (now (storage .entry))) ⌝ }
+    ensures { λ r. ⌜ Tells r (now (output .exit)) (explainBytes (now (key .entry)) (KeyCall.absentInsert (record { flag = flag; a = a; b = b; c = c; d = d; slot = slot }) state direction time (sessionOf (now (windows .entry)) (now (closed .entry)) (record { year = year; month = month; day = day; minute = minute }))) (now (output .entry)) (now (storage .entry))) ⌝ }
 {
     let value = Value {
         flag,
@@ -431,6 +498,12 @@ pub extern "C" fn kbuckets_explain_absent_insert(
         d,
         slot,
     };
+    let moment = Moment {
+        year,
+        month,
+        day,
+        minute,
+    };
     let answer = explain::explain_absent_insert(
         storage,
         key,
@@ -438,6 +511,9 @@ pub extern "C" fn kbuckets_explain_absent_insert(
         state,
         direction,
         time,
+        windows,
+        closed,
+        moment,
         output,
     );
     codes::answers::explain_code(answer)

@@ -75,13 +75,13 @@ effect-good (KeyCall.updateNodeStatus st dr now) k t i b g =
     updateStatus-formed (t .settings .bucket) (number k) (isOne st) (optional dr) _ (applyPending-formed (t .settings .bucket) now b g)
 effect-good (KeyCall.updateNode v st now) k t i b g =
     update-good (t .settings .bucket) (failsTableFilter t i (number k) (valueOf v)) now (number k) (valueOf v) (optional st) _ (applyPending-formed (t .settings .bucket) now b g)
-effect-good (KeyCall.insertOrUpdate v st dr now) k t i b g =
+effect-good (KeyCall.insertOrUpdate v st dr now hs) k t i b g =
     insert-good (t .settings .bucket) (failsTableFilter t i (number k) (valueOf v)) now (nodeOf k v st dr) _ (applyPending-formed (t .settings .bucket) now b g)
 effect-good (KeyCall.remove now) k t i b g = remove-formed (t .settings .bucket) now (number k) _ (applyPending-formed (t .settings .bucket) now b g)
 effect-good (KeyCall.entry now) k t i b g = applyPending-formed (t .settings .bucket) now b g
 effect-good (KeyCall.presentUpdate st dr) k t i b g = updateStatus-formed (t .settings .bucket) (number k) (isOne st) (optional dr) b g
 effect-good (KeyCall.pendingUpdate st dr) k t i b g = updatePending-formed (t .settings .bucket .maxIncoming) (isOne st) (isOne dr) b g
-effect-good (KeyCall.absentInsert v st dr now) k t i b g = insert-formed (t .settings .bucket) now (nodeOf k v st dr) b g
+effect-good (KeyCall.absentInsert v st dr now hs) k t i b g = insert-formed (t .settings .bucket) now (nodeOf k v st dr) b g
 
 -- the buckets named are well formed
 abbrev GoodBuckets : Table → List ℕ → Type 0

@@ -267,7 +267,7 @@ module _ (t : Table) (fits : Fits t) where
   number-at (KeyCall.updateNode v st now) k i =
       cases (Names (t .settings .bucket .maxIncoming)) (failsTableFilter t i (number k) (valueOf v)) (λ e. table-number t i (number k) (valueOf v) e)
       (λ _. update-node-number (t .settings .bucket) (number k) (valueOf v) (optional st) (applied now t i) (applied-formed now i))
-  number-at (KeyCall.insertOrUpdate v st dr now) k i =
+  number-at (KeyCall.insertOrUpdate v st dr now hs) k i =
       cases (Names (t .settings .bucket .maxIncoming)) (failsTableFilter t i (number k) (valueOf v)) (λ e. table-number t i (number k) (valueOf v) e)
       (λ _. insert-or-update-number (t .settings .bucket) (nodeOf k v st dr) (applied now t i) (applied-formed now i))
   number-at (KeyCall.remove now) k i = remove-number (t .settings .bucket) (number k) (applied now t i)
@@ -275,7 +275,7 @@ module _ (t : Table) (fits : Fits t) where
   number-at (KeyCall.presentUpdate st dr) k i =
       status-number (t .settings .bucket) (number k) (isOne st) (optional dr) (t .buckets i) (fits .well-formed i .formed)
   number-at (KeyCall.pendingUpdate st dr) k i = tt
-  number-at (KeyCall.absentInsert v st dr now) k i =
+  number-at (KeyCall.absentInsert v st dr now hs) k i =
       insert-number (t .settings .bucket) (nodeOf k v st dr) (t .buckets i) (fits .well-formed i .formed)
 
   number-of : (c : KeyCall) (k : List ℕ) (o : Option ℕ) → Names (t .settings .bucket .maxIncoming) (keyReason (bucketReason c k t) o)

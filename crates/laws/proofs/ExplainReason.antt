@@ -358,12 +358,12 @@ remove-fits s now k b = split (holds k b) (λ e. rw e) (λ e. rw e)
 own-fits : (c : KeyCall) → ownTold (told (ownAnswer c)) ≡ true
 own-fits (KeyCall.updateNodeStatus st dr now) = refl
 own-fits (KeyCall.updateNode v st now) = refl
-own-fits (KeyCall.insertOrUpdate v st dr now) = refl
+own-fits (KeyCall.insertOrUpdate v st dr now hs) = refl
 own-fits (KeyCall.remove now) = refl
 own-fits (KeyCall.entry now) = refl
 own-fits (KeyCall.presentUpdate st dr) = refl
 own-fits (KeyCall.pendingUpdate st dr) = refl
-own-fits (KeyCall.absentInsert v st dr now) = refl
+own-fits (KeyCall.absentInsert v st dr now hs) = refl
 
 on-index : (c : KeyCall) (k : List ℕ) (t : Table) (o : Option ℕ) → keyArguments c .kind (kindIn t (number k) o) ≡ true
     → keyFits o (told (onKey t (ownAnswer c) (effect c k t) o .answer)) (keyReason (bucketReason c k t) o) ≡ true
@@ -371,13 +371,13 @@ on-index c k t none h = own-fits c
 on-index (KeyCall.updateNodeStatus st dr now) k t (some i) h = status-fits (t .settings .bucket) (number k) (isOne st) (optional dr) (applied now t i)
 on-index (KeyCall.updateNode v st now) k t (some i) h =
     update-node-fits (t .settings .bucket) (failsTableFilter t i (number k) (valueOf v)) now (number k) (valueOf v) (optional st) (applied now t i) (t .buckets)
-on-index (KeyCall.insertOrUpdate v st dr now) k t (some i) h =
+on-index (KeyCall.insertOrUpdate v st dr now hs) k t (some i) h =
     insert-or-update-fits (t .settings .bucket) (failsTableFilter t i (number k) (valueOf v)) now (nodeOf k v st dr) (applied now t i) (t .buckets)
 on-index (KeyCall.remove now) k t (some i) h = remove-fits (t .settings .bucket) now (number k) (applied now t i)
 on-index (KeyCall.entry now) k t (some i) h = refl
 on-index (KeyCall.presentUpdate st dr) k t (some i) h = status-fits (t .settings .bucket) (number k) (isOne st) (optional dr) (t .buckets i)
 on-index (KeyCall.pendingUpdate st dr) k t (some i) h = refl
-on-index (KeyCall.absentInsert v st dr now) k t (some i) h =
+on-index (KeyCall.absentInsert v st dr now hs) k t (some i) h =
     insert-fits (t .settings .bucket) now (nodeOf k v st dr) (t .buckets i) (absent-not-held (number k) (t .buckets i) h)
 
 -- 02: the reason of a call whose key is of the kind that it needs stands with its answer, on every table

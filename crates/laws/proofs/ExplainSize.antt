@@ -213,12 +213,12 @@ insert-or-update-told s false now n b e =
 own-told : (c : KeyCall) → ToldFit (told (ownAnswer c))
 own-told (KeyCall.updateNodeStatus st dr now) = tt
 own-told (KeyCall.updateNode v st now) = tt
-own-told (KeyCall.insertOrUpdate v st dr now) = tt
+own-told (KeyCall.insertOrUpdate v st dr now hs) = tt
 own-told (KeyCall.remove now) = tt
 own-told (KeyCall.entry now) = tt
 own-told (KeyCall.presentUpdate st dr) = tt
 own-told (KeyCall.pendingUpdate st dr) = tt
-own-told (KeyCall.absentInsert v st dr now) = tt
+own-told (KeyCall.absentInsert v st dr now hs) = tt
 
 module _ (t : Table) (fits : Fits t) where
   stored-keys : (i : ℕ) → KeysFit (t .buckets i)
@@ -238,7 +238,7 @@ module _ (t : Table) (fits : Fits t) where
   reason-at (KeyCall.updateNode v st now) k i =
       cases Fit (failsTableFilter t i (number k) (valueOf v)) (λ _. table-fits (number k) (valueOf v))
       (λ _. update-fits (t .settings .bucket) (number k) (valueOf v) (optional st) (applied now t i) (applied-keys now i))
-  reason-at (KeyCall.insertOrUpdate v st dr now) k i =
+  reason-at (KeyCall.insertOrUpdate v st dr now hs) k i =
       cases Fit (failsTableFilter t i (number k) (valueOf v)) (λ _. table-fits (number k) (valueOf v))
       (λ _. insert-or-update-fits (t .settings .bucket) (nodeOf k v st dr) (applied now t i) (applied-keys now i))
   reason-at (KeyCall.remove now) k i = remove-fits (t .settings .bucket) (number k) (applied now t i)
@@ -246,20 +246,20 @@ module _ (t : Table) (fits : Fits t) where
   reason-at (KeyCall.presentUpdate st dr) k i =
       status-fits (t .settings .bucket) (number k) (isOne st) (optional dr) (t .buckets i) (stored-keys i)
   reason-at (KeyCall.pendingUpdate st dr) k i = tt
-  reason-at (KeyCall.absentInsert v st dr now) k i = insert-fits (t .settings .bucket) (nodeOf k v st dr) (t .buckets i) (stored-keys i)
+  reason-at (KeyCall.absentInsert v st dr now hs) k i = insert-fits (t .settings .bucket) (nodeOf k v st dr) (t .buckets i) (stored-keys i)
 
   told-at : (c : KeyCall) (k : List ℕ) (i : ℕ) → ToldFit (told (effect c k t i (t .buckets i) .answer))
   told-at (KeyCall.updateNodeStatus st dr now) k i =
       update-told (updateStatus (t .settings .bucket) (number k) (isOne st) (optional dr) (applied now t i) .0)
   told-at (KeyCall.updateNode v st now) k i =
       update-node-told (t .settings .bucket) (failsTableFilter t i (number k) (valueOf v)) now (number k) (valueOf v) (optional st) (applied now t i)
-  told-at (KeyCall.insertOrUpdate v st dr now) k i =
+  told-at (KeyCall.insertOrUpdate v st dr now hs) k i =
       insert-or-update-told (t .settings .bucket) (failsTableFilter t i (number k) (valueOf v)) now (nodeOf k v st dr) (applied now t i) (applied-keys now i)
   told-at (KeyCall.remove now) k i = tt
   told-at (KeyCall.entry now) k i = tt
   told-at (KeyCall.presentUpdate st dr) k i = update-told (updateStatus (t .settings .bucket) (number k) (isOne st) (optional dr) (t .buckets i) .0)
   told-at (KeyCall.pendingUpdate st dr) k i = tt
-  told-at (KeyCall.absentInsert v st dr now) k i = insert-told (t .settings .bucket) now (nodeOf k v st dr) (t .buckets i) (stored-keys i .held)
+  told-at (KeyCall.absentInsert v st dr now hs) k i = insert-told (t .settings .bucket) now (nodeOf k v st dr) (t .buckets i) (stored-keys i .held)
 
   fits-of : (c : KeyCall) (k : List ℕ) (o : Option ℕ)
       → FitsExplanation (record { told = told (onKey t (ownAnswer c) (effect c k t) o .answer); reason = keyReason (bucketReason c k t) o })

@@ -24,12 +24,12 @@ use Rattle.laws.proofs.Questions.{accepted-bytes}
 abbrev pub isExplained : KeyCall → Bool
 isExplained (KeyCall.updateNodeStatus st dr now) = true
 isExplained (KeyCall.updateNode v st now) = true
-isExplained (KeyCall.insertOrUpdate v st dr now) = true
+isExplained (KeyCall.insertOrUpdate v st dr now hs) = true
 isExplained (KeyCall.remove now) = true
 isExplained (KeyCall.entry now) = false
 isExplained (KeyCall.presentUpdate st dr) = true
 isExplained (KeyCall.pendingUpdate st dr) = true
-isExplained (KeyCall.absentInsert v st dr now) = true
+isExplained (KeyCall.absentInsert v st dr now hs) = true
 
 -- The answer of each kind that is told so; a word that the kind lacks is never read.
 
@@ -105,12 +105,12 @@ asRemove (Told.Removed r) = r
 abbrev pub answerTold : KeyCall → Told → Answer
 answerTold (KeyCall.updateNodeStatus st dr now) w = Answer.Update (asUpdate w)
 answerTold (KeyCall.updateNode v st now) w = Answer.Update (asUpdate w)
-answerTold (KeyCall.insertOrUpdate v st dr now) w = Answer.InsertOrUpdate (asInsertOrUpdate w)
+answerTold (KeyCall.insertOrUpdate v st dr now hs) w = Answer.InsertOrUpdate (asInsertOrUpdate w)
 answerTold (KeyCall.remove now) w = Answer.Remove (asRemove w)
 answerTold (KeyCall.entry now) w = Answer.New
 answerTold (KeyCall.presentUpdate st dr) w = Answer.Update (asUpdate w)
 answerTold (KeyCall.pendingUpdate st dr) w = Answer.Update (asUpdate w)
-answerTold (KeyCall.absentInsert v st dr now) w = Answer.Insert (asInsert w)
+answerTold (KeyCall.absentInsert v st dr now hs) w = Answer.Insert (asInsert w)
 
 abbrev Back : KeyCall → Answer → Type 0
 Back c a = answerTold c (told a) ≡ a
@@ -172,23 +172,23 @@ on-index : (c : KeyCall) (k : List ℕ) (t : Table) (o : Option ℕ) → isExpla
     → Back c (onKey t (ownAnswer c) (effect c k t) o .answer)
 on-index (KeyCall.updateNodeStatus st dr now) k t none x h = refl
 on-index (KeyCall.updateNode v st now) k t none x h = refl
-on-index (KeyCall.insertOrUpdate v st dr now) k t none x h = refl
+on-index (KeyCall.insertOrUpdate v st dr now hs) k t none x h = refl
 on-index (KeyCall.remove now) k t none x h = refl
 on-index (KeyCall.entry now) k t o x h = clash x refl
 on-index (KeyCall.presentUpdate st dr) k t none x h = clash h refl
 on-index (KeyCall.pendingUpdate st dr) k t none x h = clash h refl
-on-index (KeyCall.absentInsert v st dr now) k t none x h = clash h refl
+on-index (KeyCall.absentInsert v st dr now hs) k t none x h = clash h refl
 on-index (KeyCall.updateNodeStatus st dr now) k t (some i) x h =
     ap Answer.Update (update-back (updateStatus (t .settings .bucket) (number k) (isOne st) (optional dr) (applied now t i) .0))
 on-index (KeyCall.updateNode v st now) k t (some i) x h =
     update-node-back (t .settings .bucket) (failsTableFilter t i (number k) (valueOf v)) now (number k) (valueOf v) (optional st) (applied now t i)
-on-index (KeyCall.insertOrUpdate v st dr now) k t (some i) x h =
+on-index (KeyCall.insertOrUpdate v st dr now hs) k t (some i) x h =
     insert-or-update-in-back (t .settings .bucket) (failsTableFilter t i (number k) (valueOf v)) now (nodeOf k v st dr) (applied now t i)
 on-index (KeyCall.remove now) k t (some i) x h = refl
 on-index (KeyCall.presentUpdate st dr) k t (some i) x h =
     ap Answer.Update (update-back (updateStatus (t .settings .bucket) (number k) (isOne st) (optional dr) (t .buckets i) .0))
 on-index (KeyCall.pendingUpdate st dr) k t (some i) x h = refl
-on-index (KeyCall.absentInsert v st dr now) k t (some i) x h =
+on-index (KeyCall.absentInsert v st dr now hs) k t (some i) x h =
     ap Answer.Insert (insert-back (insert (t .settings .bucket) now (nodeOf k v st dr) (t .buckets i) .0))
 
 -- what a call answers is what its words say

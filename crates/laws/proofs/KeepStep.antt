@@ -226,7 +226,7 @@ effect-fits (KeyCall.updateNode v st now) k t i b c e d q h =
       updateNodeIn-at (t .settings) i (failsTableFilter t i (number k) (valueOf v)) now (number k) (valueOf v) (optional st) _ (value-fits v (c .1)) w,
       updateNode-records (t .settings) i (failsTableFilter t i (number k) (valueOf v)) (number k) (valueOf v) (optional st) _ (value-fits v (c .1)) w,
     ))
-effect-fits (KeyCall.insertOrUpdate v st dr now) k t i b c e d q h =
+effect-fits (KeyCall.insertOrUpdate v st dr now hs) k t i b c e d q h =
     after-applying _ (t .settings) i now b h
     (λ w. (
       insertOrUpdateIn-at (t .settings) i (failsTableFilter t i (number k) (valueOf v)) now (nodeOf k v st dr) _
@@ -237,7 +237,7 @@ effect-fits (KeyCall.remove now) k t i b c e d q h = after-applying _ (t .settin
 effect-fits (KeyCall.entry now) k t i b c e d q h = after-applying _ (t .settings) i now b h (λ w. (w, tt))
 effect-fits (KeyCall.presentUpdate st dr) k t i b c e d q h = (status-at (t .settings) i (number k) (isOne st) (optional dr) b h, statusEndings-fit (number k) (isOne st) b (h .fits))
 effect-fits (KeyCall.pendingUpdate st dr) k t i b c e d q h = (pending-at (t .settings) i (isOne st) (isOne dr) b h, tt)
-effect-fits (KeyCall.absentInsert v st dr now) k t i b c e d q h = (
+effect-fits (KeyCall.absentInsert v st dr now hs) k t i b c e d q h = (
   insert-at (t .settings) i now (nodeOf k v st dr) b (node-fits k v st dr (c .0) (c .1) (and-left (eqb (length k) keySize) true e)) q
       (deadline-fits now (t .settings .bucket .pendingTimeout) d) h,
   insertEndings-fit (nodeOf k v st dr) b (insert (t .settings .bucket) now (nodeOf k v st dr) b .0) (h .fits),

@@ -11,9 +11,9 @@ use Rattle.model.specs.Value.{Value}
 use Rattle.model.specs.Node.{Node}
 use Rattle.model.specs.Filter.{ipFilterFails, maxNodesPerSubnetTable}
 use Rattle.model.specs.Bucket.{Bucket, nodes, get, omit, applyPending}
-use Rattle.model.specs.Table.{Table, Effect, numBuckets, afterApplying, heldNodes, isDuplicate, filterRuns, otherNodes, failsTableFilter, updateNodeIn, updateNodeEndings, insertOrUpdateIn, insertOrUpdateEndings, kindOf, kindIn, indexIn}
+use Rattle.model.specs.Table.{Table, EntryKind, Effect, numBuckets, afterApplying, heldNodes, isDuplicate, filterRuns, otherNodes, failsTableFilter, updateNodeIn, updateNodeEndings, insertOrUpdateIn, insertOrUpdateEndings, kindOf, kindIn, indexIn}
 use Rattle.model.specs.Call.{Call, KeyCall, isOne, optional, valueOf}
-use Rattle.model.specs.Question.{kindFits, keyArguments}
+use Rattle.model.specs.Question.{isAbsent, keyArguments, kindFits, admitsIn, admitted}
 use Rattle.model.specs.Step.{Outcome, onKey, nodeOf, ownAnswer, effect, act}
 use Rattle.model.specs.StepBytes.{everyBucket, filtered, runsFilter, keyReads, reads}
 use Rattle.model.specs.Fits.{All}
@@ -88,7 +88,7 @@ module _ (t : Table) (bs : ℕ → Bucket) where
       let s = t .settings .bucket in
       ap (λ (f : Bool). afterApplying s now (updateNodeEndings s f (number k) (valueOf v) (optional st)) (updateNodeIn s f now (number k) (valueOf v) (optional st)) b)
       (filter-same i (number k) (valueOf v) e h)
-  effect-same (KeyCall.insertOrUpdate v st dr now) k i b e h =
+  effect-same (KeyCall.insertOrUpdate v st dr now hs) k i b e h =
       let s = t .settings .bucket in
       ap (λ (f : Bool). afterApplying s now (insertOrUpdateEndings s f now (nodeOf k v st dr)) (insertOrUpdateIn s f now (nodeOf k v st dr)) b)
       (filter-same i (number k) (valueOf v) e h)
@@ -96,7 +96,7 @@ module _ (t : Table) (bs : ℕ → Bucket) where
   effect-same (KeyCall.entry now) k i b e h = refl
   effect-same (KeyCall.presentUpdate st dr) k i b e h = refl
   effect-same (KeyCall.pendingUpdate st dr) k i b e h = refl
-  effect-same (KeyCall.absentInsert v st dr now) k i b e h = refl
+  effect-same (KeyCall.absentInsert v st dr now hs) k i b e h = refl
 
   filter-reason : (k : ℕ) (v : Value) → SameAll → tableFilterReason k v bs ≡ tableFilterReason k v (t .buckets)
   filter-reason k v g = ap (λ (ns : List Node). Reason.TableFilter (filterKeys maxNodesPerSubnetTable v (omit k ns))) (held-same numBuckets bs (t .buckets) g)
@@ -108,7 +108,7 @@ module _ (t : Table) (bs : ℕ → Bucket) where
       chosen (failsTableFilter u i (number k) (valueOf v)) (failsTableFilter t i (number k) (valueOf v)) _ _ _ _ (filter-same i (number k) (valueOf v) e h)
       (λ f. filter-reason (number k) (valueOf v) (h (fails-runs t i (number k) (valueOf v) f)))
       (ap (λ (b : Bucket). updateNodeReason (t .settings .bucket) (number k) (valueOf v) (optional st) (applyPending (t .settings .bucket) now b .0)) e)
-  reason-at (KeyCall.insertOrUpdate v st dr now) k i e h =
+  reason-at (KeyCall.insertOrUpdate v st dr now hs) k i e h =
       chosen (failsTableFilter u i (number k) (valueOf v)) (failsTableFilter t i (number k) (valueOf v)) _ _ _ _ (filter-same i (number k) (valueOf v) e h)
       (λ f. filter-reason (number k) (valueOf v) (h (fails-runs t i (number k) (valueOf v) f)))
       (ap (λ (b : Bucket). insertOrUpdateReason (t .settings .bucket) (nodeOf k v st dr) (applyPending (t .settings .bucket) now b .0)) e)
@@ -116,7 +116,7 @@ module _ (t : Table) (bs : ℕ → Bucket) where
   reason-at (KeyCall.entry now) k i e h = refl
   reason-at (KeyCall.presentUpdate st dr) k i e h = ap (statusReason (t .settings .bucket) (number k) (isOne st) (optional dr)) e
   reason-at (KeyCall.pendingUpdate st dr) k i e h = refl
-  reason-at (KeyCall.absentInsert v st dr now) k i e h = ap (insertReason (t .settings .bucket) (nodeOf k v st dr)) e
+  reason-at (KeyCall.absentInsert v st dr now hs) k i e h = ap (insertReason (t .settings .bucket) (nodeOf k v st dr)) e
 
   -- of the local key nothing is read
   module _ (c : KeyCall) (k : List ℕ) where
@@ -165,6 +165,9 @@ module _ (t : Table) (bs : ℕ → Bucket) where
       pub key-kind-same : kindFits (Call.onKey k c) u ≡ kindFits (Call.onKey k c) t
       unfolding kindFits
       key-kind-same = ap (keyArguments c .kind) (kind-of (indexIn t (number k)) index a)
+
+      pub key-admitted-same : admitted (Call.onKey k c) u ≡ admitted (Call.onKey k c) t
+      key-admitted-same = ap (λ (x : EntryKind). admitsIn (keyArguments c .hours) (not (isAbsent x))) (kind-of (indexIn t (number k)) index a)
 
       pub key-act-same : Alike (act (Call.onKey k c) u) (act (Call.onKey k c) t)
       unfolding act

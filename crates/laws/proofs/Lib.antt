@@ -1,6 +1,7 @@
 -- Laws of the definitions of `model`.
 pub mod Tests
 pub mod Lists
+pub mod Calendar
 pub mod All
 pub mod Join
 pub mod Parts
@@ -46,6 +47,7 @@ pub mod ListReads
 pub mod Only
 pub mod Elsewhere
 pub mod ReadsOnly
+pub mod Hours
 pub mod Restore
 pub mod TableStep
 pub mod SavedSteps

@@ -11,7 +11,7 @@ use Rattle.model.specs.Base.{isSome, given}
 use Rattle.model.specs.Table.{Table}
 use Rattle.model.specs.Sizes.{storageSize}
 use Rattle.model.specs.Call.{Call}
-use Rattle.model.specs.Question.{firstFailed, withRoom, keysFit, codesInRange, clockFits, outputFits, kindFits}
+use Rattle.model.specs.Question.{firstFailed, withRoom, keysFit, codesInRange, clockFits, outputFits, kindFits, hoursInRange, admitted}
 use Rattle.model.specs.Step.{queueFits, bytesFit, early, late, questions}
 use Rattle.model.specs.Layout.{tableOf}
 use Rattle.model.specs.Formed.{bucketsFormed}
@@ -73,6 +73,8 @@ pub record Accepted (c : Call) (t : Table) : Type 0 where
   pub kind : kindFits c t ≡ true
   pub queue : queueFits c t ≡ true
   pub bytes : bytesFit c t ≡ true
+  pub hours : hoursInRange c ≡ true
+  pub admits : admitted c t ≡ true
 
 pub accepted : (c : Call) (t : Table) → firstFailed (questions c t) ≡ none → Accepted c t
 accepted c t e =
@@ -80,10 +82,25 @@ accepted c t e =
     let q4 = passed 4 (codesInRange c) ((5, clockFits c t) ∷ (6, outputFits c) ∷ late c t) (q3 .1) in
     let q5 = passed 5 (clockFits c t) ((6, outputFits c) ∷ late c t) (q4 .1) in
     let q6 = passed 6 (outputFits c) (late c t) (q5 .1) in
-    let q7 = passed 7 (kindFits c t) ((8, queueFits c t) ∷ (9, bytesFit c t) ∷ []) (q6 .1) in
-    let q8 = passed 8 (queueFits c t) ((9, bytesFit c t) ∷ []) (q7 .1) in
-    let q9 = passed 9 (bytesFit c t) [] (q8 .1) in
-    record { keys = q3 .0; codes = q4 .0; clock = q5 .0; output = q6 .0; kind = q7 .0; queue = q8 .0; bytes = q9 .0 }
+    let q7 = passed 7 (kindFits c t) ((8, queueFits c t) ∷ (9, bytesFit c t) ∷ hours) (q6 .1) in
+    let q8 = passed 8 (queueFits c t) ((9, bytesFit c t) ∷ hours) (q7 .1) in
+    let q9 = passed 9 (bytesFit c t) hours (q8 .1) in
+    let q10 = passed 10 (hoursInRange c) ((11, admitted c t) ∷ []) (q9 .1) in
+    let q11 = passed 11 (admitted c t) [] (q10 .1) in
+    record {
+      keys = q3 .0;
+      codes = q4 .0;
+      clock = q5 .0;
+      output = q6 .0;
+      kind = q7 .0;
+      queue = q8 .0;
+      bytes = q9 .0;
+      hours = q10 .0;
+      admits = q11 .0;
+    }
+  where
+    hours : List (ℕ × Bool)
+    hours = (10, hoursInRange c) ∷ (11, admitted c t) ∷ []
 
 -- the same, on bytes
 pub record AcceptedBytes (c : Call) (s : List ℕ) : Type 0 where

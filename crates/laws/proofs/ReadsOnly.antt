@@ -18,7 +18,7 @@ use Rattle.model.specs.Table.{Settings, Table, numBuckets, maxRecords}
 use Rattle.model.specs.Sizes.{keySize, timeSize, recordSize, timeoutAt, maxIncomingAt, tableFilterAt, bucketFilterAt, recordCountAt, paddingAt, paddingSize, recordAt, headerSize, storageSize}
 use Rattle.model.specs.Call.{Call, KeyCall}
 use Rattle.model.specs.Listing.{Item}
-use Rattle.model.specs.Question.{arguments, firstFailed, withRoom, clockFits, kindFits}
+use Rattle.model.specs.Question.{arguments, firstFailed, withRoom, clockFits, kindFits, hoursInRange, admitted}
 use Rattle.model.specs.Saved.{holdsNothing, loadFits}
 use Rattle.model.specs.Step.{takeOldest, act, queueFits, early, bytesFit, late}
 use Rattle.model.specs.Layout.{recordIn, bucketIn, settingsIn, recordPart, bucketPart, tableOf}
@@ -33,7 +33,7 @@ use Rattle.laws.proofs.All.{all-map}
 use Rattle.laws.proofs.HeaderBack.{checked-header}
 use Rattle.laws.proofs.Touched.{every-bucket}
 use Rattle.laws.proofs.ReadBack.{formedBy, formed-by}
-use Rattle.laws.proofs.KeyReads.{withBuckets, Alike, SameBucket, key-reads-same, key-kind-same, key-act-same, explanation-same}
+use Rattle.laws.proofs.KeyReads.{withBuckets, Alike, SameBucket, key-reads-same, key-kind-same, key-admitted-same, key-act-same, explanation-same}
 use Rattle.laws.proofs.ListReads.{applies-same, list-act-same}
 
 -- ---- every call, on a table
@@ -75,6 +75,13 @@ module _ (t : Table) (bs : ℕ → Bucket) where
   kind-same Call.takeAppliedPending h = refl
   kind-same (Call.read x) h = refl
 
+  admitted-same : (c : Call) → All (SameBucket t bs) (reads c t) → admitted c u ≡ admitted c t
+  admitted-same (Call.new k timeout m tf bf) h = refl
+  admitted-same (Call.onKey k c) h = key-admitted-same t bs c k h
+  admitted-same (Call.list l n now out) h = refl
+  admitted-same Call.takeAppliedPending h = refl
+  admitted-same (Call.read x) h = refl
+
   room-same : (c : Call) → All (SameBucket t bs) (reads c t) → queueFits c u ≡ queueFits c t
   unfolding queueFits
   room-same c h = ap (λ (q : List EndedPending). leb (length q) maxRecords) (act-same c h .queue)
@@ -91,7 +98,7 @@ module _ (t : Table) (bs : ℕ → Bucket) where
   early-same c = refl
 
   late-same : (c : Call) → All (SameBucket t bs) (reads c t) → late c u ≡ late c t
-  late-same c h = λ x. (7, kind-same c h x) ∷ (8, room-same c h x) ∷ (9, bytes-same c h x) ∷ []
+  late-same c h = λ x. (7, kind-same c h x) ∷ (8, room-same c h x) ∷ (9, bytes-same c h x) ∷ (10, hoursInRange c) ∷ (11, admitted-same c h x) ∷ []
 
 -- ---- the header
 

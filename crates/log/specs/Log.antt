@@ -91,12 +91,12 @@ gives step u d v = record { statusStep = step; connected = u; incoming = d; valu
 abbrev pub naming : KeyCall → Naming
 naming (KeyCall.updateNodeStatus st dr now) = gives true (some (isOne st)) (optional dr) none
 naming (KeyCall.updateNode v st now) = gives (isSome (optional st)) (optional st) none (some (valueOf v))
-naming (KeyCall.insertOrUpdate v st dr now) = gives true (some (isOne st)) (some (isOne dr)) (some (valueOf v))
+naming (KeyCall.insertOrUpdate v st dr now hs) = gives true (some (isOne st)) (some (isOne dr)) (some (valueOf v))
 naming (KeyCall.remove now) = gives false none none none
 naming (KeyCall.entry now) = gives false none none none
 naming (KeyCall.presentUpdate st dr) = gives true (some (isOne st)) (optional dr) none
 naming (KeyCall.pendingUpdate st dr) = gives false (some (isOne st)) (some (isOne dr)) none
-naming (KeyCall.absentInsert v st dr now) = gives false (some (isOne st)) (some (isOne dr)) (some (valueOf v))
+naming (KeyCall.absentInsert v st dr now hs) = gives false (some (isOne st)) (some (isOne dr)) (some (valueOf v))
 
 abbrev pub role : Call → Role
 role (Call.new k timeout m tf bf) = Role.empties (settingsOf (number k) timeout m tf bf)

@@ -88,12 +88,12 @@ Conserved h t = answeredPending h ≡ recorded h + stillWaiting t
 abbrev pub appliesDue : KeyCall → Bool
 appliesDue (KeyCall.updateNodeStatus st dr now) = true
 appliesDue (KeyCall.updateNode v st now) = true
-appliesDue (KeyCall.insertOrUpdate v st dr now) = true
+appliesDue (KeyCall.insertOrUpdate v st dr now hs) = true
 appliesDue (KeyCall.remove now) = true
 appliesDue (KeyCall.entry now) = true
 appliesDue (KeyCall.presentUpdate st dr) = false
 appliesDue (KeyCall.pendingUpdate st dr) = false
-appliesDue (KeyCall.absentInsert v st dr now) = false
+appliesDue (KeyCall.absentInsert v st dr now hs) = false
 
 -- the buckets that a call applies
 abbrev pub appliedBy : Call → Table → List ℕ

@@ -13,7 +13,7 @@ use Rattle.model.specs.Result.{FailureReason, BucketInsertResult, UpdateResult,
 use Rattle.model.specs.Bucket.{nodes}
 use Rattle.model.specs.Table.{Table, EntryKind, Answer}
 use Rattle.model.specs.Sizes.{nodeSize}
-use Rattle.model.specs.Call.{ValueArgument, Listing, Call, KeyCall}
+use Rattle.model.specs.Call.{ValueArgument, Listing, Call, KeyCall, noHours}
 use Rattle.model.specs.Saved.{saved}
 use Rattle.model.specs.Step.{nodeOf, act, step}
 use Rattle.model.specs.Numbers.{sameNumbers, nodeNumbers, settingsNumbers, answerNumbers}
@@ -24,7 +24,7 @@ use Rattle.log.specs.Pending.{answeredPending, recorded, stillWaiting, d
 
 -- a new node at time 0, whose slot is its key
 abbrev inserted : (state : ℕ) → ℕ → Call × Answer
-inserted st k = (Call.onKey (key k) (KeyCall.insertOrUpdate (plain k) st 0 0), Answer.InsertOrUpdate InsertResult.Inserted)
+inserted st k = (Call.onKey (key k) (KeyCall.insertOrUpdate (plain k) st 0 0 noHours), Answer.InsertOrUpdate InsertResult.Inserted)
 
 -- Calls and what they answer. At most one connected incoming node, bucket filter on, timeout 60,000.
 unfoldable pub sample : List (Call × Answer)
@@ -33,15 +33,15 @@ sample =
     -- bucket 5 is filled with disconnected nodes
     ∷ (from (inserted 0) 32 16
     -- 48 is pending, due at 60,100; a second call on it fails, and what it gives does not count
-    ++ ((Call.onKey (key 48) (KeyCall.insertOrUpdate (plain 48) 1 0 100), Answer.InsertOrUpdate (InsertResult.Pending 32))
-    ∷ (Call.onKey (key 48) (KeyCall.insertOrUpdate (plain 7) 1 0 101), Answer.InsertOrUpdate (InsertResult.Failed FailureReason.BucketFull))
+    ++ ((Call.onKey (key 48) (KeyCall.insertOrUpdate (plain 48) 1 0 100 noHours), Answer.InsertOrUpdate (InsertResult.Pending 32))
+    ∷ (Call.onKey (key 48) (KeyCall.insertOrUpdate (plain 7) 1 0 101 noHours), Answer.InsertOrUpdate (InsertResult.Failed FailureReason.BucketFull))
     -- refused: insert_or_update must be given a direction
-    ∷ (Call.onKey (key 34) (KeyCall.insertOrUpdate (plain 7) 0 2 102), Answer.Refused 4)
+    ∷ (Call.onKey (key 34) (KeyCall.insertOrUpdate (plain 7) 0 2 102 noHours), Answer.Refused 4)
     -- 33 moves behind 47; 35 keeps its place and gets another slot
     ∷ (Call.onKey (key 33) (KeyCall.updateNodeStatus 0 2 103), Answer.Update UpdateResult.NotModified)
     ∷ (Call.onKey (key 35) (KeyCall.updateNode (plain 9) 2 104), Answer.Update UpdateResult.Updated)
     -- 48 is applied and evicts 32, which was held when the call came; 32 is pending then
-    ∷ (Call.onKey (key 32) (KeyCall.insertOrUpdate (plain 32) 1 0 60100), Answer.InsertOrUpdate (InsertResult.Pending 34))
+    ∷ (Call.onKey (key 32) (KeyCall.insertOrUpdate (plain 32) 1 0 60100 noHours), Answer.InsertOrUpdate (InsertResult.Pending 34))
     -- 36 connects, incoming; 37 would be one too many and is taken out; 38 is removed
     ∷ (Call.onKey (key 36) (KeyCall.updateNodeStatus 1 1 60101), Answer.Update UpdateResult.UpdatedAndPromoted)
     ∷ (Call.onKey (key 37) (KeyCall.updateNodeStatus 1 1 60102), Answer.Update (UpdateResult.Failed FailureReason.TooManyIncoming))
@@ -50,9 +50,9 @@ sample =
     ∷ (Call.onKey (key 32) (KeyCall.pendingUpdate 0 1), Answer.Update UpdateResult.UpdatedPending)
     ∷ (Call.list Listing.iter 2 120100 (zeros (2 * nodeSize)), Answer.Found 2)
     -- 37 comes again
-    ∷ (Call.onKey (key 37) (KeyCall.absentInsert (plain 3) 1 0 120100), Answer.Insert BucketInsertResult.Inserted)
+    ∷ (Call.onKey (key 37) (KeyCall.absentInsert (plain 3) 1 0 120100 noHours), Answer.Insert BucketInsertResult.Inserted)
     -- 49 is pending; the call that applies it moves 48 behind it
-    ∷ (Call.onKey (key 49) (KeyCall.insertOrUpdate (plain 49) 1 0 120101), Answer.InsertOrUpdate (InsertResult.Pending 34))
+    ∷ (Call.onKey (key 49) (KeyCall.insertOrUpdate (plain 49) 1 0 120101 noHours), Answer.InsertOrUpdate (InsertResult.Pending 34))
     ∷ (Call.onKey (key 48) (KeyCall.updateNodeStatus 1 2 180101), Answer.Update UpdateResult.NotModified)
     -- two nodes of bucket 6; the first is set connected again and moves
     ∷ inserted 1 64
@@ -66,7 +66,7 @@ sample =
 
 -- The bucket is full and d stands at place 0: a connected node becomes pending, due ten later.
 abbrev waits : (k : ℕ) (v : ValueArgument) (direction now d : ℕ) → Call × Answer
-waits k v dr now d = (Call.onKey (key k) (KeyCall.insertOrUpdate v 1 dr now), Answer.InsertOrUpdate (InsertResult.Pending d))
+waits k v dr now d = (Call.onKey (key k) (KeyCall.insertOrUpdate v 1 dr now noHours), Answer.InsertOrUpdate (InsertResult.Pending d))
 
 -- a call that applies what is due in the bucket
 abbrev looks : ℕ → Call × Answer
@@ -100,12 +100,12 @@ endings =
     -- 52 is cleared by a direct insert
     ∷ waits 52 (plain 52) 0 34 34
     ∷ (Call.onKey (key 39) (KeyCall.remove 35), Answer.Remove true)
-    ∷ (Call.onKey (key 52) (KeyCall.insertOrUpdate (plain 52) 1 0 36), Answer.InsertOrUpdate InsertResult.Inserted)
+    ∷ (Call.onKey (key 52) (KeyCall.insertOrUpdate (plain 52) 1 0 36 noHours), Answer.InsertOrUpdate InsertResult.Inserted)
     -- 53 is dropped: all sixteen are connected by then
     ∷ waits 53 (plain 53) 0 37 34
     ∷ (Call.onKey (key 35) (KeyCall.updateNodeStatus 1 2 38), Answer.Update UpdateResult.UpdatedAndPromoted)
     ∷ (Call.onKey (key 34) (KeyCall.remove 39), Answer.Remove true)
-    ∷ (Call.onKey (key 54) (KeyCall.insertOrUpdate (plain 54) 1 0 40), Answer.InsertOrUpdate InsertResult.Inserted)
+    ∷ (Call.onKey (key 54) (KeyCall.insertOrUpdate (plain 54) 1 0 40 noHours), Answer.InsertOrUpdate InsertResult.Inserted)
     ∷ looks 47
     ∷ takes 48 (Ending.Placed (some (nodeOf (key 32) (plain 32) 0 0)))
     ∷ takes 49 Ending.FirstConfirmed
@@ -118,7 +118,7 @@ endings =
     ∷ (Call.onKey (key 54) (KeyCall.updateNodeStatus 0 2 48), Answer.Update UpdateResult.Updated)
     ∷ waits 55 (plain 55) 0 49 54
     ∷ (Call.onKey (key 55) (KeyCall.pendingUpdate 1 1), Answer.Update UpdateResult.UpdatedPending)
-    ∷ (Call.onKey (key 56) (KeyCall.absentInsert (plain 56) 1 0 60), Answer.Insert BucketInsertResult.Full)
+    ∷ (Call.onKey (key 56) (KeyCall.absentInsert (plain 56) 1 0 60 noHours), Answer.Insert BucketInsertResult.Full)
     ∷ [])))
 
 -- `new` ends 55 and leaves no record
@@ -132,7 +132,7 @@ oldBox =
     ∷ inserted 0 33
     ∷ inserted 1 35
     ∷ inserted 0 32
-    ∷ (Call.onKey (key 34) (KeyCall.insertOrUpdate (addressed 1 34) 1 1 0), Answer.InsertOrUpdate InsertResult.Inserted)
+    ∷ (Call.onKey (key 34) (KeyCall.insertOrUpdate (addressed 1 34) 1 1 0 noHours), Answer.InsertOrUpdate InsertResult.Inserted)
     ∷ inserted 1 65
     ∷ inserted 1 64
     ∷ []

@@ -15,7 +15,8 @@ use Rattle.model.specs.Listing.{visited, indexAt, found}
 use Rattle.model.specs.Question.{keysFit, codesInRange, clockFits, outputFits, kindFits}
 use Rattle.model.specs.Step.{act, queueFits, step}
 use Rattle.model.specs.Rows.{holds, rows}
+use Rattle.model.proofs.SessionCases.{session-cases-hold}
 
 pub rows-hold : every holds rows ≡ true
 unfolding leadingZeros same joined tabulate number bytes log2Distance bucketIndex testBit sameNet sameValue counts ipFilterFails firstConnectedPos isFull failsBucketFilter isMaxIncoming insert applyDue applyPending reinsert updateStatus updateValue updatePending remove heldNodes failsTableFilter insertBy sortBy setsDown clearsUp visits visited indexAt found keysFit codesInRange clockFits outputFits kindFits act queueFits step rows
-rows-hold = refl
+rows-hold = let earlier = session-cases-hold in refl

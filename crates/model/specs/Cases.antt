@@ -11,7 +11,7 @@ use Rattle.model.specs.Node.{Node, Ending, EndedPending}
 use Rattle.model.specs.Result.{FailureReason, BucketInsertResult, UpdateResult, InsertResult}
 use Rattle.model.specs.Table.{EntryKind, Answer}
 use Rattle.model.specs.Sizes.{keySize, slotSize, valueSize, nodeSize, placeAt, pendingAt, bucketSize, maxIncomingAt, tableFilterAt, bucketFilterAt, recordCountAt, paddingAt, paddingSize, recordAt, headerSize, storageSize}
-use Rattle.model.specs.Call.{ValueArgument, PredicateArgument, Listing, Call, KeyCall}
+use Rattle.model.specs.Call.{ValueArgument, PredicateArgument, Listing, Call, KeyCall, noHours}
 use Rattle.model.specs.Step.{nodeOf}
 use Rattle.model.specs.Layout.{bucketBytes, headerBytes}
 use Rattle.model.specs.Rows.{Row, key, plain, addressed, noTable, after, start, disconnected, connected, from, pendingAt100, twoOfANet}
@@ -54,7 +54,7 @@ noRecord = Answer.TakeAppliedPending none
 
 -- a disconnected node with the address 10.0.0.k and slot 0
 abbrev pub member : ℕ → Call
-member k = Call.onKey (key k) (KeyCall.absentInsert (addressed k 0) 0 0 0)
+member k = Call.onKey (key k) (KeyCall.absentInsert (addressed k 0) 0 0 0 noHours)
 
 abbrev memberNode : ℕ → Node
 memberNode k = nodeOf (key k) (addressed k 0) 0 0
@@ -69,16 +69,16 @@ members n = start 16 1 0 ∷ from member 32 n
 
 -- table filter on; ten nodes of one /24, and 42 with the same value as 32
 abbrev pub equalMember : List Call
-equalMember = members 10 ++ (Call.onKey (key 42) (KeyCall.absentInsert (addressed 32 0) 0 0 0) ∷ [])
+equalMember = members 10 ++ (Call.onKey (key 42) (KeyCall.absentInsert (addressed 32 0) 0 0 0 noHours) ∷ [])
 
 -- table filter on; bucket 5 full of disconnected nodes, ten of one /24, and 48 pending since time 0 with an eleventh value of it
 abbrev eleventhPending : List Call
 eleventhPending =
-    start 16 1 0 ∷ (from disconnected 32 6 ++ (from member 38 10 ++ (Call.onKey (key 48) (KeyCall.absentInsert (addressed 48 0) 1 0 0) ∷ [])))
+    start 16 1 0 ∷ (from disconnected 32 6 ++ (from member 38 10 ++ (Call.onKey (key 48) (KeyCall.absentInsert (addressed 48 0) 1 0 0 noHours) ∷ [])))
 
 -- bucket filter on; 10.0.0.1 is held by 32 and 34, 10.0.0.2 by 33
 abbrev pub oneBetweenEquals : List Call
-oneBetweenEquals = twoOfANet ++ (Call.onKey (key 34) (KeyCall.absentInsert (addressed 1 0) 0 0 0) ∷ [])
+oneBetweenEquals = twoOfANet ++ (Call.onKey (key 34) (KeyCall.absentInsert (addressed 1 0) 0 0 0 noHours) ∷ [])
 
 -- one disconnected and 15 connected nodes, and 48 pending since time 0
 abbrev pub pendingOverOne : List Call
@@ -99,7 +99,7 @@ applied k (suc n) = connected k ∷ settle k ∷ applied (suc k) n
 
 -- buckets 5 and 6 full of disconnected nodes, 48 and 80 pending since time 100, and bucket 0's node
 abbrev twoPending : List Call
-twoPending = pendingAt100 ++ (from disconnected 64 16 ++ (Call.onKey (key 80) (KeyCall.absentInsert (plain 80) 1 0 100) ∷ disconnected 1 ∷ []))
+twoPending = pendingAt100 ++ (from disconnected 64 16 ++ (Call.onKey (key 80) (KeyCall.absentInsert (plain 80) 1 0 100 noHours) ∷ disconnected 1 ∷ []))
 
 -- bucket filter on; bucket 5 full of disconnected nodes, two of one /24, and 48 pending since time 0 with a third value of it
 abbrev thirdPending : List Call
@@ -113,9 +113,9 @@ pendingIncoming m = start m 0 0 ∷ (from disconnected 32 16 ++ (connected 48 �
 abbrev thirdIncoming : ℕ → List Call
 thirdIncoming m =
     start m 0 1
-    ∷ Call.onKey (key 32) (KeyCall.absentInsert (plain 32) 0 0 0)
-    ∷ Call.onKey (key 33) (KeyCall.absentInsert (addressed 1 0) 0 0 0)
-    ∷ Call.onKey (key 34) (KeyCall.absentInsert (addressed 2 0) 0 0 0)
+    ∷ Call.onKey (key 32) (KeyCall.absentInsert (plain 32) 0 0 0 noHours)
+    ∷ Call.onKey (key 33) (KeyCall.absentInsert (addressed 1 0) 0 0 0 noHours)
+    ∷ Call.onKey (key 34) (KeyCall.absentInsert (addressed 2 0) 0 0 0 noHours)
     ∷ (from disconnected 35 13
     ++ (connected 48 ∷ Call.onKey (key 48) (KeyCall.updateNode (addressed 3 0) 2 0) ∷ Call.onKey (key 48) (KeyCall.pendingUpdate 1 1) ∷ []))
 
@@ -124,15 +124,15 @@ abbrev dueAll : Call
 dueAll = Call.onKey (key 63) (KeyCall.entry 60000)
 
 abbrev insertOrUpdate : ℕ → Call
-insertOrUpdate k = Call.onKey (key k) (KeyCall.insertOrUpdate (plain k) 0 0 0)
+insertOrUpdate k = Call.onKey (key k) (KeyCall.insertOrUpdate (plain k) 0 0 0 noHours)
 
 -- 1 is held with an address of another /24, 4 with 10.0.0.4, 6 with none
 abbrev threeNodes : List Call
 threeNodes =
     start 16 0 0
-    ∷ Call.onKey (key 1) (KeyCall.absentInsert (record { flag = 1; a = 10; b = 0; c = 1; d = 1; slot = 1 }) 0 0 0)
-    ∷ Call.onKey (key 4) (KeyCall.absentInsert (addressed 4 7) 0 0 0)
-    ∷ Call.onKey (key 6) (KeyCall.absentInsert (plain 7) 0 0 0)
+    ∷ Call.onKey (key 1) (KeyCall.absentInsert (record { flag = 1; a = 10; b = 0; c = 1; d = 1; slot = 1 }) 0 0 0 noHours)
+    ∷ Call.onKey (key 4) (KeyCall.absentInsert (addressed 4 7) 0 0 0 noHours)
+    ∷ Call.onKey (key 6) (KeyCall.absentInsert (plain 7) 0 0 0 noHours)
     ∷ []
 
 -- a predicate on 10.0.0.0/24 or slot 7
@@ -157,11 +157,11 @@ octets = record { flag = 1; a = 1; b = 2; c = 3; d = 4; slot = 72623859790382856
 
 -- bucket filter on; 10.0.0.1 is held with slot 0 and with slot x
 abbrev oneAddress : ℕ → List Call
-oneAddress x = start 16 0 1 ∷ Call.onKey (key 32) (KeyCall.absentInsert (addressed 1 0) 0 0 0) ∷ Call.onKey (key 33) (KeyCall.absentInsert (addressed 1 x) 0 0 0) ∷ []
+oneAddress x = start 16 0 1 ∷ Call.onKey (key 32) (KeyCall.absentInsert (addressed 1 0) 0 0 0 noHours) ∷ Call.onKey (key 33) (KeyCall.absentInsert (addressed 1 x) 0 0 0 noHours) ∷ []
 
 -- 64 is held with it
 abbrev stranger : Call
-stranger = Call.onKey (key 64) (KeyCall.absentInsert octets 0 0 0)
+stranger = Call.onKey (key 64) (KeyCall.absentInsert octets 0 0 0 noHours)
 
 -- the /24 of a, b, c
 abbrev net : (a b c : ℕ) → PredicateArgument
@@ -171,11 +171,11 @@ abbrev updateNode : (key slot state : ℕ) → Call
 updateNode k slot st = Call.onKey (key k) (KeyCall.updateNode (plain slot) st 0)
 
 abbrev insertWith : (key slot state direction : ℕ) → Call
-insertWith k slot st dr = Call.onKey (key k) (KeyCall.insertOrUpdate (plain slot) st dr 0)
+insertWith k slot st dr = Call.onKey (key k) (KeyCall.insertOrUpdate (plain slot) st dr 0 noHours)
 
 -- a disconnected incoming node
 abbrev incoming : ℕ → Call
-incoming k = Call.onKey (key k) (KeyCall.absentInsert (plain k) 0 1 0)
+incoming k = Call.onKey (key k) (KeyCall.absentInsert (plain k) 0 1 0 noHours)
 
 -- bucket 5 has applied two pendings: 48, which evicted 32, and 49, after 33 was removed; 50 is pending. 47 is connected incoming with the
 -- value 1.2.3.4.
@@ -183,13 +183,13 @@ abbrev twoApplied : List Call
 twoApplied =
     Call.new (key 1) 60000 7 1 0
     ∷ (from disconnected 32 15
-    ++ (Call.onKey (key 47) (KeyCall.absentInsert octets 1 1 0)
+    ++ (Call.onKey (key 47) (KeyCall.absentInsert octets 1 1 0 noHours)
     ∷ connected 48
     ∷ Call.onKey (key 48) (KeyCall.entry 60000)
-    ∷ Call.onKey (key 49) (KeyCall.absentInsert (plain 49) 1 0 5)
+    ∷ Call.onKey (key 49) (KeyCall.absentInsert (plain 49) 1 0 5 noHours)
     ∷ Call.onKey (key 33) (KeyCall.remove 5)
     ∷ Call.onKey (key 49) (KeyCall.entry 60005)
-    ∷ Call.onKey (key 50) (KeyCall.absentInsert (plain 50) 1 0 7)
+    ∷ Call.onKey (key 50) (KeyCall.absentInsert (plain 50) 1 0 7 noHours)
     ∷ []))
 
 -- the bytes of an outgoing node below 256 whose slot is its key
@@ -210,7 +210,7 @@ firstBucket cs = let t = after cs noTable in headerBytes t ++ bucketBytes (t .bu
 
 -- local key 3, max_incoming 1; bucket 0 has the connected incoming node 2
 abbrev incomingFirst : List ℕ
-incomingFirst = firstBucket (Call.new (key 3) 0 1 0 0 ∷ Call.onKey (key 2) (KeyCall.absentInsert (plain 2) 1 1 0) ∷ [])
+incomingFirst = firstBucket (Call.new (key 3) 0 1 0 0 ∷ Call.onKey (key 2) (KeyCall.absentInsert (plain 2) 1 1 0 noHours) ∷ [])
 
 -- a value of this address flag and these octets, slot 0
 abbrev valueWith : (flag a b c d : ℕ) → ValueArgument
@@ -233,21 +233,21 @@ codesOutOfRange =
     ∷ KeyCall.updateNode (valueWith 2 0 0 0 0) 2 0
     ∷ KeyCall.updateNode (valueWith 0 0 0 0 1) 2 0
     ∷ KeyCall.updateNode (plain 0) 3 0
-    ∷ KeyCall.insertOrUpdate (valueWith 2 0 0 0 0) 0 0 0
-    ∷ KeyCall.insertOrUpdate (valueWith 0 1 0 0 0) 0 0 0
-    ∷ KeyCall.insertOrUpdate (valueWith 0 0 1 0 0) 0 0 0
-    ∷ KeyCall.insertOrUpdate (valueWith 0 0 0 1 0) 0 0 0
-    ∷ KeyCall.insertOrUpdate (valueWith 0 0 0 0 1) 0 0 0
-    ∷ KeyCall.insertOrUpdate (plain 0) 2 0 0
-    ∷ KeyCall.insertOrUpdate (plain 0) 0 2 0
+    ∷ KeyCall.insertOrUpdate (valueWith 2 0 0 0 0) 0 0 0 noHours
+    ∷ KeyCall.insertOrUpdate (valueWith 0 1 0 0 0) 0 0 0 noHours
+    ∷ KeyCall.insertOrUpdate (valueWith 0 0 1 0 0) 0 0 0 noHours
+    ∷ KeyCall.insertOrUpdate (valueWith 0 0 0 1 0) 0 0 0 noHours
+    ∷ KeyCall.insertOrUpdate (valueWith 0 0 0 0 1) 0 0 0 noHours
+    ∷ KeyCall.insertOrUpdate (plain 0) 2 0 0 noHours
+    ∷ KeyCall.insertOrUpdate (plain 0) 0 2 0 noHours
     ∷ KeyCall.presentUpdate 2 2
     ∷ KeyCall.presentUpdate 1 3
     ∷ KeyCall.pendingUpdate 2 0
     ∷ KeyCall.pendingUpdate 1 2
-    ∷ KeyCall.absentInsert (valueWith 2 0 0 0 0) 0 0 0
-    ∷ KeyCall.absentInsert (valueWith 0 0 0 0 1) 0 0 0
-    ∷ KeyCall.absentInsert (plain 0) 2 0 0
-    ∷ KeyCall.absentInsert (plain 0) 0 2 0
+    ∷ KeyCall.absentInsert (valueWith 2 0 0 0 0) 0 0 0 noHours
+    ∷ KeyCall.absentInsert (valueWith 0 0 0 0 1) 0 0 0 noHours
+    ∷ KeyCall.absentInsert (plain 0) 2 0 0 noHours
+    ∷ KeyCall.absentInsert (plain 0) 0 2 0 noHours
     -- in front of question 5
     ∷ KeyCall.updateNodeStatus 2 2 tooLate
     ∷ [])
@@ -259,11 +259,11 @@ allTooLate =
     ∷ map (Call.onKey (key 32))
     (KeyCall.updateNodeStatus 1 2 tooLate
     ∷ KeyCall.updateNode (plain 0) 2 tooLate
-    ∷ KeyCall.insertOrUpdate (plain 0) 0 0 tooLate
+    ∷ KeyCall.insertOrUpdate (plain 0) 0 0 tooLate noHours
     ∷ KeyCall.remove tooLate
     ∷ KeyCall.entry tooLate
     -- in front of question 7
-    ∷ KeyCall.absentInsert (plain 0) 0 0 tooLate
+    ∷ KeyCall.absentInsert (plain 0) 0 0 tooLate noHours
     ∷ [])
 
 -- the calls are refused with the question's number, where 32 is held
@@ -294,14 +294,14 @@ flagAt j = placeAt j + keySize + 2
 abbrev unequalSlots : ℕ → List Row
 unequalSlots x =
     -- another slot is an update, the same is none; it takes the member of a full /24 past the duplicate test
-    Row.answers (start 16 0 0 ∷ Call.onKey (key 32) (KeyCall.absentInsert (plain 0) 0 0 0) ∷ []) (updateNode 32 x 2 ∷ updateNode 32 x 2 ∷ updateNode 32 0 2 ∷ [])
+    Row.answers (start 16 0 0 ∷ Call.onKey (key 32) (KeyCall.absentInsert (plain 0) 0 0 0 noHours) ∷ []) (updateNode 32 x 2 ∷ updateNode 32 x 2 ∷ updateNode 32 0 2 ∷ [])
     (Answer.Update UpdateResult.Updated ∷ Answer.Update UpdateResult.NotModified ∷ Answer.Update UpdateResult.Updated ∷ [])
     ∷ Row.answers (members 11) (Call.onKey (key 32) (KeyCall.updateNode (addressed 32 x) 2 0) ∷ []) (updateFailed FailureReason.TableFilter ∷ [])
     -- one address with both slots: the filter counts two beside a third slot, and one beside the second
-    ∷ Row.answers (oneAddress x) (Call.onKey (key 34) (KeyCall.absentInsert (addressed 1 (2 * x)) 0 0 0) ∷ Call.onKey (key 34) (KeyCall.absentInsert (addressed 1 x) 0 0 0) ∷ [])
+    ∷ Row.answers (oneAddress x) (Call.onKey (key 34) (KeyCall.absentInsert (addressed 1 (2 * x)) 0 0 0 noHours) ∷ Call.onKey (key 34) (KeyCall.absentInsert (addressed 1 x) 0 0 0 noHours) ∷ [])
     (Answer.Insert BucketInsertResult.FailedFilter ∷ Answer.Insert BucketInsertResult.Inserted ∷ [])
     -- the slot that is 7 and the one that is not
-    ∷ Row.matches (start 16 0 0 ∷ Call.onKey (key 32) (KeyCall.absentInsert (plain 7) 0 0 0) ∷ Call.onKey (key 33) (KeyCall.absentInsert (plain (7 + x)) 0 0 0) ∷ []) 32 (predicate 3) 2 (true ∷ false ∷ [])
+    ∷ Row.matches (start 16 0 0 ∷ Call.onKey (key 32) (KeyCall.absentInsert (plain 7) 0 0 0 noHours) ∷ Call.onKey (key 33) (KeyCall.absentInsert (plain (7 + x)) 0 0 0 noHours) ∷ []) 32 (predicate 3) 2 (true ∷ false ∷ [])
     ∷ []
 
 abbrev reasons : List FailureReason
@@ -345,11 +345,11 @@ cases =
     -- the table filter (02, slip 3): ten of one /24 held, one of them gets another slot: its old value is not counted; it keeps its place
     Row.answers (members 10) (Call.onKey (key 32) (KeyCall.updateNode (addressed 32 7) 2 0) ∷ []) (Answer.Update UpdateResult.Updated ∷ [])
     ∷ Row.places (members 10 ++ (Call.onKey (key 32) (KeyCall.updateNode (addressed 32 7) 2 0) ∷ [])) 5 (nodeOf (key 32) (addressed 32 7) 0 0 ∷ from memberNode 33 9)
-    ∷ Row.answers (members 10) (Call.onKey (key 32) (KeyCall.insertOrUpdate (addressed 32 7) 0 0 0) ∷ []) (Answer.InsertOrUpdate InsertResult.ValueUpdated ∷ [])
+    ∷ Row.answers (members 10) (Call.onKey (key 32) (KeyCall.insertOrUpdate (addressed 32 7) 0 0 0 noHours) ∷ []) (Answer.InsertOrUpdate InsertResult.ValueUpdated ∷ [])
     -- eleven held: the ten others are counted; the call fails and the node is gone
     ∷ Row.answers (members 11) (Call.onKey (key 32) (KeyCall.updateNode (addressed 32 7) 2 0) ∷ Call.onKey (key 32) (KeyCall.entry 0) ∷ [])
     (updateFailed FailureReason.TableFilter ∷ absent ∷ [])
-    ∷ Row.answers (members 11) (Call.onKey (key 32) (KeyCall.insertOrUpdate (addressed 32 7) 0 0 0) ∷ Call.onKey (key 32) (KeyCall.entry 0) ∷ [])
+    ∷ Row.answers (members 11) (Call.onKey (key 32) (KeyCall.insertOrUpdate (addressed 32 7) 0 0 0 noHours) ∷ Call.onKey (key 32) (KeyCall.entry 0) ∷ [])
     (insertFailed FailureReason.TableFilter ∷ absent ∷ [])
     -- so is the value of another key that is equal to the old one
     ∷ Row.answers equalMember (Call.onKey (key 32) (KeyCall.updateNode (addressed 32 7) 2 0) ∷ []) (updateFailed FailureReason.TableFilter ∷ [])
@@ -357,37 +357,37 @@ cases =
     ∷ Row.answers (members 9 ++ (stranger ∷ [])) (Call.onKey (key 64) (KeyCall.updateNode (addressed 64 0) 2 0) ∷ []) (Answer.Update UpdateResult.Updated ∷ [])
     ∷ Row.answers (members 10 ++ (stranger ∷ [])) (Call.onKey (key 64) (KeyCall.updateNode (addressed 64 0) 2 0) ∷ Call.onKey (key 64) (KeyCall.entry 0) ∷ [])
     (updateFailed FailureReason.TableFilter ∷ absent ∷ [])
-    ∷ Row.answers (members 10 ++ (stranger ∷ [])) (Call.onKey (key 64) (KeyCall.insertOrUpdate (addressed 64 0) 0 0 0) ∷ []) (insertFailed FailureReason.TableFilter ∷ [])
+    ∷ Row.answers (members 10 ++ (stranger ∷ [])) (Call.onKey (key 64) (KeyCall.insertOrUpdate (addressed 64 0) 0 0 0 noHours) ∷ []) (insertFailed FailureReason.TableFilter ∷ [])
     -- eleven held: the filter is skipped for an equal value
-    ∷ Row.answers (members 11) (Call.onKey (key 32) (KeyCall.updateNode (addressed 32 0) 2 0) ∷ Call.onKey (key 33) (KeyCall.insertOrUpdate (addressed 33 0) 0 1 0) ∷ [])
+    ∷ Row.answers (members 11) (Call.onKey (key 32) (KeyCall.updateNode (addressed 32 0) 2 0) ∷ Call.onKey (key 33) (KeyCall.insertOrUpdate (addressed 33 0) 0 1 0 noHours) ∷ [])
     (Answer.Update UpdateResult.NotModified ∷ Answer.InsertOrUpdate (InsertResult.StatusUpdated false) ∷ [])
     -- ten held: a new key fails; the filter is skipped by an entry's insert; with the filter off a new key does not fail
     ∷ Row.answers (members 10)
-    (Call.onKey (key 64) (KeyCall.insertOrUpdate (addressed 64 0) 0 0 0) ∷ Call.onKey (key 64) (KeyCall.entry 0) ∷ member 65 ∷ [])
+    (Call.onKey (key 64) (KeyCall.insertOrUpdate (addressed 64 0) 0 0 0 noHours) ∷ Call.onKey (key 64) (KeyCall.entry 0) ∷ member 65 ∷ [])
     (insertFailed FailureReason.TableFilter ∷ absent ∷ Answer.Insert BucketInsertResult.Inserted ∷ [])
-    ∷ Row.answers (start 16 0 0 ∷ from member 32 10) (Call.onKey (key 64) (KeyCall.insertOrUpdate (addressed 64 0) 0 0 0) ∷ [])
+    ∷ Row.answers (start 16 0 0 ∷ from member 32 10) (Call.onKey (key 64) (KeyCall.insertOrUpdate (addressed 64 0) 0 0 0 noHours) ∷ [])
     (Answer.InsertOrUpdate InsertResult.Inserted ∷ [])
     -- update_value: a failed bucket filter takes the node out
     ∷ Row.answers (twoOfANet ++ (disconnected 34 ∷ [])) (Call.onKey (key 34) (KeyCall.updateNode (addressed 3 0) 2 0) ∷ Call.onKey (key 34) (KeyCall.entry 0) ∷ [])
     (updateFailed FailureReason.BucketFilter ∷ absent ∷ [])
-    ∷ Row.keys (twoOfANet ++ (disconnected 34 ∷ Call.onKey (key 34) (KeyCall.insertOrUpdate (addressed 3 0) 0 0 0) ∷ [])) 5 (32 ∷ 33 ∷ [])
+    ∷ Row.keys (twoOfANet ++ (disconnected 34 ∷ Call.onKey (key 34) (KeyCall.insertOrUpdate (addressed 3 0) 0 0 0 noHours) ∷ [])) 5 (32 ∷ 33 ∷ [])
     -- update_status: a failed insert leaves the node out
-    ∷ Row.answers (start 0 0 0 ∷ Call.onKey (key 32) (KeyCall.absentInsert (plain 32) 0 1 0) ∷ []) (Call.onKey (key 32) (KeyCall.updateNodeStatus 1 2 0) ∷ Call.onKey (key 32) (KeyCall.entry 0) ∷ [])
+    ∷ Row.answers (start 0 0 0 ∷ Call.onKey (key 32) (KeyCall.absentInsert (plain 32) 0 1 0 noHours) ∷ []) (Call.onKey (key 32) (KeyCall.updateNodeStatus 1 2 0) ∷ Call.onKey (key 32) (KeyCall.entry 0) ∷ [])
     (updateFailed FailureReason.TooManyIncoming ∷ absent ∷ [])
     -- insert_or_update reports every failed status step as TooManyIncoming, a bucket filter failure too
     ∷ Row.answers oneBetweenEquals (Call.onKey (key 33) (KeyCall.updateNodeStatus 1 2 0) ∷ Call.onKey (key 33) (KeyCall.entry 0) ∷ [])
     (updateFailed FailureReason.BucketFilter ∷ absent ∷ [])
-    ∷ Row.answers oneBetweenEquals (Call.onKey (key 33) (KeyCall.insertOrUpdate (addressed 2 0) 1 0 0) ∷ Call.onKey (key 33) (KeyCall.entry 0) ∷ [])
+    ∷ Row.answers oneBetweenEquals (Call.onKey (key 33) (KeyCall.insertOrUpdate (addressed 2 0) 1 0 0 noHours) ∷ Call.onKey (key 33) (KeyCall.entry 0) ∷ [])
     (insertFailed FailureReason.TooManyIncoming ∷ absent ∷ [])
     -- a pending is counted by no filter: the bucket's, with one of a /24 held and one pending
     ∷ Row.answers
-    (start 16 0 1 ∷ member 32 ∷ (from disconnected 33 15 ++ (Call.onKey (key 48) (KeyCall.absentInsert (addressed 48 0) 1 0 0) ∷ [])))
-    (Call.onKey (key 49) (KeyCall.absentInsert (addressed 49 0) 1 0 0) ∷ [])
+    (start 16 0 1 ∷ member 32 ∷ (from disconnected 33 15 ++ (Call.onKey (key 48) (KeyCall.absentInsert (addressed 48 0) 1 0 0 noHours) ∷ [])))
+    (Call.onKey (key 49) (KeyCall.absentInsert (addressed 49 0) 1 0 0 noHours) ∷ [])
     (Answer.Insert BucketInsertResult.Full ∷ [])
     -- the table's, with nine of a /24 held and one pending
     ∷ Row.answers
-    (members 9 ++ (from disconnected 41 7 ++ (Call.onKey (key 48) (KeyCall.absentInsert (addressed 48 0) 1 0 0) ∷ [])))
-    (Call.onKey (key 64) (KeyCall.insertOrUpdate (addressed 64 0) 0 0 0) ∷ [])
+    (members 9 ++ (from disconnected 41 7 ++ (Call.onKey (key 48) (KeyCall.absentInsert (addressed 48 0) 1 0 0 noHours) ∷ [])))
+    (Call.onKey (key 64) (KeyCall.insertOrUpdate (addressed 64 0) 0 0 0 noHours) ∷ [])
     (Answer.InsertOrUpdate InsertResult.Inserted ∷ [])
     -- an unchanged status answers NotModified and still moves the node
     ∷ Row.keys (start 16 0 0 ∷ disconnected 32 ∷ disconnected 33 ∷ connected 34 ∷ Call.onKey (key 32) (KeyCall.updateNodeStatus 0 2 0) ∷ []) 5 (33 ∷ 32 ∷ 34 ∷ [])
@@ -396,7 +396,7 @@ cases =
     (Call.onKey (key 48) (KeyCall.updateNode (addressed 48 0) 2 60000) ∷ Call.onKey (key 48) (KeyCall.entry 60000) ∷ Call.takeAppliedPending ∷ [])
     (updateFailed FailureReason.TableFilter ∷ absent ∷ evicting 48 32 ∷ [])
     ∷ Row.answers eleventhPending
-    (Call.onKey (key 48) (KeyCall.insertOrUpdate (addressed 48 0) 1 0 60000) ∷ Call.onKey (key 48) (KeyCall.entry 60000) ∷ Call.takeAppliedPending ∷ [])
+    (Call.onKey (key 48) (KeyCall.insertOrUpdate (addressed 48 0) 1 0 60000 noHours) ∷ Call.onKey (key 48) (KeyCall.entry 60000) ∷ Call.takeAppliedPending ∷ [])
     (insertFailed FailureReason.TableFilter ∷ absent ∷ evicting 48 32 ∷ [])
     -- a pending of that key that is not due stays
     ∷ Row.answers eleventhPending (Call.onKey (key 48) (KeyCall.updateNode (addressed 48 0) 2 59999) ∷ Call.onKey (key 48) (KeyCall.entry 59999) ∷ [])
@@ -415,7 +415,7 @@ cases =
     -- all sixteen connected: Full
     ∷ Row.answers (start 16 0 0 ∷ from connected 32 16) (connected 48 ∷ []) (Answer.Insert BucketInsertResult.Full ∷ [])
     -- max_incoming 1: the second connected incoming node is too many
-    ∷ Row.answers (start 1 0 0 ∷ []) (Call.onKey (key 32) (KeyCall.absentInsert (plain 32) 1 1 0) ∷ Call.onKey (key 33) (KeyCall.absentInsert (plain 33) 1 1 0) ∷ [])
+    ∷ Row.answers (start 1 0 0 ∷ []) (Call.onKey (key 32) (KeyCall.absentInsert (plain 32) 1 1 0 noHours) ∷ Call.onKey (key 33) (KeyCall.absentInsert (plain 33) 1 1 0 noHours) ∷ [])
     (Answer.Insert BucketInsertResult.Inserted ∷ Answer.Insert BucketInsertResult.TooManyIncoming ∷ [])
     -- a due pending evicts place 0; its record is taken once
     ∷ Row.answers pendingAt100 (Call.onKey (key 48) (KeyCall.entry 60100) ∷ Call.takeAppliedPending ∷ Call.takeAppliedPending ∷ [])
@@ -429,11 +429,11 @@ cases =
     (Answer.Insert BucketInsertResult.Inserted ∷ absent ∷ taken 48 Ending.FirstConnected ∷ [])
     -- insert_or_update on a key that is only pending tries an insert; Inserted clears the pending
     ∷ Row.answers (pendingAt100 ++ (Call.onKey (key 32) (KeyCall.remove 100) ∷ []))
-    (Call.onKey (key 48) (KeyCall.insertOrUpdate (plain 48) 1 0 100) ∷ Call.onKey (key 48) (KeyCall.entry 60100) ∷ Call.takeAppliedPending ∷ [])
+    (Call.onKey (key 48) (KeyCall.insertOrUpdate (plain 48) 1 0 100 noHours) ∷ Call.onKey (key 48) (KeyCall.entry 60100) ∷ Call.takeAppliedPending ∷ [])
     (Answer.InsertOrUpdate InsertResult.Inserted ∷ present true ∷ taken 48 Ending.Inserted ∷ [])
     -- place 0 given Connected clears the pending, even when that insert fails
     ∷ Row.answers
-    (start 0 0 0 ∷ Call.onKey (key 32) (KeyCall.absentInsert (plain 32) 0 1 0) ∷ (from disconnected 33 15 ++ (connected 48 ∷ [])))
+    (start 0 0 0 ∷ Call.onKey (key 32) (KeyCall.absentInsert (plain 32) 0 1 0 noHours) ∷ (from disconnected 33 15 ++ (connected 48 ∷ [])))
     (Call.onKey (key 32) (KeyCall.updateNodeStatus 1 2 0) ∷ Call.onKey (key 48) (KeyCall.entry 0) ∷ Call.takeAppliedPending ∷ [])
     (updateFailed FailureReason.TooManyIncoming ∷ absent ∷ taken 48 Ending.FirstConfirmed ∷ [])
     -- Pending: update sets the status; the pending is placed by its state
@@ -446,8 +446,8 @@ cases =
     (Answer.Update UpdateResult.UpdatedPending ∷ pending true ∷ [])
     -- what insert_or_update and update_node answer on a held key, and on one that is not held
     ∷ Row.answers (start 16 0 0 ∷ disconnected 32 ∷ [])
-    (insertOrUpdate 32 ∷ Call.onKey (key 32) (KeyCall.insertOrUpdate (plain 7) 0 0 0) ∷ Call.onKey (key 32) (KeyCall.insertOrUpdate (plain 7) 1 0 0)
-    ∷ Call.onKey (key 32) (KeyCall.insertOrUpdate (plain 8) 0 0 0) ∷ Call.onKey (key 32) (KeyCall.updateNode (plain 8) 1 0) ∷ Call.onKey (key 33) (KeyCall.updateNode (plain 8) 1 0) ∷ [])
+    (insertOrUpdate 32 ∷ Call.onKey (key 32) (KeyCall.insertOrUpdate (plain 7) 0 0 0 noHours) ∷ Call.onKey (key 32) (KeyCall.insertOrUpdate (plain 7) 1 0 0 noHours)
+    ∷ Call.onKey (key 32) (KeyCall.insertOrUpdate (plain 8) 0 0 0 noHours) ∷ Call.onKey (key 32) (KeyCall.updateNode (plain 8) 1 0) ∷ Call.onKey (key 33) (KeyCall.updateNode (plain 8) 1 0) ∷ [])
     (Answer.InsertOrUpdate (InsertResult.Updated false) ∷ Answer.InsertOrUpdate InsertResult.ValueUpdated ∷ Answer.InsertOrUpdate (InsertResult.StatusUpdated true)
     ∷ Answer.InsertOrUpdate (InsertResult.Updated false) ∷ Answer.Update UpdateResult.UpdatedAndPromoted ∷ updateFailed FailureReason.KeyNonExistent ∷ [])
     -- update_node on a held key: the answers of the value's step and the status's step, each pair that can occur
@@ -466,12 +466,12 @@ cases =
     (InsertResult.Updated true ∷ InsertResult.StatusUpdated false ∷ InsertResult.StatusUpdated true ∷ InsertResult.ValueUpdated ∷ InsertResult.Updated false
     ∷ InsertResult.Updated false ∷ []))
     ∷ Row.answers (twoOfANet ++ from disconnected 34 3)
-    (Call.onKey (key 34) (KeyCall.insertOrUpdate (addressed 3 0) 0 0 0) ∷ Call.onKey (key 35) (KeyCall.insertOrUpdate (addressed 3 0) 0 1 0)
-    ∷ Call.onKey (key 36) (KeyCall.insertOrUpdate (addressed 3 0) 1 0 0) ∷ [])
+    (Call.onKey (key 34) (KeyCall.insertOrUpdate (addressed 3 0) 0 0 0 noHours) ∷ Call.onKey (key 35) (KeyCall.insertOrUpdate (addressed 3 0) 0 1 0 noHours)
+    ∷ Call.onKey (key 36) (KeyCall.insertOrUpdate (addressed 3 0) 1 0 0 noHours) ∷ [])
     (replicate 3 (insertFailed FailureReason.BucketFilter))
     -- insert_or_update on a key that is not held
     ∷ Row.answers (twoOfANet ++ from disconnected 34 14)
-    (Call.onKey (key 48) (KeyCall.insertOrUpdate (addressed 3 0) 0 0 0) ∷ insertWith 48 48 0 0 ∷ insertWith 48 48 1 0 ∷ [])
+    (Call.onKey (key 48) (KeyCall.insertOrUpdate (addressed 3 0) 0 0 0 noHours) ∷ insertWith 48 48 0 0 ∷ insertWith 48 48 1 0 ∷ [])
     (map Answer.InsertOrUpdate (InsertResult.Failed FailureReason.BucketFilter ∷ InsertResult.Failed FailureReason.BucketFull ∷ InsertResult.Pending 32 ∷ []))
     ∷ Row.answers (start 0 0 0 ∷ []) (insertWith 32 32 1 1 ∷ []) (insertFailed FailureReason.TooManyIncoming ∷ [])
     -- insert_or_update sets the direction, update_node leaves it; an entry's update leaves one that is not given
@@ -486,7 +486,7 @@ cases =
     -- a connected node keeps its place with another value
     ∷ Row.places (start 16 0 0 ∷ connected 32 ∷ connected 33 ∷ updateNode 32 7 2 ∷ []) 5 (nodeOf (key 32) (plain 7) 1 0 ∷ nodeOf (key 33) (plain 33) 1 0 ∷ [])
     -- an entry's insert applies no pending
-    ∷ Row.answers pendingAt100 (Call.onKey (key 49) (KeyCall.absentInsert (plain 49) 1 0 60100) ∷ Call.takeAppliedPending ∷ []) (Answer.Insert BucketInsertResult.Full ∷ noRecord ∷ [])
+    ∷ Row.answers pendingAt100 (Call.onKey (key 49) (KeyCall.absentInsert (plain 49) 1 0 60100 noHours) ∷ Call.takeAppliedPending ∷ []) (Answer.Insert BucketInsertResult.Full ∷ noRecord ∷ [])
     -- the first connected place
     ∷ Row.firstConnectedPlace (start 16 0 0 ∷ disconnected 32 ∷ disconnected 33 ∷ connected 34 ∷ connected 35 ∷ []) 5 (some 2)
     ∷ Row.firstConnectedPlace (start 16 0 0 ∷ connected 32 ∷ []) 5 (some 0)
@@ -546,10 +546,10 @@ cases =
     -- place 0 given Connected by each call that has a status step, also where the step fails or the status was the same
     ∷ Row.adds pendingAt100 (Call.onKey (key 32) (KeyCall.updateNodeStatus 1 2 100)) (ends 48 Ending.FirstConfirmed ∷ [])
     ∷ Row.adds pendingAt100 (Call.onKey (key 32) (KeyCall.updateNode (plain 7) 1 100)) (ends 48 Ending.FirstConfirmed ∷ [])
-    ∷ Row.adds pendingAt100 (Call.onKey (key 32) (KeyCall.insertOrUpdate (plain 32) 1 0 100)) (ends 48 Ending.FirstConfirmed ∷ [])
+    ∷ Row.adds pendingAt100 (Call.onKey (key 32) (KeyCall.insertOrUpdate (plain 32) 1 0 100 noHours)) (ends 48 Ending.FirstConfirmed ∷ [])
     ∷ Row.adds pendingAt100 (Call.onKey (key 32) (KeyCall.presentUpdate 1 2)) (ends 48 Ending.FirstConfirmed ∷ [])
     ∷ Row.adds (pendingIncoming 0) (Call.onKey (key 32) (KeyCall.presentUpdate 1 1)) (ends 48 Ending.FirstConfirmed ∷ [])
-    ∷ Row.adds (pendingIncoming 0) (Call.onKey (key 32) (KeyCall.insertOrUpdate (plain 32) 1 1 0)) (ends 48 Ending.FirstConfirmed ∷ [])
+    ∷ Row.adds (pendingIncoming 0) (Call.onKey (key 32) (KeyCall.insertOrUpdate (plain 32) 1 1 0 noHours)) (ends 48 Ending.FirstConfirmed ∷ [])
     ∷ Row.adds (pendingOverOne ++ (Call.onKey (key 32) (KeyCall.remove 0) ∷ [])) (Call.onKey (key 33) (KeyCall.presentUpdate 1 2)) (ends 48 Ending.FirstConfirmed ∷ [])
     -- a due one has been ended by then, with the record that applying it left
     ∷ Row.adds pendingAt100 (Call.onKey (key 33) (KeyCall.updateNodeStatus 1 2 60100)) (recordOf 48 32 ∷ [])
@@ -559,12 +559,12 @@ cases =
     ∷ Row.adds pendingAt100 (Call.onKey (key 32) (KeyCall.updateNode (plain 7) 2 100)) []
     ∷ Row.adds (thirdPending ++ (Call.onKey (key 34) (KeyCall.updateNode (addressed 2 0) 2 0) ∷ [])) (Call.onKey (key 32) (KeyCall.updateNode (addressed 5 0) 1 0)) []
     ∷ Row.adds pendingAt100 (Call.onKey (key 32) (KeyCall.remove 100)) []
-    ∷ Row.adds pendingAt100 (Call.onKey (key 49) (KeyCall.absentInsert (plain 49) 1 0 60100)) []
+    ∷ Row.adds pendingAt100 (Call.onKey (key 49) (KeyCall.absentInsert (plain 49) 1 0 60100 noHours)) []
     ∷ Row.adds pendingAt100 (Call.onKey (key 48) (KeyCall.pendingUpdate 0 0)) []
     -- new leaves no record of the pendings that it ends
     ∷ Row.adds twoPending (start 16 0 0) []
     -- a direct insert of another key leaves the pending
-    ∷ Row.adds (pendingAt100 ++ (Call.onKey (key 33) (KeyCall.remove 100) ∷ [])) (Call.onKey (key 49) (KeyCall.insertOrUpdate (plain 49) 1 0 100)) []
+    ∷ Row.adds (pendingAt100 ++ (Call.onKey (key 33) (KeyCall.remove 100) ∷ [])) (Call.onKey (key 49) (KeyCall.insertOrUpdate (plain 49) 1 0 100 noHours)) []
     -- a dropped pending neither counts in the applying pass nor stops it; given twice, its distance yields one record
     ∷ Row.adds (thirdPending ++ (from disconnected 64 16 ++ (connected 80 ∷ [])))
     (Call.list (Listing.nodesByDistances (6 ∷ 6 ∷ 7 ∷ [])) 16 60000 (zeros (16 * nodeSize))) (ends 48 Ending.BucketFilter ∷ recordOf 80 64 ∷ [])
@@ -581,24 +581,24 @@ cases =
     ∷ Row.writes threeNodes (Listing.closestValuesPredicate (key 4) (predicate 2)) 1 (zeros (keySize + 1 + valueSize)) (key 4 ++ (1 ∷ 1 ∷ 10 ∷ 0 ∷ 0 ∷ 4 ∷ bytes slotSize 7))
     ∷ Row.writes threeNodes (Listing.closestValuesPredicate (key 6) (predicate 2)) 1 (replicate (keySize + 1 + valueSize + 9) 9)
     (key 6 ++ (0 ∷ (zeros 5 ++ (bytes slotSize 7 ++ replicate 9 9))))
-    ∷ Row.writes (start 1 0 0 ∷ Call.onKey (key 32) (KeyCall.absentInsert (addressed 9 (256 ^ slotSize - 1)) 1 1 0) ∷ []) Listing.iter 2 (replicate (2 * nodeSize) 9)
+    ∷ Row.writes (start 1 0 0 ∷ Call.onKey (key 32) (KeyCall.absentInsert (addressed 9 (256 ^ slotSize - 1)) 1 1 0 noHours) ∷ []) Listing.iter 2 (replicate (2 * nodeSize) 9)
     (key 32 ++ (1 ∷ 1 ∷ 1 ∷ 10 ∷ 0 ∷ 0 ∷ 9 ∷ (replicate slotSize 255 ++ replicate nodeSize 9)))
     -- the predicates
     ∷ Row.matches threeNodes 5 (predicate 0) 4 (true ∷ true ∷ true ∷ true ∷ [])
     ∷ Row.matches threeNodes 5 (predicate 1) 4 (true ∷ false ∷ true ∷ true ∷ [])
     ∷ Row.matches threeNodes 5 (predicate 2) 4 (true ∷ false ∷ false ∷ false ∷ [])
     ∷ Row.matches threeNodes 5 (predicate 3) 4 (true ∷ true ∷ false ∷ false ∷ [])
-    ∷ Row.matches (start 16 0 0 ∷ Call.onKey (key 32) (KeyCall.absentInsert octets 0 0 0) ∷ []) 32 (net 1 2 3) 1 (true ∷ [])
-    ∷ Row.matches (start 16 0 0 ∷ Call.onKey (key 32) (KeyCall.absentInsert octets 0 0 0) ∷ []) 32 (net 2 2 3) 1 (false ∷ [])
-    ∷ Row.matches (start 16 0 0 ∷ Call.onKey (key 32) (KeyCall.absentInsert octets 0 0 0) ∷ []) 32 (net 1 3 3) 1 (false ∷ [])
+    ∷ Row.matches (start 16 0 0 ∷ Call.onKey (key 32) (KeyCall.absentInsert octets 0 0 0 noHours) ∷ []) 32 (net 1 2 3) 1 (true ∷ [])
+    ∷ Row.matches (start 16 0 0 ∷ Call.onKey (key 32) (KeyCall.absentInsert octets 0 0 0 noHours) ∷ []) 32 (net 2 2 3) 1 (false ∷ [])
+    ∷ Row.matches (start 16 0 0 ∷ Call.onKey (key 32) (KeyCall.absentInsert octets 0 0 0 noHours) ∷ []) 32 (net 1 3 3) 1 (false ∷ [])
     -- no further bucket is visited after the n-th item: the due pending of bucket 5 stays, then it is applied
     ∷ Row.answers (pendingAt100 ++ (disconnected 1 ∷ []))
     (Call.list Listing.iter 1 60100 (zeros nodeSize) ∷ Call.takeAppliedPending ∷ Call.list Listing.iter 2 60100 (zeros (2 * nodeSize)) ∷ Call.takeAppliedPending ∷ [])
     (Answer.Found 1 ∷ noRecord ∷ Answer.Found 2 ∷ evicting 48 32 ∷ [])
     -- Insert, first match: FailedFilter before TooManyIncoming, TooManyIncoming before Full
-    ∷ Row.answers (start 0 0 1 ∷ Call.onKey (key 32) (KeyCall.absentInsert (addressed 1 0) 0 0 0) ∷ Call.onKey (key 33) (KeyCall.absentInsert (addressed 2 0) 0 0 0) ∷ [])
-    (Call.onKey (key 34) (KeyCall.absentInsert (addressed 3 0) 1 1 0) ∷ []) (Answer.Insert BucketInsertResult.FailedFilter ∷ [])
-    ∷ Row.answers (start 0 0 0 ∷ from disconnected 32 16) (Call.onKey (key 48) (KeyCall.absentInsert (plain 48) 1 1 0) ∷ [])
+    ∷ Row.answers (start 0 0 1 ∷ Call.onKey (key 32) (KeyCall.absentInsert (addressed 1 0) 0 0 0 noHours) ∷ Call.onKey (key 33) (KeyCall.absentInsert (addressed 2 0) 0 0 0 noHours) ∷ [])
+    (Call.onKey (key 34) (KeyCall.absentInsert (addressed 3 0) 1 1 0 noHours) ∷ []) (Answer.Insert BucketInsertResult.FailedFilter ∷ [])
+    ∷ Row.answers (start 0 0 0 ∷ from disconnected 32 16) (Call.onKey (key 48) (KeyCall.absentInsert (plain 48) 1 1 0 noHours) ∷ [])
     (Answer.Insert BucketInsertResult.TooManyIncoming ∷ [])
     -- a due pending is dropped: 16 held and the bucket filter fails; a free place and the filter fails; 16 held and at the maximum
     ∷ Row.answers thirdPending (Call.onKey (key 48) (KeyCall.entry 60000) ∷ Call.takeAppliedPending ∷ []) (absent ∷ taken 48 Ending.BucketFilter ∷ [])
@@ -721,8 +721,8 @@ questionCases =
     ∷ Row.refuses pendingAt100 (Call.onKey (key 48) (KeyCall.presentUpdate 0 2)) 7
     ∷ Row.refuses pendingAt100 (Call.onKey (key 49) (KeyCall.presentUpdate 0 2)) 7
     ∷ Row.refuses pendingAt100 (Call.onKey (key 32) (KeyCall.pendingUpdate 0 0)) 7
-    ∷ Row.refuses pendingAt100 (Call.onKey (key 32) (KeyCall.absentInsert (plain 32) 0 0 0)) 7
-    ∷ Row.refuses pendingAt100 (Call.onKey (key 48) (KeyCall.absentInsert (plain 48) 0 0 60100)) 7
+    ∷ Row.refuses pendingAt100 (Call.onKey (key 32) (KeyCall.absentInsert (plain 32) 0 0 0 noHours)) 7
+    ∷ Row.refuses pendingAt100 (Call.onKey (key 48) (KeyCall.absentInsert (plain 48) 0 0 60100 noHours)) 7
     -- question 8: the 64th record fits, the next does not
     ∷ Row.answers (fullAtOnce ++ (applied 272 63 ++ (connected 335 ∷ []))) (settle 335 ∷ []) (Answer.Update UpdateResult.Updated ∷ [])
     ∷ Row.refuses (fullAtOnce ++ (applied 272 64 ++ (connected 336 ∷ []))) (settle 336) 8

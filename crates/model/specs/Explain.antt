@@ -181,13 +181,13 @@ bucketReason (KeyCall.updateNodeStatus st dr now) k t i = statusReason (t .setti
 bucketReason (KeyCall.updateNode v st now) k t i =
     cond (failsTableFilter t i (number k) (valueOf v)) (tableFilterReason (number k) (valueOf v) (t .buckets))
     (updateNodeReason (t .settings .bucket) (number k) (valueOf v) (optional st) (applied now t i))
-bucketReason (KeyCall.insertOrUpdate v st dr now) k t i =
+bucketReason (KeyCall.insertOrUpdate v st dr now hs) k t i =
     cond (failsTableFilter t i (number k) (valueOf v)) (tableFilterReason (number k) (valueOf v) (t .buckets))
     (insertOrUpdateReason (t .settings .bucket) (nodeOf k v st dr) (applied now t i))
 bucketReason (KeyCall.remove now) k t i = removeReason (number k) (applied now t i)
 bucketReason (KeyCall.presentUpdate st dr) k t i = statusReason (t .settings .bucket) (number k) (isOne st) (optional dr) (t .buckets i)
 bucketReason (KeyCall.pendingUpdate st dr) k t i = Reason.None
-bucketReason (KeyCall.absentInsert v st dr now) k t i = insertReason (t .settings .bucket) (nodeOf k v st dr) (t .buckets i)
+bucketReason (KeyCall.absentInsert v st dr now hs) k t i = insertReason (t .settings .bucket) (nodeOf k v st dr) (t .buckets i)
 -- never read: `entry` is not explained
 bucketReason (KeyCall.entry now) k t i = Reason.None
 

@@ -8,7 +8,7 @@ use Rattle.model.specs.Bytes.{bytes, splice, zeros}
 use Rattle.model.specs.Result.{FailureReason, Reply}
 use Rattle.model.specs.Table.{Table}
 use Rattle.model.specs.Sizes.{maxIncomingAt, storageSize}
-use Rattle.model.specs.Call.{ValueArgument, Call, KeyCall}
+use Rattle.model.specs.Call.{ValueArgument, Call, KeyCall, noHours}
 use Rattle.model.specs.Step.{questions, step}
 use Rattle.model.specs.Numbers.{sameNumbers}
 use Rattle.model.specs.Explain.{Told, Reason, told, explanation, toldText, line, explained, explainBytes}
@@ -61,10 +61,10 @@ abbrev updateNode : ValueArgument → (state : ℕ) → KeyCall
 updateNode v st = KeyCall.updateNode v st 0
 
 abbrev insertOrUpdate : ValueArgument → (state direction : ℕ) → KeyCall
-insertOrUpdate v st dr = KeyCall.insertOrUpdate v st dr 0
+insertOrUpdate v st dr = KeyCall.insertOrUpdate v st dr 0 noHours
 
 abbrev absentInsert : ValueArgument → (state direction : ℕ) → KeyCall
-absentInsert v st dr = KeyCall.absentInsert v st dr 0
+absentInsert v st dr = KeyCall.absentInsert v st dr 0 noHours
 
 abbrev remove : KeyCall
 remove = KeyCall.remove 0
@@ -153,7 +153,7 @@ explainCases =
     ∷ ExplainRow.explains (start 16 1 0 ∷ member 64 ∷ Call.onKey (key 33) (absentInsert (addressed 33 0) 1 0) ∷ member 16 ∷ member 32 ∷ from member 34 8) 65 (insertOrUpdate (addressed 64 0) 1 0) (Told.Failed FailureReason.TableFilter) (Reason.TableFilter (16 ∷ 32 ∷ from (λ x. x) 34 8))
     -- as the table was found: the due pending would take the place of 32
     ∷ ExplainRow.explains tenAndPending 49 (KeyCall.updateNode (addressed 49 0) 2 60000) (Told.Failed FailureReason.TableFilter) (Reason.TableFilter (numbers 32 10))
-    ∷ ExplainRow.explains tenAndPending 49 (KeyCall.insertOrUpdate (addressed 49 0) 0 0 60000) (Told.Failed FailureReason.TableFilter) (Reason.TableFilter (numbers 32 10))
+    ∷ ExplainRow.explains tenAndPending 49 (KeyCall.insertOrUpdate (addressed 49 0) 0 0 60000 noHours) (Told.Failed FailureReason.TableFilter) (Reason.TableFilter (numbers 32 10))
     -- bucket filter: two keys, the first two where three count, not the node itself; a status step, a value's step, an insert
     ∷ ExplainRow.explains oneBetweenEquals 33 (updateNodeStatus 1 2) (Told.Failed FailureReason.BucketFilter) (Reason.BucketFilter (32 ∷ 34 ∷ []))
     ∷ ExplainRow.explains oneBetweenEquals 33 (KeyCall.presentUpdate 1 2) (Told.Failed FailureReason.BucketFilter) (Reason.BucketFilter (32 ∷ 34 ∷ []))
@@ -196,9 +196,9 @@ explainCases =
     ∷ ExplainRow.explains pendingOverOne 50 (absentInsert (plain 50) 1 0) Told.Full (Reason.Pending 48)
     ∷ ExplainRow.explains pendingOverOne 48 (insertOrUpdate (plain 48) 1 0) (Told.Failed FailureReason.BucketFull) (Reason.Pending 48)
     -- a due pending is applied first, by an entry action not
-    ∷ ExplainRow.explains pendingAt100 49 (KeyCall.insertOrUpdate (plain 49) 1 0 60099) (Told.Failed FailureReason.BucketFull) (Reason.Pending 48)
-    ∷ ExplainRow.explains pendingAt100 49 (KeyCall.insertOrUpdate (plain 49) 1 0 60100) (Told.Pending 33) Reason.None
-    ∷ ExplainRow.explains pendingAt100 49 (KeyCall.absentInsert (plain 49) 1 0 60100) Told.Full (Reason.Pending 48)
+    ∷ ExplainRow.explains pendingAt100 49 (KeyCall.insertOrUpdate (plain 49) 1 0 60099 noHours) (Told.Failed FailureReason.BucketFull) (Reason.Pending 48)
+    ∷ ExplainRow.explains pendingAt100 49 (KeyCall.insertOrUpdate (plain 49) 1 0 60100 noHours) (Told.Pending 33) Reason.None
+    ∷ ExplainRow.explains pendingAt100 49 (KeyCall.absentInsert (plain 49) 1 0 60100 noHours) Told.Full (Reason.Pending 48)
     ∷ ExplainRow.explains pendingAt100 48 (KeyCall.remove 60100) (Told.Removed true) Reason.None
     ∷ ExplainRow.explains pendingAt100 32 (KeyCall.updateNodeStatus 1 2 60100) (Told.Failed FailureReason.KeyNonExistent) Reason.NoSuchKey
     -- no such key: neither held nor pending, for remove not held
@@ -276,7 +276,7 @@ explainCases =
     ∷ ExplainRow.refuses single (key 0) (KeyCall.pendingUpdate 1 0) 2048 7
     ∷ ExplainRow.refuses single (key 32) (absentInsert (plain 32) 0 0) 2048 7
     ∷ ExplainRow.refuses single (key 0) (absentInsert (plain 0) 0 0) 2048 7
-    ∷ ExplainRow.refuses pendingAt100 (key 48) (KeyCall.absentInsert (plain 48) 1 0 60100) 2048 7
+    ∷ ExplainRow.refuses pendingAt100 (key 48) (KeyCall.absentInsert (plain 48) 1 0 60100 noHours) 2048 7
     ∷ ExplainRow.refuses (fullAtOnce ++ (applied 272 64 ++ (connected 336 ∷ []))) (key 336) (updateNodeStatus 0 2) 2048 8
     -- 1: a storage of five bytes, before all others
     ∷ ExplainRow.refusesBytes (zeros 5) (bytes 31 32) (updateNodeStatus 2 2) 0 1

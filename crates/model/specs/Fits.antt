@@ -115,12 +115,12 @@ FitsListing (Listing.closestValuesPredicate x p) = Bytes x
 abbrev pub FitsKeyCall : KeyCall → Type 0
 FitsKeyCall (KeyCall.updateNodeStatus st dr now) = Unit {0}
 FitsKeyCall (KeyCall.updateNode v st now) = FitsArgument v
-FitsKeyCall (KeyCall.insertOrUpdate v st dr now) = FitsArgument v
+FitsKeyCall (KeyCall.insertOrUpdate v st dr now hs) = FitsArgument v
 FitsKeyCall (KeyCall.remove now) = Unit {0}
 FitsKeyCall (KeyCall.entry now) = Unit {0}
 FitsKeyCall (KeyCall.presentUpdate st dr) = Unit {0}
 FitsKeyCall (KeyCall.pendingUpdate st dr) = Unit {0}
-FitsKeyCall (KeyCall.absentInsert v st dr now) = FitsArgument v
+FitsKeyCall (KeyCall.absentInsert v st dr now hs) = FitsArgument v
 
 abbrev pub FitsCall : Call → Type 0
 FitsCall (Call.new k timeout m tf bf) = Bytes k × (timeout < 256 ^ timeSize)

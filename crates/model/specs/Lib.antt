@@ -11,6 +11,7 @@ pub mod Table
 pub mod Sort
 pub mod Visit
 pub mod Sizes
+pub mod Session
 pub mod Call
 pub mod Listing
 pub mod Question
@@ -28,3 +29,5 @@ pub mod Cases
 pub mod ExplainCases
 pub mod ReadsCases
 pub mod SavedCases
+pub mod HoursCases
+pub mod SessionCases

@@ -1,7 +1,7 @@
 -- What each call is asked (01, "The gatekeeper's questions"). Where a call lacks what a question is about, the test holds. Questions
 -- 1 and 2 are asked of the storage's bytes, in StepBytes.
 use Prim.Native.Nat.{ℕ, _+_, _-_, _*_, _^_}
-use mathlib.Core.Bool.{Bool, true, false, cond, _&&_, _||_}
+use mathlib.Core.Bool.{Bool, true, false, cond, not, _&&_, _||_}
 use mathlib.Core.List.{List, [], _∷_}
 use mathlib.Core.Option.{Option, none, some}
 use lib.ListN.{length}
@@ -11,6 +11,7 @@ use Rattle.model.specs.Bytes.{number}
 use Rattle.model.specs.Bucket.{maxNodesPerBucket}
 use Rattle.model.specs.Table.{Table, EntryKind, kindIn, indexIn}
 use Rattle.model.specs.Sizes.{keySize, valueSize, nodeSize}
+use Rattle.model.specs.Session.{Session, hoursFit, admits}
 use Rattle.model.specs.Call.{ValueArgument, Listing, Call, KeyCall}
 use Rattle.model.specs.Listing.{most}
 
@@ -95,39 +96,65 @@ pub record Arguments : Type 0 where
   pub room : Bool
   -- 7: the key is of the kind that it needs
   pub kind : Table → Bool
+  -- 10 and 11: the session hours, if it is given them
+  pub hours : Option Session
+  -- 11: the key is the local one, or is held or pending
+  pub known : Table → Bool
   -- the lent output; empty where there is none
   pub output : List ℕ
-
-abbrev pub onOneKey : List ℕ → Bool → Option ℕ → (EntryKind → Bool) → Arguments
-onOneKey k codes now kind =
-    record { table = true; keys = k ∷ []; codes = codes; now = now; room = true; kind = λ t. kind (kindOfKey k t); output = [] }
 
 -- the same in a call on one key
 pub record KeyArguments : Type 0 where
   pub codes : Bool
   pub now : Option ℕ
   pub kind : EntryKind → Bool
+  pub hours : Option Session
 
 -- 01, question 4: state and direction 0 or 1, 2 for "not given" where the Rust has Option
 abbrev pub keyArguments : KeyCall → KeyArguments
-keyArguments (KeyCall.updateNodeStatus st dr now) = record { codes = leb st 1 && leb dr 2; now = some now; kind = anyKind }
-keyArguments (KeyCall.updateNode v st now) = record { codes = valueInRange v && leb st 2; now = some now; kind = anyKind }
-keyArguments (KeyCall.insertOrUpdate v st dr now) = record { codes = valueInRange v && (leb st 1 && leb dr 1); now = some now; kind = anyKind }
-keyArguments (KeyCall.remove now) = record { codes = true; now = some now; kind = anyKind }
-keyArguments (KeyCall.entry now) = record { codes = true; now = some now; kind = anyKind }
-keyArguments (KeyCall.presentUpdate st dr) = record { codes = leb st 1 && leb dr 2; now = none; kind = isPresent }
-keyArguments (KeyCall.pendingUpdate st dr) = record { codes = leb st 1 && leb dr 1; now = none; kind = isPending }
-keyArguments (KeyCall.absentInsert v st dr now) = record { codes = valueInRange v && (leb st 1 && leb dr 1); now = some now; kind = isAbsent }
+keyArguments (KeyCall.updateNodeStatus st dr now) = record { codes = leb st 1 && leb dr 2; now = some now; kind = anyKind; hours = none }
+keyArguments (KeyCall.updateNode v st now) = record { codes = valueInRange v && leb st 2; now = some now; kind = anyKind; hours = none }
+keyArguments (KeyCall.insertOrUpdate v st dr now hs) = record { codes = valueInRange v && (leb st 1 && leb dr 1); now = some now; kind = anyKind; hours = some hs }
+keyArguments (KeyCall.remove now) = record { codes = true; now = some now; kind = anyKind; hours = none }
+keyArguments (KeyCall.entry now) = record { codes = true; now = some now; kind = anyKind; hours = none }
+keyArguments (KeyCall.presentUpdate st dr) = record { codes = leb st 1 && leb dr 2; now = none; kind = isPresent; hours = none }
+keyArguments (KeyCall.pendingUpdate st dr) = record { codes = leb st 1 && leb dr 1; now = none; kind = isPending; hours = none }
+keyArguments (KeyCall.absentInsert v st dr now hs) = record { codes = valueInRange v && (leb st 1 && leb dr 1); now = some now; kind = isAbsent; hours = some hs }
+
+abbrev pub onOneKey : List ℕ → KeyArguments → Arguments
+onOneKey k a =
+    record {
+      table = true;
+      keys = k ∷ [];
+      codes = a .codes;
+      now = a .now;
+      room = true;
+      kind = λ t. a .kind (kindOfKey k t);
+      hours = a .hours;
+      known = λ t. not (isAbsent (kindOfKey k t));
+      output = [];
+    }
 
 -- a call that is asked of the storage alone before 8
 abbrev pub onStorage : Arguments
-onStorage = record { table = true; keys = []; codes = true; now = none; room = true; kind = λ t. true; output = [] }
+onStorage =
+    record { table = true; keys = []; codes = true; now = none; room = true; kind = λ t. true; hours = none; known = λ t. true; output = [] }
 
 -- 01, question 4: filters 0 or 1; max_incoming 0 to 16
 abbrev pub arguments : Call → Arguments
 arguments (Call.new k timeout m tf bf) =
-    record { table = false; keys = k ∷ []; codes = leb m maxNodesPerBucket && (leb tf 1 && leb bf 1); now = none; room = true; kind = λ t. true; output = [] }
-arguments (Call.onKey k c) = onOneKey k (keyArguments c .codes) (keyArguments c .now) (keyArguments c .kind)
+    record {
+      table = false;
+      keys = k ∷ [];
+      codes = leb m maxNodesPerBucket && (leb tf 1 && leb bf 1);
+      now = none;
+      room = true;
+      kind = λ t. true;
+      hours = none;
+      known = λ t. true;
+      output = [];
+    }
+arguments (Call.onKey k c) = onOneKey k (keyArguments c)
 arguments (Call.list l n now out) =
     record {
       table = true;
@@ -136,6 +163,8 @@ arguments (Call.list l n now out) =
       now = some now;
       room = leb n maxCount && leb (most l n * entrySize l) (length out);
       kind = λ t. true;
+      hours = none;
+      known = λ t. true;
       output = out;
     }
 arguments Call.takeAppliedPending = onStorage
@@ -165,3 +194,19 @@ outputFits c = arguments c .room
 -- 7: is the key now of the kind the entry action needs?
 unfoldable pub kindFits : Call → Table → Bool
 kindFits c t = arguments c .kind t
+
+abbrev pub inRange : Option Session → Bool
+inRange none = true
+inRange (some x) = hoursFit x
+
+-- 10 (02, slip 8): are date, minute, windows and lists what 02 says?
+abbrev pub hoursInRange : Call → Bool
+hoursInRange c = inRange (arguments c .hours)
+
+abbrev pub admitsIn : Option Session → (known : Bool) → Bool
+admitsIn none known = true
+admitsIn (some x) known = admits x known
+
+-- 11 (02, slip 8): is the key known as stored, nothing applied, or is it open?
+abbrev pub admitted : Call → Table → Bool
+admitted c t = admitsIn (arguments c .hours) (arguments c .known t)

@@ -5,7 +5,7 @@ use mathlib.Core.Bool.{Bool, not}
 use mathlib.Core.List.{List, [], _∷_, _++_, map}
 use Rattle.model.specs.Bytes.{zeros}
 use Rattle.model.specs.Sizes.{bucketSize, bucketAt}
-use Rattle.model.specs.Call.{Listing, Call, KeyCall}
+use Rattle.model.specs.Call.{Listing, Call, KeyCall, noHours}
 use Rattle.model.specs.Formed.{bucketsFormed}
 use Rattle.model.specs.StepBytes.{everyBucket, reads, allQuestions, writeQuestions}
 use Rattle.model.specs.Numbers.{sameNumbers}
@@ -22,7 +22,7 @@ abbrev updateNode : (key slot : ℕ) → Call
 updateNode k slot = Call.onKey (key k) (KeyCall.updateNode (plain slot) 2 0)
 
 abbrev insertOrUpdate : (key slot : ℕ) → Call
-insertOrUpdate k slot = Call.onKey (key k) (KeyCall.insertOrUpdate (plain slot) 1 0 0)
+insertOrUpdate k slot = Call.onKey (key k) (KeyCall.insertOrUpdate (plain slot) 1 0 0 noHours)
 
 abbrev list : Listing → (n now : ℕ) → Call
 list l n now = Call.list l n now []
@@ -73,7 +73,7 @@ readsCases =
     ∷ areRead (held 0) Call.takeAppliedPending []
     ∷ areRead (held 0) (start 16 0 0) []
     -- 2 of the buckets is asked after 6; of the writer before it
-    ∷ sameNumbers (numbersOf (allQuestions (updateNode 32 7) [])) (1 ∷ 2 ∷ 3 ∷ 4 ∷ 5 ∷ 6 ∷ 2 ∷ 7 ∷ 8 ∷ 9 ∷ [])
+    ∷ sameNumbers (numbersOf (allQuestions (updateNode 32 7) [])) (1 ∷ 2 ∷ 3 ∷ 4 ∷ 5 ∷ 6 ∷ 2 ∷ 7 ∷ 8 ∷ 9 ∷ 10 ∷ 11 ∷ [])
     ∷ sameNumbers (numbersOf (writeQuestions [] [])) (1 ∷ 2 ∷ 6 ∷ [])
     -- and is about those that are read, each of them
     ∷ bucketsFormed malformedOne (0 ∷ [])

@@ -15,7 +15,7 @@ use Rattle.model.specs.Bucket.{nodes, firstConnectedPos, remove}
 use Rattle.model.specs.Table.{Table, EntryKind, Answer, emptyTable}
 use Rattle.model.specs.Visit.{visits}
 use Rattle.model.specs.Sizes.{keySize, valueSize, nodeSize, recordSize, bucketSize, recordsAt, headerSize, bucketAt, storageSize}
-use Rattle.model.specs.Call.{ValueArgument, PredicateArgument, Listing, Call, KeyCall}
+use Rattle.model.specs.Call.{ValueArgument, PredicateArgument, Listing, Call, KeyCall, noHours}
 use Rattle.model.specs.Listing.{Item, most}
 use Rattle.model.specs.Question.{entrySize}
 use Rattle.model.specs.Step.{nodeOf, step}
@@ -190,10 +190,10 @@ start m tf bf = Call.new (key 0) 60000 m tf bf
 
 -- state 0 disconnected, 1 connected; direction 0 outgoing, 1 incoming; outgoing at time 0 where nothing is said. The slot is the key.
 abbrev pub disconnected : ℕ → Call
-disconnected k = Call.onKey (key k) (KeyCall.absentInsert (plain k) 0 0 0)
+disconnected k = Call.onKey (key k) (KeyCall.absentInsert (plain k) 0 0 0 noHours)
 
 abbrev pub connected : ℕ → Call
-connected k = Call.onKey (key k) (KeyCall.absentInsert (plain k) 1 0 0)
+connected k = Call.onKey (key k) (KeyCall.absentInsert (plain k) 1 0 0 noHours)
 
 -- f of the n keys from k on
 abbrev pub from : {A : Type 0} → (ℕ → A) → ℕ → ℕ → List A
@@ -202,14 +202,14 @@ from f k (suc n) = f k ∷ from f (suc k) n
 
 -- bucket 5 full of disconnected nodes, and 48 pending since time 100
 abbrev pub pendingAt100 : List Call
-pendingAt100 = start 16 0 0 ∷ (from disconnected 32 16 ++ (Call.onKey (key 48) (KeyCall.absentInsert (plain 48) 1 0 100) ∷ []))
+pendingAt100 = start 16 0 0 ∷ (from disconnected 32 16 ++ (Call.onKey (key 48) (KeyCall.absentInsert (plain 48) 1 0 100 noHours) ∷ []))
 
 -- bucket filter on; 10.0.0.1 and 10.0.0.2 are held, once each
 abbrev pub twoOfANet : List Call
 twoOfANet =
     start 16 0 1
-    ∷ Call.onKey (key 32) (KeyCall.absentInsert (addressed 1 0) 0 0 0)
-    ∷ Call.onKey (key 33) (KeyCall.absentInsert (addressed 2 0) 0 0 0)
+    ∷ Call.onKey (key 32) (KeyCall.absentInsert (addressed 1 0) 0 0 0 noHours)
+    ∷ Call.onKey (key 33) (KeyCall.absentInsert (addressed 2 0) 0 0 0 noHours)
     ∷ []
 
 unfoldable pub rows : List Row
@@ -233,8 +233,8 @@ rows =
     -- 7: two disconnected then one connected; connected removed
     ∷ Row.firstConnectedPlace (start 16 0 0 ∷ disconnected 32 ∷ disconnected 33 ∷ connected 34 ∷ Call.onKey (key 34) (KeyCall.remove 0) ∷ []) 5 none
     -- 8: max_incoming 0; connected incoming; disconnected incoming
-    ∷ Row.answers (start 0 0 0 ∷ []) (Call.onKey (key 32) (KeyCall.absentInsert (plain 32) 1 1 0) ∷ []) (Answer.Insert BucketInsertResult.TooManyIncoming ∷ [])
-    ∷ Row.answers (start 0 0 0 ∷ []) (Call.onKey (key 32) (KeyCall.absentInsert (plain 32) 0 1 0) ∷ []) (Answer.Insert BucketInsertResult.Inserted ∷ [])
+    ∷ Row.answers (start 0 0 0 ∷ []) (Call.onKey (key 32) (KeyCall.absentInsert (plain 32) 1 1 0 noHours) ∷ []) (Answer.Insert BucketInsertResult.TooManyIncoming ∷ [])
+    ∷ Row.answers (start 0 0 0 ∷ []) (Call.onKey (key 32) (KeyCall.absentInsert (plain 32) 0 1 0 noHours) ∷ []) (Answer.Insert BucketInsertResult.Inserted ∷ [])
     -- 9: one disconnected, 15 connected; two new connected outgoing
     ∷ Row.answers (start 16 0 0 ∷ disconnected 32 ∷ from connected 33 15) (connected 48 ∷ connected 49 ∷ [])
     (Answer.Insert (BucketInsertResult.Pending 32) ∷ Answer.Insert BucketInsertResult.Full ∷ [])
@@ -246,6 +246,6 @@ rows =
     ∷ Row.lists (start 16 0 0 ∷ disconnected 4 ∷ []) (Listing.nodesByDistances (3 ∷ 3 ∷ 257 ∷ [])) 5 (4 ∷ 4 ∷ [])
     ∷ Row.lists (start 16 0 0 ∷ disconnected 4 ∷ []) (Listing.nodesByDistances (3 ∷ 3 ∷ 257 ∷ [])) 0 (4 ∷ [])
     -- 12: bucket filter on, unequal values V and W of a /24 held once each; a new disconnected key with a third value there; with W
-    ∷ Row.answers twoOfANet (Call.onKey (key 34) (KeyCall.absentInsert (addressed 3 0) 0 0 0) ∷ []) (Answer.Insert BucketInsertResult.FailedFilter ∷ [])
-    ∷ Row.answers twoOfANet (Call.onKey (key 34) (KeyCall.absentInsert (addressed 2 0) 0 0 0) ∷ []) (Answer.Insert BucketInsertResult.Inserted ∷ [])
+    ∷ Row.answers twoOfANet (Call.onKey (key 34) (KeyCall.absentInsert (addressed 3 0) 0 0 0 noHours) ∷ []) (Answer.Insert BucketInsertResult.FailedFilter ∷ [])
+    ∷ Row.answers twoOfANet (Call.onKey (key 34) (KeyCall.absentInsert (addressed 2 0) 0 0 0 noHours) ∷ []) (Answer.Insert BucketInsertResult.Inserted ∷ [])
     ∷ []

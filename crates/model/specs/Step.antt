@@ -12,7 +12,7 @@ use Rattle.model.specs.Bucket.{Bucket, insert, insertEndings, updateStat
 use Rattle.model.specs.Table.{Settings, Table, EntryKind, Answer, Effect, maxRecords, emptyTable, afterApplying, asStored, noEndings, failsTableFilter, updateNodeIn, updateNodeEndings, insertOrUpdateIn, insertOrUpdateEndings, kindOf, withQueue, write, indexIn}
 use Rattle.model.specs.Call.{ValueArgument, Call, KeyCall, isOne, optional, valueOf}
 use Rattle.model.specs.Listing.{Item, item, applyAll, applies, found}
-use Rattle.model.specs.Question.{firstFailed, keysFit, codesInRange, clockFits, outputFits, kindFits}
+use Rattle.model.specs.Question.{firstFailed, keysFit, codesInRange, clockFits, outputFits, kindFits, hoursInRange, admitted}
 use Rattle.model.specs.Saved.{savedCount, loadedTable, loadFits}
 
 pub record Outcome : Type 0 where
@@ -41,12 +41,12 @@ nodeOf k v state direction = record { key = number k; value = valueOf v; connect
 abbrev pub ownAnswer : KeyCall → Answer
 ownAnswer (KeyCall.updateNodeStatus st dr now) = Answer.Update UpdateResult.NotModified
 ownAnswer (KeyCall.updateNode v st now) = Answer.Update UpdateResult.NotModified
-ownAnswer (KeyCall.insertOrUpdate v st dr now) = Answer.InsertOrUpdate (InsertResult.Failed FailureReason.InvalidSelfUpdate)
+ownAnswer (KeyCall.insertOrUpdate v st dr now hs) = Answer.InsertOrUpdate (InsertResult.Failed FailureReason.InvalidSelfUpdate)
 ownAnswer (KeyCall.remove now) = Answer.Remove false
 ownAnswer (KeyCall.entry now) = Answer.Entry EntryKind.SelfEntry
 ownAnswer (KeyCall.presentUpdate st dr) = Answer.Refused 7
 ownAnswer (KeyCall.pendingUpdate st dr) = Answer.Refused 7
-ownAnswer (KeyCall.absentInsert v st dr now) = Answer.Refused 7
+ownAnswer (KeyCall.absentInsert v st dr now hs) = Answer.Refused 7
 
 -- what a call does to its key's bucket, of index i
 abbrev pub effect : KeyCall → (key : List ℕ) → Table → ℕ → Bucket → Effect
@@ -58,7 +58,7 @@ effect (KeyCall.updateNode v st now) k t i =
     let s = t .settings .bucket in
     afterApplying s now (updateNodeEndings s (failsTableFilter t i (number k) (valueOf v)) (number k) (valueOf v) (optional st))
     (updateNodeIn s (failsTableFilter t i (number k) (valueOf v)) now (number k) (valueOf v) (optional st))
-effect (KeyCall.insertOrUpdate v st dr now) k t i =
+effect (KeyCall.insertOrUpdate v st dr now hs) k t i =
     let s = t .settings .bucket in
     afterApplying s now (insertOrUpdateEndings s (failsTableFilter t i (number k) (valueOf v)) now (nodeOf k v st dr))
     (insertOrUpdateIn s (failsTableFilter t i (number k) (valueOf v)) now (nodeOf k v st dr))
@@ -70,7 +70,7 @@ effect (KeyCall.presentUpdate st dr) k t i =
     asStored (statusEndings (number k) (isOne st))
     (λ b. let r = updateStatus (t .settings .bucket) (number k) (isOne st) (optional dr) b in (Answer.Update (r .0), r .1))
 effect (KeyCall.pendingUpdate st dr) k t i = asStored noEndings (λ b. (Answer.Update UpdateResult.UpdatedPending, updatePending (isOne st) (isOne dr) b))
-effect (KeyCall.absentInsert v st dr now) k t i =
+effect (KeyCall.absentInsert v st dr now hs) k t i =
     let s = t .settings .bucket in
     asStored (λ b. insertEndings (nodeOf k v st dr) b (insert s now (nodeOf k v st dr) b .0))
     (λ b. let r = insert s now (nodeOf k v st dr) b in (Answer.Insert (r .0), r .1))
@@ -112,11 +112,12 @@ bytesFit (Call.list l n now out) t = true
 bytesFit Call.takeAppliedPending t = true
 bytesFit (Call.read bs) t = loadFits bs t
 
--- 01, questions 7 and 8, and 02's 9: of the buckets, the queue and the bytes given
+-- 01, questions 7 and 8, and 02's 9 to 11: of the buckets, the queue, the bytes given and the session hours
 abbrev pub late : Call → Table → List (ℕ × Bool)
-late c t = (7, kindFits c t) ∷ (8, queueFits c t) ∷ (9, bytesFit c t) ∷ []
+late c t =
+    (7, kindFits c t) ∷ (8, queueFits c t) ∷ (9, bytesFit c t) ∷ (10, hoursInRange c) ∷ (11, admitted c t) ∷ []
 
--- questions 3 to 9, in turn
+-- questions 3 to 11, in turn
 abbrev pub questions : Call → Table → List (ℕ × Bool)
 questions c t = early c t ++ late c t
 

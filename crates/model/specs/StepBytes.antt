@@ -35,12 +35,12 @@ everyBucket = tabulate numBuckets (λ i. i)
 abbrev pub filtered : KeyCall → Option Value
 filtered (KeyCall.updateNodeStatus st dr now) = none
 filtered (KeyCall.updateNode v st now) = some (valueOf v)
-filtered (KeyCall.insertOrUpdate v st dr now) = some (valueOf v)
+filtered (KeyCall.insertOrUpdate v st dr now hs) = some (valueOf v)
 filtered (KeyCall.remove now) = none
 filtered (KeyCall.entry now) = none
 filtered (KeyCall.presentUpdate st dr) = none
 filtered (KeyCall.pendingUpdate st dr) = none
-filtered (KeyCall.absentInsert v st dr now) = none
+filtered (KeyCall.absentInsert v st dr now hs) = none
 
 abbrev pub runsFilter : Table → ℕ → ℕ → Option Value → Bool
 runsFilter t i k none = false
@@ -63,7 +63,7 @@ reads (Call.read bs) t = everyBucket
 abbrev pub holdsHeader : Call → List ℕ → Bool
 holdsHeader c s = not (arguments c .table) || headerFormed s
 
--- questions 1 to 9, in turn; 02, slip 7: 2's part about buckets is asked after 6
+-- questions 1 to 11, in turn; 02, slip 7: 2's part about buckets is asked after 6
 abbrev pub allQuestions : Call → List ℕ → List (ℕ × Bool)
 allQuestions c s =
     (1, eqb (length s) storageSize)

@@ -17,7 +17,7 @@ use Rattle.model.specs.Bucket.{Bucket, BucketSettings, nodes, holds, ofKey, ins
 use Rattle.model.specs.Table.{Table, Answer, Effect, maxRecords, withQueue, noEndings, failsTableFilter, givenStatusEndings, updateNodeEndings, insertOrUpdateEndings}
 use Rattle.model.specs.Sizes.{bucketSize, bucketAt, storageSize}
 use Rattle.model.specs.Call.{Call, KeyCall, isOne, optional, valueOf}
-use Rattle.model.specs.Question.{keyArguments, kindOfKey}
+use Rattle.model.specs.Question.{firstFailed, keyArguments, kindOfKey}
 use Rattle.model.specs.Step.{nodeOf, effect}
 use Rattle.model.specs.Layout.{headerBytes, bucketBytes, tableOf}
 use Rattle.model.specs.StepBytes.{stepBytes}
@@ -27,11 +27,12 @@ use Rattle.key.specs.declared.Key.{Key}
 use Rattle.key.specs.Key.{num}
 use Rattle.held.specs.Held.{Quiet, Does, bucketHere, settingsHere}
 use Rattle.held.proofs.Again.{value-keeps-none}
-use Rattle.on_key.specs.Answers.{Answers, isDue, Ready, roomFor, rewritten}
+use Rattle.on_key.specs.Answers.{Answers, refusal, isDue, Ready, roomFor, rewritten}
 use Rattle.on_key.specs.Start.{AtBucket}
 use Rattle.on_key.proofs.Due.{not-due}
 use Rattle.on_key.proofs.Stored.{written-back}
-use Rattle.on_key.proofs.OneKey.{ReadFormed, same-header, answers-in, in-done}
+use Rattle.on_key.proofs.Questions.{refusal-none, refusal-some}
+use Rattle.on_key.proofs.OneKey.{ReadFormed, hours, suits, suits-all, same-header, refused-hours, answers-in, in-done}
 
 -- a bucket without a pending
 
@@ -73,7 +74,7 @@ none-recorded (KeyCall.updateNode v st now) key t i b e =
     let fails : Bool = failsTableFilter t i (number key) (valueOf v) in
     after-ends-none b e (t .settings .bucket) now (updateNodeEndings (t .settings .bucket) fails (number key) (valueOf v) (optional st))
     (update-ends-none b e (t .settings .bucket) fails (number key) (valueOf v) (optional st))
-none-recorded (KeyCall.insertOrUpdate v st dr now) key t i b e =
+none-recorded (KeyCall.insertOrUpdate v st dr now hs) key t i b e =
     let fails : Bool = failsTableFilter t i (number key) (valueOf v) in
     after-ends-none b e (t .settings .bucket) now (insertOrUpdateEndings (t .settings .bucket) fails now (nodeOf key v st dr))
     (insert-or-update-ends-none b e (t .settings .bucket) fails now (nodeOf key v st dr))
@@ -81,7 +82,7 @@ none-recorded (KeyCall.remove now) key t i b e = after-ends-none b e (t .setting
 none-recorded (KeyCall.entry now) key t i b e = after-ends-none b e (t .settings .bucket) now noEndings refl
 none-recorded (KeyCall.presentUpdate st dr) key t i b e = status-ends-none b e (number key) (isOne st)
 none-recorded (KeyCall.pendingUpdate st dr) key t i b e = refl
-none-recorded (KeyCall.absentInsert v st dr now) key t i b e = insert-ends-none b e (nodeOf key v st dr) (insert (t .settings .bucket) now (nodeOf key v st dr) b .0)
+none-recorded (KeyCall.absentInsert v st dr now hs) key t i b e = insert-ends-none b e (nodeOf key v st dr) (insert (t .settings .bucket) now (nodeOf key v st dr) b .0)
 
 -- the storage with another bucket i and no further record
 pub rewritten-in-place : (s : List ℕ) → Bytes s → (i : ℕ) → Ready s i → (b : Bucket) → splice s (bucketAt i) (bucketBytes b) ≡ rewritten s i b []
@@ -96,7 +97,7 @@ room-for-none s h i y = le-leb (length (tableOf s .queue) + 0) maxRecords (omega
 
 -- what a call did in place is what it does: F is its own step, f its answer
 module _ (s key : List ℕ) (c : KeyCall) {k : Key} {i : ℕ} (y : AtBucket s key (keyArguments c .codes) (keyArguments c .now) k i)
-    (d : ReadFormed s key c) (g : keyArguments c .kind (kindOfKey key (tableOf s)) ≡ true) (h : Bytes s) (q : Quiet (part s (bucketAt i) bucketSize)) where
+    (d : ReadFormed s key c) (g : suits s key c ≡ true) (h : Bytes s) (q : Quiet (part s (bucketAt i) bucketSize)) where
   abbrev b : Bucket
   b = tableOf s .buckets i
 
@@ -132,3 +133,15 @@ module _ (s key : List ℕ) (c : KeyCall) {k : Key} {i : ℕ} (y : AtBucket s ke
     in-place-at now p r =
         let z : b ≡ applyPending u now b .0 = ap (λ (w : Bucket × List EndedPending). w .0) (sym (none-applied b none-waits u now)) in
         in-place (ap (λ (m : Bucket). f (F u (number key) m .0)) z ∙ p) (ap (λ (m : Bucket). F u (number key) m .1) z ∙ r)
+
+-- a call that is given session hours, whose bucket is changed in place: nothing is recorded, so that question 8 passes
+module _ (s key : List ℕ) (c : KeyCall) {k : Key} {i : ℕ} (y : AtBucket s key (keyArguments c .codes) (keyArguments c .now) k i)
+    (d : ReadFormed s key c) (g : keyArguments c .kind (kindOfKey key (tableOf s)) ≡ true) (h : Bytes s) (w : tableOf s .buckets i .pending ≡ none)
+    {n : ℕ} (z : firstFailed (hours s key c) ≡ refusal n) where
+  pub in-place-refused : (n ≡ 0 → ⊥) → Answers (Answer.Refused n) s (stepBytes (Call.onKey key c) s)
+  in-place-refused v =
+      refused-hours s key c (y .passed) d g (y .index)
+      (ap (roomFor s) (none-recorded c key (tableOf s) i (tableOf s .buckets i) w) ∙ room-for-none s h i (y .ready)) n (refusal-some n z v)
+
+  pub in-place-suits : n ≡ 0 → suits s key c ≡ true
+  in-place-suits v = suits-all s key c g (refusal-none n z v)

@@ -2,7 +2,7 @@
 use Prim.Native.Nat.{ℕ, _<_}
 use native.Mathlib.Omega.{arith}
 use mathlib.Core.Path.{_≡_, refl, sym, ap, _∙_}
-use mathlib.Core.Bool.{Bool, true, false, cond, and-true}
+use mathlib.Core.Bool.{Bool, true, false, cond, _&&_, and-true}
 use mathlib.Core.List.{List, [], _∷_, _++_}
 use mathlib.Core.Option.{Option, none, some}
 use lib.ListN.{length, length-append}
@@ -14,7 +14,7 @@ use Rattle.model.specs.Bucket.{Bucket}
 use Rattle.model.specs.Table.{Table, Answer, Effect, write, indexIn, numBuckets, maxRecords}
 use Rattle.model.specs.Sizes.{headerSize, storageSize}
 use Rattle.model.specs.Call.{Call, KeyCall}
-use Rattle.model.specs.Question.{firstFailed, keyArguments, kindOfKey, keysFit, codesInRange, clockFits, outputFits, kindFits}
+use Rattle.model.specs.Question.{firstFailed, keyArguments, kindOfKey, keysFit, codesInRange, clockFits, outputFits, kindFits, hoursInRange, admitted}
 use Rattle.model.specs.Step.{Outcome, unchanged, onKey, ownAnswer, effect, act, queueFits, late}
 use Rattle.model.specs.Layout.{headerBytes, tableOf}
 use Rattle.model.specs.Formed.{headerFormed, bucketFormedAt, bucketsFormed}
@@ -26,7 +26,7 @@ use Rattle.laws.proofs.KeyReads.{own-read}
 use Rattle.laws.proofs.HeaderBack.{header-back, queue-fits}
 use Rattle.laws.proofs.Parts.{splice-part}
 use Rattle.laws.proofs.Tests.{and-left, and-right, split}
-use Rattle.laws.proofs.Questions.{front-passes}
+use Rattle.laws.proofs.Questions.{passed, front-passes}
 use Rattle.on_key.specs.Answers.{Answers, firstFive, failedOfFive, roomFor, rewritten, inBucket}
 use Rattle.on_key.specs.Start.{ownFormed, keyFormed, failedAtStart}
 use Rattle.on_key.proofs.Questions.{passed-five, stricter-fails}
@@ -90,6 +90,26 @@ module _ (s key : List ℕ) (c : KeyCall) where
   pub read-own : ReadFormed → keyFormed s key ≡ true
   read-own a = own-asked (indexIn t (number key)) (bucketIndex-below (t .settings .localKey) (number key)) a
 
+  -- 02, slip 8: questions 10 and 11; they pass where no session hours are given
+  abbrev pub hours : List (ℕ × Bool)
+  hours = (10, hoursInRange call) ∷ (11, admitted call t) ∷ []
+
+  -- they pass, and the key is of the kind that the call needs
+  abbrev pub suits : Bool
+  suits = hoursInRange call && (admitted call t && keyArguments c .kind (kindOfKey key t))
+
+  suits-kind : suits ≡ true → keyArguments c .kind (kindOfKey key t) ≡ true
+  suits-kind g = and-right (admitted call t) _ (and-right (hoursInRange call) _ g)
+
+  suits-hours : suits ≡ true → firstFailed hours ≡ none
+  suits-hours g = rw (and-left (hoursInRange call) _ g, and-left (admitted call t) _ (and-right (hoursInRange call) _ g))
+
+  pub suits-all : keyArguments c .kind (kindOfKey key t) ≡ true → firstFailed hours ≡ none → suits ≡ true
+  suits-all g z =
+      let q10 = passed 10 (hoursInRange call) ((11, admitted call t) ∷ []) z in
+      let q11 = passed 11 (admitted call t) [] (q10 .1) in
+      rw (q10 .0, q11 .0, g)
+
   asked-are : firstFailed (allQuestions call s) ≡ firstFailed (firstFive key (keyArguments c .codes) (keyArguments c .now) s ++ ((2, bucketsFormed s (reads call t)) ∷ late call t))
   unfolding keysFit codesInRange clockFits outputFits
   asked-are = rw and-true
@@ -118,39 +138,71 @@ module _ (s key : List ℕ) (c : KeyCall) where
       unfolding kindFits
       refused-kind g = refused-bytes call s 7 (asked-last ∙ rw g)
 
+    -- the queue has room for the records, and then the session hours
     module _ (d : ReadFormed) (g : keyArguments c .kind (kindOfKey key t) ≡ true) where
-      asked-queue : firstFailed (allQuestions call s) ≡ cond (queueFits call t) none (some 8)
+      asked-queue : firstFailed (allQuestions call s) ≡ cond (queueFits call t) (firstFailed hours) (some 8)
       unfolding kindFits
       asked-queue = asked-last d ∙ rw g
 
-    module _ (g : keyArguments c .kind (kindOfKey key t) ≡ true) where
-      -- the local key
+    -- the local key
+    module _ (i : indexIn t (number key) ≡ none) where
+      own-acts : act call t ≡ unchanged (ownAnswer c) t
+      unfolding act
+      own-acts = ap (onKey t (ownAnswer c) (effect c key t)) i
+
+      own-asked-last : Bytes s → keyArguments c .kind (kindOfKey key t) ≡ true → firstFailed (allQuestions call s) ≡ firstFailed hours
+      unfolding queueFits
+      own-asked-last h g =
+          let p = passed-five s key _ _ e in
+          let q : leb (length (t .queue)) maxRecords ≡ true = le-leb _ _ (queue-fits s (omega (arith, p .size)) h (p .header)) in
+          asked-queue (reads-none i) g ∙ rw (own-acts, q)
+
+    pub refused-self : keyArguments c .kind (kindOfKey key t) ≡ true → Bytes s → indexIn t (number key) ≡ none → (n : ℕ) → firstFailed hours ≡ some n
+        → Answers (Answer.Refused n) s (stepBytes call s)
+    refused-self g h i n z = refused-bytes call s n (own-asked-last i h g ∙ z)
+
+    module _ (g : suits ≡ true) where
       pub answers-self : Bytes s → indexIn t (number key) ≡ none → Answers (ownAnswer c) s (stepBytes call s)
-      unfolding queueFits restore act
+      unfolding restore
       answers-self h i =
           let p = passed-five s key _ _ e in
-          let a : act call t ≡ unchanged (ownAnswer c) t = ap (onKey t (ownAnswer c) (effect c key t)) i in
+          let a = own-acts i in
           let w : touched call t ≡ [] = ap indices i in
-          let q : leb (length (t .queue)) maxRecords ≡ true = le-leb _ _ (queue-fits s (omega (arith, p .size)) h (p .header)) in
-          acted-bytes call s (ownAnswer c) s (asked-queue (reads-none i) g ∙ rw (a, q)) (sym (ap (λ (o : Outcome). o .answer) a))
+          acted-bytes call s (ownAnswer c) s (own-asked-last i h (suits-kind g) ∙ suits-hours g) (sym (ap (λ (o : Outcome). o .answer) a))
           (sym (ap (λ (o : Outcome). restore s (touched call t) (o .table)) a ∙ ap (λ (is : List ℕ). restore s is t) w ∙ same-header s h (p .size) (p .header)))
 
-    module _ (d : ReadFormed) (g : keyArguments c .kind (kindOfKey key t) ≡ true) where
-      -- any other key
+    -- any other key
+    module _ (d : ReadFormed) (g : keyArguments c .kind (kindOfKey key t) ≡ true) {i : ℕ} (j : indexIn t (number key) ≡ some i) where
+      abbrev eff : Effect
+      eff = effect c key t i (t .buckets i)
+
+      acts : act call t ≡ onKey t (ownAnswer c) (effect c key t) (some i)
+      unfolding act
+      acts = ap (onKey t (ownAnswer c) (effect c key t)) j
+
+      room-is : queueFits call t ≡ roomFor s (eff .records)
+      unfolding queueFits roomFor
+      room-is = ap (λ (o : Outcome). leb (length (o .table .queue)) maxRecords) acts ∙ ap (λ (n : ℕ). leb n maxRecords) (length-append (t .queue) (eff .records))
+
+      pub refused-room : roomFor s (eff .records) ≡ false → Answers (Answer.Refused 8) s (stepBytes call s)
+      refused-room y = refused-bytes call s 8 (asked-queue d g ∙ rw (room-is, y))
+
+      pub refused-hours : roomFor s (eff .records) ≡ true → (n : ℕ) → firstFailed hours ≡ some n → Answers (Answer.Refused n) s (stepBytes call s)
+      refused-hours y n z = refused-bytes call s n (asked-queue d g ∙ (rw (room-is, y)) ∙ z)
+
+    module _ (d : ReadFormed) (g : suits ≡ true) where
       pub answers-in : (i : ℕ) → indexIn t (number key) ≡ some i → {a : Answer} {s′ : List ℕ} → Answers a s′ (inBucket s i (effect c key t i (t .buckets i))) → Answers a s′ (stepBytes call s)
-      unfolding queueFits restore inBucket rewritten roomFor act
+      unfolding restore inBucket rewritten
       answers-in i j {a} {s′} x =
-          let eff = effect c key t i (t .buckets i) in
-          let ac : act call t ≡ onKey t (ownAnswer c) (effect c key t) (some i) = ap (onKey t (ownAnswer c) (effect c key t)) j in
+          let k = suits-kind g in
           let w : touched call t ≡ (i ∷ []) = ap indices j in
-          let m : queueFits call t ≡ roomFor s (eff .records) = ap (λ (o : Outcome). leb (length (o .table .queue)) maxRecords) ac ∙ ap (λ (n : ℕ). leb n maxRecords) (length-append (t .queue) (eff .records)) in
-          split (roomFor s (eff .records))
+          split (roomFor s (eff d k j .records))
           (λ y.
-          acted-bytes call s a s′ (asked-queue d g ∙ rw (m, y))
-          (x .answer ∙ (rw y) ∙ ap (λ (o : Outcome). o .answer) (sym ac))
-          (x .storage ∙ (rw y) ∙ ap (λ (is : List ℕ). restore s is (write t i (eff .bucket) (eff .records))) (sym w) ∙ ap (λ (o : Outcome). restore s (touched call t) (o .table)) (sym ac)))
+          acted-bytes call s a s′ (asked-queue d k ∙ (rw (room-is d k j, y)) ∙ suits-hours g)
+          (x .answer ∙ (rw y) ∙ ap (λ (o : Outcome). o .answer) (sym (acts d k j)))
+          (x .storage ∙ (rw y) ∙ ap (λ (is : List ℕ). restore s is (write t i (eff d k j .bucket) (eff d k j .records))) (sym w) ∙ ap (λ (o : Outcome). restore s (touched call t) (o .table)) (sym (acts d k j))))
           (λ y.
-          let z = refused-bytes call s 8 (asked-queue d g ∙ rw (m, y)) in
+          let z = refused-room d k j y in
           record { answer = x .answer ∙ (rw y) ∙ z .answer; storage = x .storage ∙ (rw y) ∙ z .storage })
 
 -- a call that acts on the bucket of its key

@@ -74,7 +74,7 @@ fn status_call(call: u8, s: &mut [u8], key: &[u8], x: Arguments) -> u32 {
     }
 }
 
-fn value_call(call: u8, s: &mut [u8], key: &[u8], x: Arguments, out: &mut [u8]) -> u32 {
+fn update_call(call: u8, s: &mut [u8], key: &[u8], x: Arguments) -> u32 {
     match call {
         3 => kbuckets::kbuckets_update_node(
             s,
@@ -88,6 +88,20 @@ fn value_call(call: u8, s: &mut [u8], key: &[u8], x: Arguments, out: &mut [u8]) 
             x.state,
             x.time,
         ),
+        _ => UNREADABLE,
+    }
+}
+
+fn insert_call(
+    call: u8,
+    s: &mut [u8],
+    key: &[u8],
+    x: Arguments,
+    windows: &[u16],
+    closed: &[u16],
+    out: &mut [u8],
+) -> u32 {
+    match call {
         4 => kbuckets::kbuckets_insert_or_update(
             s,
             key,
@@ -100,6 +114,12 @@ fn value_call(call: u8, s: &mut [u8], key: &[u8], x: Arguments, out: &mut [u8]) 
             x.state,
             x.direction,
             x.time,
+            windows,
+            closed,
+            x.year,
+            x.month,
+            x.day,
+            x.minute,
             out,
         ),
         9 => kbuckets::kbuckets_absent_insert(
@@ -114,10 +134,52 @@ fn value_call(call: u8, s: &mut [u8], key: &[u8], x: Arguments, out: &mut [u8]) 
             x.state,
             x.direction,
             x.time,
+            windows,
+            closed,
+            x.year,
+            x.month,
+            x.day,
+            x.minute,
             out,
         ),
         _ => UNREADABLE,
     }
+}
+
+// The insert with as many of the numbers as the record says.
+fn insert_with(
+    r: &[u8],
+    s: &mut [u8],
+    key: &[u8],
+    windows: &[u16],
+    closed: &[u16],
+    out: &mut [u8],
+) -> u32 {
+    let of_windows = record::byte(r, record::REST_AT) as usize;
+    let of_closed = record::byte(r, record::REST_AT + 1) as usize;
+    if windows.len() < of_windows {
+        return UNREADABLE;
+    }
+    if closed.len() < of_closed {
+        return UNREADABLE;
+    }
+    let x = record::read_arguments(r);
+    let call = record::byte(r, 0);
+    insert_call(
+        call,
+        s,
+        key,
+        x,
+        &windows[0..of_windows],
+        &closed[0..of_closed],
+        out,
+    )
+}
+
+fn insert(r: &[u8], s: &mut [u8], key: &[u8], out: &mut [u8]) -> u32 {
+    let windows = record::windows(r);
+    let closed = record::closed(r);
+    insert_with(r, s, key, &windows, &closed, out)
 }
 
 fn listing_call(call: u8, s: &mut [u8], key: &[u8], x: Arguments, out: &mut [u8]) -> u32 {
@@ -178,9 +240,12 @@ fn on_part(r: &[u8], s: &mut [u8], out: &mut [u8]) -> u32 {
     if r.len() < end {
         return UNREADABLE;
     }
+    if (call == 4) | (call == 9) {
+        return insert(r, s, &r[2..end], out);
+    }
     let x = record::read_arguments(r);
-    if (call == 3) | (call == 4) | (call == 9) {
-        return value_call(call, s, &r[2..end], x, out);
+    if call == 3 {
+        return update_call(call, s, &r[2..end], x);
     }
     if call < 10 {
         return status_call(call, s, &r[2..end], x);

@@ -11,6 +11,7 @@ use bucket::UpdateResult;
 use bucket_update::InsertResult;
 use node::Slot;
 use node::Value;
+use session::Moment;
 use storage::Layout;
 use update::InsertOrUpdateAnswer;
 
@@ -206,12 +207,41 @@ fn join(s: &mut [u8], member: u8) {
     let key = key_of(member);
     let value = record_of(member, member as Slot);
     io::write_all(1, b" ");
+    // no session hours: with an empty window list neither question is asked
+    let windows: [u16; 1] = [0];
+    let closed: [u16; 1] = [0];
+    let moment = Moment {
+        year: 0,
+        month: 0,
+        day: 0,
+        minute: 0,
+    };
     if 10 < member {
-        let e = entry::absent_insert(s, &key, value, 1, 0, 1000);
+        let e = entry::absent_insert(
+            s,
+            &key,
+            value,
+            1,
+            0,
+            1000,
+            &windows[0..0],
+            &closed[0..0],
+            moment,
+        );
         say_absent_insert(e);
         return;
     }
-    let a = update::insert_or_update(s, &key, value, 1, 0, 1000);
+    let a = update::insert_or_update(
+        s,
+        &key,
+        value,
+        1,
+        0,
+        1000,
+        &windows[0..0],
+        &closed[0..0],
+        moment,
+    );
     say_insert(a);
 }
 

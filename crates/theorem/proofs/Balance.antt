@@ -196,12 +196,12 @@ effect-balance (KeyCall.updateNode v st now) k t i b f =
     let fails : Bool = failsTableFilter t i (number k) (valueOf v) in
     after-balance s now b (pendingAnswer (updateNodeIn s fails now (number k) (valueOf v) (optional st) a .0)) _ (effect (KeyCall.updateNode v st now) k t i b .bucket)
     (updateNode-balance s now fails (number k) (valueOf v) (optional st) a (applyPending-formed s now b f) (apply-settled s now b))
-effect-balance (KeyCall.insertOrUpdate v st dr now) k t i b f =
+effect-balance (KeyCall.insertOrUpdate v st dr now hs) k t i b f =
     let s = t .settings .bucket in
     let a : Bucket = applyPending s now b .0 in
     let n : Node = Step.nodeOf k v st dr in
     let fails : Bool = failsTableFilter t i (number k) (valueOf v) in
-    after-balance s now b (pendingAnswer (insertOrUpdateIn s fails now n a .0)) _ (effect (KeyCall.insertOrUpdate v st dr now) k t i b .bucket)
+    after-balance s now b (pendingAnswer (insertOrUpdateIn s fails now n a .0)) _ (effect (KeyCall.insertOrUpdate v st dr now hs) k t i b .bucket)
     (insertOrUpdate-balance s now fails n a (applyPending-formed s now b f) (apply-settled s now b))
 effect-balance (KeyCall.remove now) k t i b f =
     let s = t .settings .bucket in
@@ -210,7 +210,7 @@ effect-balance (KeyCall.remove now) k t i b f =
 effect-balance (KeyCall.entry now) k t i b f = let s = t .settings .bucket in after-balance s now b 0 [] (applyPending s now b .0) (omega arith)
 effect-balance (KeyCall.presentUpdate st dr) k t i b f = status-balance (t .settings .bucket) 0 (number k) (isOne st) (optional dr) b f
 effect-balance (KeyCall.pendingUpdate st dr) k t i b f = let h = updatePending-waits (t .settings .bucket) 0 (isOne st) (isOne dr) b in omega arith
-effect-balance (KeyCall.absentInsert v st dr now) k t i b f = insert-balance (t .settings .bucket) now (Step.nodeOf k v st dr) b
+effect-balance (KeyCall.absentInsert v st dr now hs) k t i b f = insert-balance (t .settings .bucket) now (Step.nodeOf k v st dr) b
 
 -- ---- the table: one bucket changes
 
@@ -262,12 +262,12 @@ applyAll-balance now (i ∷ is) t l =
 own-pending : (c : KeyCall) → pendingAnswer (ownAnswer c) ≡ 0
 own-pending (KeyCall.updateNodeStatus st dr now) = refl
 own-pending (KeyCall.updateNode v st now) = refl
-own-pending (KeyCall.insertOrUpdate v st dr now) = refl
+own-pending (KeyCall.insertOrUpdate v st dr now hs) = refl
 own-pending (KeyCall.remove now) = refl
 own-pending (KeyCall.entry now) = refl
 own-pending (KeyCall.presentUpdate st dr) = refl
 own-pending (KeyCall.pendingUpdate st dr) = refl
-own-pending (KeyCall.absentInsert v st dr now) = refl
+own-pending (KeyCall.absentInsert v st dr now hs) = refl
 
 abbrev OutcomeKeeps : Table → Outcome → Type 0
 OutcomeKeeps t o = Keeps t (pendingAnswer (o .answer)) (o .records) (o .table)
@@ -289,14 +289,14 @@ effect-answers (KeyCall.updateNodeStatus st dr now) k t i b = refl
 effect-answers (KeyCall.updateNode v st now) k t i b =
     let s = t .settings .bucket in
     updateNode-answers (λ (a : Answer). isRefused a ≡ false) (λ r. refl) s (failsTableFilter t i (number k) (valueOf v)) now (number k) (valueOf v) (optional st) (applyPending s now b .0)
-effect-answers (KeyCall.insertOrUpdate v st dr now) k t i b =
+effect-answers (KeyCall.insertOrUpdate v st dr now hs) k t i b =
     let s = t .settings .bucket in
     insertOrUpdate-answers (λ (a : Answer). isRefused a ≡ false) (λ r. refl) s (failsTableFilter t i (number k) (valueOf v)) now (Step.nodeOf k v st dr) (applyPending s now b .0)
 effect-answers (KeyCall.remove now) k t i b = refl
 effect-answers (KeyCall.entry now) k t i b = refl
 effect-answers (KeyCall.presentUpdate st dr) k t i b = refl
 effect-answers (KeyCall.pendingUpdate st dr) k t i b = refl
-effect-answers (KeyCall.absentInsert v st dr now) k t i b = refl
+effect-answers (KeyCall.absentInsert v st dr now hs) k t i b = refl
 
 key-refused : (c : KeyCall) (k : List ℕ) (t : Table) (o : Option ℕ) → isRefused (onKey t (ownAnswer c) (effect c k t) o .answer) ≡ true
     → length (onKey t (ownAnswer c) (effect c k t) o .records) ≡ 0

@@ -201,13 +201,13 @@ effect-ok (KeyCall.updateNode v st now) k l t i z h f =
     applying-ok (number k) (naming (KeyCall.updateNode v st now)) l t now i (e .answer) (e .bucket) _ (updateNode-quiet s fails (number k) (valueOf v) (optional st) b) z h
     (updateNode-answers NotRefused (λ r. refl) s fails now (number k) (valueOf v) (optional st) b)
     (λ m a q. updateNode-call (indexIn t) s now m i (number k) (valueOf v) (optional st) b fails a h q)
-effect-ok (KeyCall.insertOrUpdate v st dr now) k l t i z h f =
-    let e = effect (KeyCall.insertOrUpdate v st dr now) k t i (t .buckets i) in
+effect-ok (KeyCall.insertOrUpdate v st dr now hs) k l t i z h f =
+    let e = effect (KeyCall.insertOrUpdate v st dr now hs) k t i (t .buckets i) in
     let s = t .settings .bucket in
     let b = applyPending s now (t .buckets i) .0 in
     let n : Node = Step.nodeOf k v st dr in
     let fails : Bool = failsTableFilter t i (number k) (valueOf v) in
-    applying-ok (number k) (naming (KeyCall.insertOrUpdate v st dr now)) l t now i (e .answer) (e .bucket) _ (insertOrUpdate-quiet s fails now n b) z h
+    applying-ok (number k) (naming (KeyCall.insertOrUpdate v st dr now hs)) l t now i (e .answer) (e .bucket) _ (insertOrUpdate-quiet s fails now n b) z h
     (insertOrUpdate-answers NotRefused (λ r. refl) s fails now n b)
     (λ m a q. insertOrUpdate-call (indexIn t) s now m i n b fails a h q)
 effect-ok (KeyCall.remove now) k l t i z h f =
@@ -225,20 +225,20 @@ effect-ok (KeyCall.pendingUpdate st dr) k l t i z h f =
     let e = effect (KeyCall.pendingUpdate st dr) k t i (t .buckets i) in
     stored-ok (number k) (naming (KeyCall.pendingUpdate st dr)) l t i (e .answer) (e .bucket) (e .records) nothing-quiet h refl
     (pending-call (indexIn t) l i (number k) (isOne st) (isOne dr) (t .buckets i) (z .each i) h f)
-effect-ok (KeyCall.absentInsert v st dr now) k l t i z h f =
-    let e = effect (KeyCall.absentInsert v st dr now) k t i (t .buckets i) in
-    stored-ok (number k) (naming (KeyCall.absentInsert v st dr now)) l t i (e .answer) (e .bucket) (e .records) (insert-quiet (Step.nodeOf k v st dr) (t .buckets i) (insert (t .settings .bucket) now (Step.nodeOf k v st dr) (t .buckets i) .0)) h refl
+effect-ok (KeyCall.absentInsert v st dr now hs) k l t i z h f =
+    let e = effect (KeyCall.absentInsert v st dr now hs) k t i (t .buckets i) in
+    stored-ok (number k) (naming (KeyCall.absentInsert v st dr now hs)) l t i (e .answer) (e .bucket) (e .records) (insert-quiet (Step.nodeOf k v st dr) (t .buckets i) (insert (t .settings .bucket) now (Step.nodeOf k v st dr) (t .buckets i) .0)) h refl
     (absent-call (indexIn t) (t .settings .bucket) now l i (Step.nodeOf k v st dr) (t .buckets i) (z .each i) h f)
 
 own-accepted : (c : KeyCall) → keyArguments c .kind EntryKind.SelfEntry ≡ true → isRefused (ownAnswer c) ≡ false
 own-accepted (KeyCall.updateNodeStatus st dr now) h = refl
 own-accepted (KeyCall.updateNode v st now) h = refl
-own-accepted (KeyCall.insertOrUpdate v st dr now) h = refl
+own-accepted (KeyCall.insertOrUpdate v st dr now hs) h = refl
 own-accepted (KeyCall.remove now) h = refl
 own-accepted (KeyCall.entry now) h = refl
 own-accepted (KeyCall.presentUpdate st dr) h = clash h refl
 own-accepted (KeyCall.pendingUpdate st dr) h = clash h refl
-own-accepted (KeyCall.absentInsert v st dr now) h = clash h refl
+own-accepted (KeyCall.absentInsert v st dr now hs) h = clash h refl
 
 key-ok : (k : List ℕ) (c : KeyCall) (l : Log) (t : Table) → AllAgree l t → kindFits (Call.onKey k c) t ≡ true → Entered (Call.onKey k c) l (act (Call.onKey k c) t)
 unfolding act kindFits

@@ -138,15 +138,15 @@ key-ended (KeyCall.updateNodeStatus st dr now) k t none = refl
 key-ended (KeyCall.updateNodeStatus st dr now) k t (some i) = rw (applied-ended (t .settings .bucket) now (t .buckets i) _)
 key-ended (KeyCall.updateNode v st now) k t none = refl
 key-ended (KeyCall.updateNode v st now) k t (some i) = rw (applied-ended (t .settings .bucket) now (t .buckets i) _)
-key-ended (KeyCall.insertOrUpdate v st dr now) k t none = refl
-key-ended (KeyCall.insertOrUpdate v st dr now) k t (some i) = rw (applied-ended (t .settings .bucket) now (t .buckets i) _)
+key-ended (KeyCall.insertOrUpdate v st dr now hs) k t none = refl
+key-ended (KeyCall.insertOrUpdate v st dr now hs) k t (some i) = rw (applied-ended (t .settings .bucket) now (t .buckets i) _)
 key-ended (KeyCall.remove now) k t none = refl
 key-ended (KeyCall.remove now) k t (some i) = rw (applied-ended (t .settings .bucket) now (t .buckets i) _)
 key-ended (KeyCall.entry now) k t none = refl
 key-ended (KeyCall.entry now) k t (some i) = rw (applied-ended (t .settings .bucket) now (t .buckets i) _)
 key-ended (KeyCall.presentUpdate st dr) k t o = refl
 key-ended (KeyCall.pendingUpdate st dr) k t o = refl
-key-ended (KeyCall.absentInsert v st dr now) k t o = refl
+key-ended (KeyCall.absentInsert v st dr now hs) k t o = refl
 
 act-ended : (c : Call) (t : Table) → dueEnded c t (act c t .records) ≡ true
 unfolding act
@@ -239,14 +239,14 @@ effect-one (KeyCall.updateNodeStatus st dr now) k t i b =
 effect-one (KeyCall.updateNode v st now) k t i b =
     let s = t .settings .bucket in
     after-one s now b _ (updateNode-few s (failsTableFilter t i (number k) (valueOf v)) (number k) (valueOf v) (optional st) (applyPending s now b .0))
-effect-one (KeyCall.insertOrUpdate v st dr now) k t i b =
+effect-one (KeyCall.insertOrUpdate v st dr now hs) k t i b =
     let s = t .settings .bucket in
     after-one s now b _ (insertOrUpdate-few s (failsTableFilter t i (number k) (valueOf v)) now (Step.nodeOf k v st dr) (applyPending s now b .0))
 effect-one (KeyCall.remove now) k t i b = after-one (t .settings .bucket) now b [] (omega arith)
 effect-one (KeyCall.entry now) k t i b = after-one (t .settings .bucket) now b [] (omega arith)
 effect-one (KeyCall.presentUpdate st dr) k t i b = stored-one b (statusEndings (number k) (isOne st) b) (status-few (number k) (isOne st) b)
 effect-one (KeyCall.pendingUpdate st dr) k t i b = omega arith
-effect-one (KeyCall.absentInsert v st dr now) k t i b =
+effect-one (KeyCall.absentInsert v st dr now hs) k t i b =
     let n : Node = Step.nodeOf k v st dr in
     let r : BucketInsertResult = insert (t .settings .bucket) now n b .0 in
     stored-one b (insertEndings n b r) (insert-few n b r)

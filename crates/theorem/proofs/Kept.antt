@@ -81,12 +81,12 @@ module _ (Q : BucketSettings → Bucket → Type 0) (keeps : Keeps Q) where
   effect-keeps : (c : KeyCall) (k : List ℕ) (t : Table) (i : ℕ) (b : Bucket) → Q (t .settings .bucket) b → Q (t .settings .bucket) (effect c k t i b .bucket)
   effect-keeps (KeyCall.updateNodeStatus st dr now) k t i b g = keeps .status _ (number k) (isOne st) (optional dr) _ (keeps .apply _ now b g)
   effect-keeps (KeyCall.updateNode v st now) k t i b g = updateNode-keeps _ (failsTableFilter t i (number k) (valueOf v)) now (number k) (valueOf v) (optional st) _ (keeps .apply _ now b g)
-  effect-keeps (KeyCall.insertOrUpdate v st dr now) k t i b g = insertOrUpdate-keeps _ (failsTableFilter t i (number k) (valueOf v)) now (Step.nodeOf k v st dr) _ (keeps .apply _ now b g)
+  effect-keeps (KeyCall.insertOrUpdate v st dr now hs) k t i b g = insertOrUpdate-keeps _ (failsTableFilter t i (number k) (valueOf v)) now (Step.nodeOf k v st dr) _ (keeps .apply _ now b g)
   effect-keeps (KeyCall.remove now) k t i b g = keeps .remove _ now (number k) _ (keeps .apply _ now b g)
   effect-keeps (KeyCall.entry now) k t i b g = keeps .apply _ now b g
   effect-keeps (KeyCall.presentUpdate st dr) k t i b g = keeps .status _ (number k) (isOne st) (optional dr) b g
   effect-keeps (KeyCall.pendingUpdate st dr) k t i b g = keeps .pending _ (isOne st) (isOne dr) b g
-  effect-keeps (KeyCall.absentInsert v st dr now) k t i b g = keeps .insert _ now (Step.nodeOf k v st dr) b g
+  effect-keeps (KeyCall.absentInsert v st dr now hs) k t i b g = keeps .insert _ now (Step.nodeOf k v st dr) b g
 
   act-keeps : (c : Call) (t : Table) → bytesFit c t ≡ true → Every Q t → Every Q (act c t .table)
   unfolding act

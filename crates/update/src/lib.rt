@@ -5,6 +5,7 @@ ghost use Rattle.model.specs.Call.{Call, KeyCall};
 ghost use Rattle.model.specs.StepBytes.{stepBytes};
 ghost use Rattle.node.specs.Node.{argumentOf};
 ghost use Rattle.on_key.specs.Answers.{Answers, updateAnswer};
+ghost use Rattle.session.specs.Hours.{sessionOf};
 ghost use Rattle.update.specs.Calls.{insertOrUpdateAnswer};
 use bucket::FailureReason;
 use bucket::UpdateAnswer;
@@ -14,6 +15,7 @@ use node::Node;
 use node::NodeStatus;
 use node::Value;
 use on_key::Start;
+use session::Moment;
 use storage::Layout;
 
 pub enum InsertOrUpdateAnswer {
@@ -62,7 +64,8 @@ pub fn update_node(s: &mut [u8], key: &[u8], value: Value, state: u8, time: u64)
     }
 }
 
-// Updates the node of the key, or inserts it where the key is not held.
+// Updates the node of the key, or inserts it where the key is not held: the local key and one that was held or pending before the call at
+// every hour, any other only while it is open (document 02, slip 8).
 pub fn insert_or_update(
     s: &mut [u8],
     key: &[u8],
@@ -70,14 +73,21 @@ pub fn insert_or_update(
     state: u8,
     direction: u8,
     time: u64,
+    windows: &[u16],
+    closed: &[u16],
+    moment: Moment,
 ) -> InsertOrUpdateAnswer
-    ensures { λ r. ⌜ Answers (insertOrUpdateAnswer r) (now (s .exit)) (stepBytes (Call.onKey (now (key .entry)) (KeyCall.insertOrUpdate (argumentOf value) state direction time)) (now (s .entry))) ⌝ }
+    ensures { λ r. ⌜ Answers (insertOrUpdateAnswer r) (now (s .exit)) (stepBytes (Call.onKey (now (key .entry)) (KeyCall.insertOrUpdate (argumentOf value) state direction time (sessionOf (now (windows .entry)) (now (closed .entry)) moment))) (now (s .entry))) ⌝ }
 {
     let codes = value.in_range() & ((state <= 1) & (direction <= 1));
     let start = on_key::begin_at(s, key, codes, time);
     match start {
         Start::Refused(q) => InsertOrUpdateAnswer::Refused(q),
         Start::Local => {
+            let q = session::asked(windows, closed, moment, true);
+            if q != 0 {
+                return InsertOrUpdateAnswer::Refused(q);
+            }
             let own = InsertResult::Failed(FailureReason::InvalidSelfUpdate);
             InsertOrUpdateAnswer::Answered(own)
         }
@@ -102,9 +112,14 @@ pub fn insert_or_update(
             let result = placed.result;
             let after = filled.pending;
             let record = on_key::record_of(applied, before, after, k);
-            if !on_key::finish(s, i, record, filled) {
+            if !on_key::has_room(s, record) {
                 return InsertOrUpdateAnswer::Refused(8);
             }
+            let q = admission::asked_at(s, i, k, windows, closed, moment);
+            if q != 0 {
+                return InsertOrUpdateAnswer::Refused(q);
+            }
+            on_key::write_back(s, i, record, filled);
             InsertOrUpdateAnswer::Answered(result)
         }
     }

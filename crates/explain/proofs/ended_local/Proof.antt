@@ -20,7 +20,7 @@ same-length c = search needs
 returns : tie.Need-returns
 returns c =
     let e = c .before .before in
-    as-reason _ _ _ _ (e .before .before .local-why .ensures .reason _) (e .ended .ensures)
+    as-reason _ _ _ _ _ (e .before .before .local-why .ensures .reason _) (e .ended .ensures)
 
 pub ended-local-spec : {M : Type 1} → statement M
 ended-local-spec = tie.close (tie.spec local-why-requires ended-requires same-length returns)

@@ -2,6 +2,7 @@ use Prim.Native.Nat.{ℕ}
 use mathlib.Core.Path.{_≡_, sym, subst}
 use mathlib.Core.List.{List}
 use Rattle.model.specs.Result.{Reply}
+use Rattle.model.specs.Session.{Session}
 use Rattle.model.specs.Explain.{explainBytes}
 use Rattle.on_key.specs.Answers.{Replies}
 use Rattle.explain.specs.declared.PeerCall.{PeerCall}
@@ -11,8 +12,8 @@ use Rattle.explain.proofs.explain.Statement.{statement}
 use Rattle.explain.proofs.explain.Tie as tie
 
 -- the call that was matched
-matched : (s key out : List ℕ) {out′ : List ℕ} {c d : PeerCall} {r : Reply ℕ} → c ≡ d → Replies r out′ (explainBytes key (callOf d) out s) → Replies r out′ (explainBytes key (callOf c) out s)
-matched s key out {out′} {c} {d} {r} e x = subst (λ (y : PeerCall). Replies r out′ (explainBytes key (callOf y) out s)) (sym e) x
+matched : (s key out : List ℕ) (h : Session) {out′ : List ℕ} {c d : PeerCall} {r : Reply ℕ} → c ≡ d → Replies r out′ (explainBytes key (callOf d h) out s) → Replies r out′ (explainBytes key (callOf c h) out s)
+matched s key out h {out′} {c} {d} {r} e x = subst (λ (y : PeerCall). Replies r out′ (explainBytes key (callOf y h) out s)) (sym e) x
 
 enum-known-call : tie.Need-enum-known-call
 enum-known-call c = search needs
@@ -60,43 +61,43 @@ same-length : tie.Need-same-length
 same-length c = search needs
 
 returns : tie.Need-returns
-returns c = let x = c .before .before in matched _ _ _ (x .before .before .before .call .given .1) (x .explain-insert-or-update .ensures)
+returns c = let x = c .before .before in matched _ _ _ _ (x .before .before .before .call .given .1) (x .explain-insert-or-update .ensures)
 
 same-length-2 : tie.Need-same-length-2
 same-length-2 c = search needs
 
 returns-2 : tie.Need-returns-2
-returns-2 c = let x = c .before .before in matched _ _ _ (x .before .before .before .call2 .given .1) (x .explain-update-node-status .ensures)
+returns-2 c = let x = c .before .before in matched _ _ _ _ (x .before .before .before .call2 .given .1) (x .explain-update-node-status .ensures)
 
 same-length-3 : tie.Need-same-length-3
 same-length-3 c = search needs
 
 returns-3 : tie.Need-returns-3
-returns-3 c = let x = c .before .before in matched _ _ _ (x .before .before .before .call3 .given .1) (x .explain-update-node .ensures)
+returns-3 c = let x = c .before .before in matched _ _ _ _ (x .before .before .before .call3 .given .1) (x .explain-update-node .ensures)
 
 same-length-4 : tie.Need-same-length-4
 same-length-4 c = search needs
 
 returns-4 : tie.Need-returns-4
-returns-4 c = let x = c .before .before in matched _ _ _ (x .before .before .before .call4 .given .1) (x .explain-remove .ensures)
+returns-4 c = let x = c .before .before in matched _ _ _ _ (x .before .before .before .call4 .given .1) (x .explain-remove .ensures)
 
 same-length-5 : tie.Need-same-length-5
 same-length-5 c = search needs
 
 returns-5 : tie.Need-returns-5
-returns-5 c = let x = c .before .before in matched _ _ _ (x .before .before .before .call5 .given .1) (x .explain-present-update .ensures)
+returns-5 c = let x = c .before .before in matched _ _ _ _ (x .before .before .before .call5 .given .1) (x .explain-present-update .ensures)
 
 same-length-6 : tie.Need-same-length-6
 same-length-6 c = search needs
 
 returns-6 : tie.Need-returns-6
-returns-6 c = let x = c .before .before in matched _ _ _ (x .before .before .before .call6 .given .1) (x .explain-pending-update .ensures)
+returns-6 c = let x = c .before .before in matched _ _ _ _ (x .before .before .before .call6 .given .1) (x .explain-pending-update .ensures)
 
 same-length-7 : tie.Need-same-length-7
 same-length-7 c = search needs
 
 returns-7 : tie.Need-returns-7
-returns-7 c = let x = c .before .before in matched _ _ _ (x .before .before .before .call7 .given .1) (x .explain-absent-insert .ensures)
+returns-7 c = let x = c .before .before in matched _ _ _ _ (x .before .before .before .call7 .given .1) (x .explain-absent-insert .ensures)
 
 pub explain-spec : {M : Type 1} → statement M
 explain-spec =

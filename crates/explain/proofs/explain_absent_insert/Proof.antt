@@ -1,7 +1,7 @@
 use Prim.Native.Nat.{ℕ}
 use native.Mathlib.Omega.{arith}
 use mathlib.Core.Path.{_≡_, refl, sym, ap, _∙_}
-use mathlib.Core.Bool.{Bool, true, _&&_}
+use mathlib.Core.Bool.{Bool, true, not, _&&_}
 use mathlib.Core.List.{List}
 use lib.ListN.{length}
 use mathlib.Core.Option.{none, some}
@@ -13,10 +13,12 @@ use Rattle.model.specs.Table.{indexIn}
 use Rattle.model.specs.Layout.{tableOf}
 use Rattle.model.specs.Step.{nodeOf}
 use Rattle.model.specs.Call.{ValueArgument, KeyCall, valueOf, isOne}
-use Rattle.model.specs.Question.{valueInRange, isAbsent}
+use Rattle.model.specs.Session.{Session, hoursQuestions}
+use Rattle.model.specs.Question.{firstFailed, valueInRange, isAbsent}
 use Rattle.model.specs.Explain.{explanationRoom, toldInsert, insertReason}
-use Rattle.laws.proofs.Tests.{and-turned}
+use Rattle.laws.proofs.Tests.{clash, and-turned}
 use Rattle.node.specs.Node.{argumentOf}
+use Rattle.session.specs.Hours.{sessionOf}
 use Rattle.on_key.specs.Answers.{failedOfFive}
 use Rattle.on_key.specs.Start.{AtBucket}
 use Rattle.on_key.proofs.Questions.{passed-five}
@@ -34,7 +36,7 @@ use Rattle.explain.proofs.explain_absent_insert.Tie as tie
 -- the call's arguments
 module _ (b : tie.After-begin-at) where
   abbrev o : tie.Start
-  o = b .before .before .before .before .before
+  o = b .before .before .before .before .before .before .before
 
   abbrev s : List ℕ
   s = o .args .s .now
@@ -60,11 +62,14 @@ module _ (b : tie.After-begin-at) where
   abbrev time : ℕ
   time = o .args .time
 
+  abbrev session : Session
+  session = sessionOf (o .args .windows .now) (o .args .closed .now) (o .args .moment)
+
   abbrev codes : Bool
   codes = valueInRange value && (leb state 1 && leb direction 1)
 
   abbrev call : KeyCall
-  call = KeyCall.absentInsert value state direction time
+  call = KeyCall.absentInsert value state direction time session
 
   -- the codes, as they were tested
   asked : (b .before .in-range .result && (leb state 1 && leb direction 1)) ≡ codes
@@ -136,16 +141,19 @@ insert-sound-requires c κs =
 record-of-requires : tie.Need-record-of-requires
 record-of-requires c κs = refl
 
+session-asked-requires : tie.Need-asked-requires
+session-asked-requires c κs = search needs
+
 told-insert-requires : tie.Need-told-insert-requires
 told-insert-requires c κs = search needs
 
 insert-reason-requires : tie.Need-insert-reason-requires
-insert-reason-requires c κs = c .before .before .before .before .before .before .load-bucket .ensures .sound
+insert-reason-requires c κs = c .before .before .before .before .before .before .before .load-bucket .ensures .sound
 
 ended-requires : tie.Need-ended-requires
 ended-requires c κs =
     let w = c .before in
-    let r = w .before .before in
+    let r = w .before .before .before in
     let m = r .before .before in
     let h = m .before in
     let l = h .before .before in
@@ -166,7 +174,7 @@ returns-2 c =
     let x = c .before .before in
     let e = x .before .before in
     let b = there e in
-    ends-local (s b) (key b) (call b) (out b) (local e .0) (local e .1 .0) (reads-none (s b) (key b) (call b) (local e .1 .1)) (sym (ap isAbsent (kind-self (s b) (key b) (local e .1 .1)))) (local e .1 .1) refl refl (x .ended-local .ensures)
+    ends-local (s b) (key b) (call b) (out b) (local e .0) (local e .1 .0) (reads-none (s b) (key b) (call b) (local e .1 .1)) (sym (ap isAbsent (kind-self (s b) (key b) (local e .1 .1)))) (λ f. clash f refl) (local e .1 .1) refl refl (x .ended-local .ensures)
 
 same-length-2 : tie.Need-same-length-2
 same-length-2 c = search needs
@@ -175,14 +183,16 @@ returns-3 : tie.Need-returns-3
 returns-3 c =
     let x = c .before .before in
     let w = x .before .before in
-    let r = w .before .before in
+    let r = w .before .before .before in
     let m = r .before .before in
     let h = m .before in
     let l = h .before .before in
     let k = l .before .before in
     let b = began k in
     let z = stepped (l .load-bucket .ensures) (λ (u : rules.BucketSettings) (n : ℕ) (y : rules.Bucket). rules.insert u (time b) (record { key = n; value = valueOf (value b); connected = isOne (state b); incoming = isOne (direction b) }) y) (at k .key-is) (m .insert-sound .ensures .0) (m .insert-sound .ensures .1) in
-    ends-at (s b) (key b) (call b) (out b) (opening k .0) (at k .passed) (own-formed (s b) (key b) (call b) (at k) refl) (h .is-absent .ensures ∙ sym (ap isAbsent (kind-told (at k) (l .load-bucket .ensures) (h .before .kind-of .ensures .0)))) (at k .index)
+    let found = h .is-absent .ensures ∙ sym (ap isAbsent (kind-told (at k) (l .load-bucket .ensures) (h .before .kind-of .ensures .0))) in
+    ends-at (s b) (key b) (call b) (out b) (opening k .0) (at k .passed) (own-formed (s b) (key b) (call b) (at k) refl) found
+    (λ _. sym (ap (λ (q : Bool). firstFailed (hoursQuestions (session b) (not q))) (sym found) ∙ w .before .before .asked .ensures)) (at k .index)
     (stored-insert-records _ _ _ (m .insert-sound .result .bucket) (l .load-bucket .ensures) (at k .key-is) (r .record-of .ensures .0) (time b) (nodeOf (key b) (value b) (state b) (direction b)) refl (z .bucket))
     (w .before .told-insert .ensures ∙ ap toldInsert (z .answer)) (reason-told (l .load-bucket .ensures) (λ (bs : ℕ → rules.Bucket) (u : rules.BucketSettings) (n : ℕ) (y : rules.Bucket). insertReason u (record { key = n; value = valueOf (value b); connected = isOne (state b); incoming = isOne (direction b) }) y) (at k .key-is) (w .insert-reason .ensures) _) (x .ended .ensures)
 
@@ -201,6 +211,7 @@ explain-absent-insert-spec =
     is-absent-requires
     insert-sound-requires
     record-of-requires
+    session-asked-requires
     told-insert-requires
     insert-reason-requires
     ended-requires

@@ -1,7 +1,7 @@
 use Prim.Native.Nat.{ℕ}
 use native.Mathlib.Omega.{arith}
 use mathlib.Core.Path.{_≡_, refl, ap, _∙_, sym, subst}
-use mathlib.Core.Bool.{Bool, true, cond, _&&_}
+use mathlib.Core.Bool.{Bool, true, cond, not, _&&_}
 use mathlib.Core.List.{List}
 use lib.ListN.{length}
 use mathlib.Core.Option.{none, some}
@@ -10,24 +10,27 @@ use borrow.Author.Tests.{leb-true}
 use Rattle.model.specs.Bytes.{number}
 use Rattle.model.specs.Value.{Value}
 use Rattle.model.specs.Bucket as rules
-use Rattle.model.specs.Table.{Answer, failsTableFilter, insertOrUpdateIn, indexIn}
+use Rattle.model.specs.Table.{EntryKind, Answer, failsTableFilter, insertOrUpdateIn, kindOf, indexIn}
+use Rattle.model.specs.Session.{Session, hoursQuestions}
 use Rattle.model.specs.Layout.{tableOf}
 use Rattle.model.specs.Formed.{bucketsFormed, formed}
 use Rattle.model.specs.Step.{nodeOf}
 use Rattle.model.specs.Call.{ValueArgument, KeyCall, valueOf, isOne}
-use Rattle.model.specs.Question.{valueInRange}
+use Rattle.model.specs.Question.{firstFailed, isAbsent, valueInRange}
 use Rattle.model.specs.Explain as model
 use Rattle.model.specs.Explain.{explanationRoom, told, tableFilterReason, insertOrUpdateReason}
 use Rattle.laws.proofs.Tests.{and-turned}
 use Rattle.node.specs.Node.{argumentOf}
-use Rattle.on_key.specs.Answers.{failedOfFive}
+use Rattle.session.specs.Hours.{sessionOf}
+use Rattle.on_key.specs.Answers.{refusal, failedOfFive}
 use Rattle.table_filter.specs.Filtered.{filterReads, AskedFilter, isMalformed, hasFailed}
 use Rattle.table_filter.proofs.Asked.{malformed-read, answer-told, failed-formed}
 use Rattle.on_key.specs.Start.{AtBucket}
 use Rattle.on_key.proofs.Questions.{passed-five}
-use Rattle.on_key.proofs.OneKey.{reads-none, reads-are}
+use Rattle.on_key.proofs.OneKey.{hours, reads-none, reads-are}
 use Rattle.on_key.proofs.Steps.{timely, stepped}
 use Rattle.on_key.proofs.Endings.{insert-or-update-records}
+use Rattle.entry.proofs.Kind.{kind-self, kind-at}
 use Rattle.explain.proofs.Ends.{opened, refused-early, refused-read, ends-local, ends-at, reason-told}
 use Rattle.reasons.proofs.OfTable.{own-insert-or-update, own-unless, filter-told}
 use borrow.Author.Needs.{needs}
@@ -37,7 +40,7 @@ use Rattle.explain.proofs.explain_insert_or_update.Tie as tie
 -- the call's arguments
 module _ (b : tie.After-begin-at) where
   abbrev o : tie.Start
-  o = b .before .before .before .before .before
+  o = b .before .before .before .before .before .before .before
 
   abbrev s : List ℕ
   s = o .args .s .now
@@ -63,11 +66,14 @@ module _ (b : tie.After-begin-at) where
   abbrev time : ℕ
   time = o .args .time
 
+  abbrev session : Session
+  session = sessionOf (o .args .windows .now) (o .args .closed .now) (o .args .moment)
+
   abbrev codes : Bool
   codes = valueInRange value && (leb state 1 && leb direction 1)
 
   abbrev call : KeyCall
-  call = KeyCall.insertOrUpdate value state direction time
+  call = KeyCall.insertOrUpdate value state direction time session
 
   -- the codes, as they were tested
   asked : (b .before .in-range .result && (leb state 1 && leb direction 1)) ≡ codes
@@ -101,9 +107,18 @@ module _ (e : tie.After-enum-told) where
   local : (room there ≡ true) × ((failedOfFive (key there) (codes there) (some (time there)) (s there) ≡ none) × (indexIn (tableOf (s there)) (number (key there)) ≡ none))
   local = opened (s there) (key there) (some (time there)) (room there) (asked there) (there .begin-at .ensures) (e .enum-told .given .1)
 
+session-asked-requires : tie.Need-asked-requires
+session-asked-requires c κs = search needs
+
+-- the hours, as they were asked
+own-hours : (q : tie.After-asked) → firstFailed (hours (s (there (q .before))) (key (there (q .before))) (call (there (q .before)))) ≡ refusal (q .asked .result)
+own-hours q =
+    let b = there (q .before) in
+    ap (λ (x : EntryKind). firstFailed (hoursQuestions (session b) (not (isAbsent x)))) (kind-self (s b) (key b) (local (q .before) .1 .1)) ∙ q .asked .ensures
+
 ended-local-requires : tie.Need-ended-local-requires
 ended-local-requires c κs =
-    let e = c .before in
+    let e = c .before .before in
     let b = there e in
     let p = passed-five (s b) (key b) (codes b) (some (time b)) (local e .1 .0) in
     ((p .size, p .header), leb-true explanationRoom (length (out b)) (local e .0))
@@ -197,12 +212,28 @@ insert-or-update-in-requires c κs =
 record-of-requires : tie.Need-record-of-requires
 record-of-requires c κs = c .before .before .before .apply-at .ensures .codes
 
+asked-at-requires : tie.Need-asked-at-requires
+asked-at-requires c κs = at (here (c .before .before .before .before .before)) .ready
+
+-- of the bucket as it is stored
+module _ (q : tie.After-asked-at) where
+  abbrev of-key : tie.After-start2
+  of-key = here (q .before .before .before .before .before .before)
+
+  asked-hours : firstFailed (hours (s (began of-key)) (key (began of-key)) (call (began of-key))) ≡ refusal (q .asked-at .result)
+  asked-hours =
+      let b = began of-key in
+      let i = of-key .start2 .given .0 .1 .0 in
+      ap (λ (x : EntryKind). firstFailed (hoursQuestions (session b) (not (isAbsent x))))
+      (kind-at (s b) (key b) i (at of-key .index) ∙ ap (λ (n : ℕ). kindOf n (tableOf (s b) .buckets i)) (sym (at of-key .key-is)))
+      ∙ q .asked-at .ensures
+
 told-insert-or-update-requires : tie.Need-told-insert-or-update-requires
 told-insert-or-update-requires c κs = search needs
 
 insert-or-update-why-requires : tie.Need-insert-or-update-why-requires
 insert-or-update-why-requires c κs =
-    let a = c .before .before .before .before .before in
+    let a = c .before .before .before .before .before .before in
     let k = here (a .before) in
     let b = began k in
     let z = a .apply-at .ensures .bucket in
@@ -211,7 +242,7 @@ insert-or-update-why-requires c κs =
 ended-requires : tie.Need-ended-requires
 ended-requires c κs =
     let w = c .before in
-    let r = w .before .before in
+    let r = w .before .before .before in
     let m = r .before .before in
     let a = m .before .before in
     let k = here (a .before) in
@@ -229,9 +260,10 @@ same-length c = search needs
 returns-3 : tie.Need-returns-3
 returns-3 c =
     let x = c .before .before in
-    let e = x .before .before in
+    let q = x .before .before in
+    let e = q .before in
     let b = there e in
-    ends-local (s b) (key b) (call b) (out b) (local e .0) (local e .1 .0) (reads-none (s b) (key b) (call b) (local e .1 .1)) refl (local e .1 .1) refl refl (x .ended-local .ensures)
+    ends-local (s b) (key b) (call b) (out b) (local e .0) (local e .1 .0) (reads-none (s b) (key b) (call b) (local e .1 .1)) refl (λ _. sym (own-hours q)) (local e .1 .1) refl refl (x .ended-local .ensures)
 
 same-length-2 : tie.Need-same-length-2
 same-length-2 c = search needs
@@ -240,7 +272,7 @@ returns-4 : tie.Need-returns-4
 returns-4 c =
     let x = c .before .before in
     let w = x .before .before in
-    let r = w .before .before in
+    let r = w .before .before .before in
     let m = r .before .before in
     let a = m .before .before in
     let k = here (a .before) in
@@ -252,7 +284,7 @@ returns-4 c =
     let y = rules.applyPending u (time b) (t .buckets i) .0 in
     let f = g .has-failed .ensures ∙ read g .1 in
     let z = stepped (a .apply-at .ensures .bucket) (does b (g .has-failed .result)) (at k .key-is) (m .insert-or-update-in .ensures .0) (m .insert-or-update-in .ensures .1) in
-    ends-at (s b) (key b) (call b) (out b) (opening k .0) (at k .passed) (reads-are (s b) (key b) (call b) (at k .index) (read g .0)) refl (at k .index)
+    ends-at (s b) (key b) (call b) (out b) (opening k .0) (at k .passed) (reads-are (s b) (key b) (call b) (at k .index) (read g .0)) refl (λ _. sym (asked-hours (w .before .before))) (at k .index)
     (insert-or-update-records _ (time b) _ _ (m .insert-or-update-in .result .bucket) (a .apply-at .ensures .bucket) (a .apply-at .ensures .records) (at k .key-is) (r .record-of .ensures .0) (failsTableFilter t i (number (key b)) (valueOf (value b))) (nodeOf (key b) (value b) (state b) (direction b)) refl (z .bucket ∙ ap (λ (q : Bool). does b q u (number (key b)) y .1) f))
     (w .before .told-insert-or-update .ensures ∙ ap told (z .answer ∙ ap (λ (q : Bool). does b q u (number (key b)) y .0) f))
     (reason-told (a .apply-at .ensures .bucket) (why b (g .has-failed .result)) (at k .key-is) (w .insert-or-update-why .ensures) _ ∙ ap (λ (q : Bool). why b q (t .buckets) u (number (key b)) y) f) (x .ended .ensures)
@@ -265,6 +297,7 @@ explain-insert-or-update-spec =
     begin-at-requires
     enum-known-start
     enum-told
+    session-asked-requires
     ended-local-requires
     enum-known-start-2
     asked-filter-requires
@@ -274,6 +307,7 @@ explain-insert-or-update-spec =
     apply-at-requires
     insert-or-update-in-requires
     record-of-requires
+    asked-at-requires
     told-insert-or-update-requires
     insert-or-update-why-requires
     ended-requires

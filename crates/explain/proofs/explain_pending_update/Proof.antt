@@ -131,7 +131,7 @@ returns-2 c =
     let x = c .before .before in
     let e = x .before .before in
     let b = there e in
-    ends-local (s b) (key b) (call b) (out b) (local e .0) (local e .1 .0) (reads-none (s b) (key b) (call b) (local e .1 .1)) (sym (ap isPending (kind-self (s b) (key b) (local e .1 .1)))) (local e .1 .1) refl refl (x .ended-local .ensures)
+    ends-local (s b) (key b) (call b) (out b) (local e .0) (local e .1 .0) (reads-none (s b) (key b) (call b) (local e .1 .1)) (sym (ap isPending (kind-self (s b) (key b) (local e .1 .1)))) (λ _. refl) (local e .1 .1) refl refl (x .ended-local .ensures)
 
 same-length-2 : tie.Need-same-length-2
 same-length-2 c = search needs
@@ -144,7 +144,7 @@ returns-3 c =
     let l = h .before .before in
     let k = l .before .before in
     let b = began k in
-    ends-at (s b) (key b) (call b) (out b) (opening k .0) (at k .passed) (own-formed (s b) (key b) (call b) (at k) refl) (h .is-pending .ensures ∙ sym (ap isPending (kind-told (at k) (l .load-bucket .ensures) (h .before .kind-of .ensures .0)))) (at k .index) refl
+    ends-at (s b) (key b) (call b) (out b) (opening k .0) (at k .passed) (own-formed (s b) (key b) (call b) (at k) refl) (h .is-pending .ensures ∙ sym (ap isPending (kind-told (at k) (l .load-bucket .ensures) (h .before .kind-of .ensures .0)))) (λ _. refl) (at k .index) refl
     refl (w .no-reason .ensures .reason _) (x .ended .ensures)
 
 pub explain-pending-update-spec : {M : Type 1} → statement M

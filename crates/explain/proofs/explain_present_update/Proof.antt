@@ -160,7 +160,7 @@ returns-2 c =
     let x = c .before .before in
     let e = x .before .before in
     let b = there e in
-    ends-local (s b) (key b) (call b) (out b) (local e .0) (local e .1 .0) (reads-none (s b) (key b) (call b) (local e .1 .1)) (sym (ap isPresent (kind-self (s b) (key b) (local e .1 .1)))) (local e .1 .1) refl refl (x .ended-local .ensures)
+    ends-local (s b) (key b) (call b) (out b) (local e .0) (local e .1 .0) (reads-none (s b) (key b) (call b) (local e .1 .1)) (sym (ap isPresent (kind-self (s b) (key b) (local e .1 .1)))) (λ _. refl) (local e .1 .1) refl refl (x .ended-local .ensures)
 
 same-length-2 : tie.Need-same-length-2
 same-length-2 c = search needs
@@ -176,7 +176,7 @@ returns-3 c =
     let k = l .before .before in
     let b = began k in
     let z = stepped (l .load-bucket .ensures) (λ (u : rules.BucketSettings) (n : ℕ) (y : rules.Bucket). rules.updateStatus u n (isOne (state b)) (optional (direction b)) y) (at k .key-is) (m .update-status-sound .ensures .0) (m .update-status-sound .ensures .1) in
-    ends-at (s b) (key b) (call b) (out b) (opening k .0) (at k .passed) (own-formed (s b) (key b) (call b) (at k) refl) (h .is-present .ensures ∙ sym (ap isPresent (kind-told (at k) (l .load-bucket .ensures) (h .before .kind-of .ensures .0)))) (at k .index)
+    ends-at (s b) (key b) (call b) (out b) (opening k .0) (at k .passed) (own-formed (s b) (key b) (call b) (at k) refl) (h .is-present .ensures ∙ sym (ap isPresent (kind-told (at k) (l .load-bucket .ensures) (h .before .kind-of .ensures .0)))) (λ _. refl) (at k .index)
     (stored-status-records _ _ _ (m .update-status-sound .result .bucket) (l .load-bucket .ensures) (at k .key-is) (r .record-of .ensures .0) (isOne (state b)) (optional (direction b)) (z .bucket))
     (w .before .told-update .ensures ∙ ap toldUpdate (z .answer)) (reason-told (l .load-bucket .ensures) (λ (bs : ℕ → rules.Bucket) (u : rules.BucketSettings) (n : ℕ) (y : rules.Bucket). statusReason u n (isOne (state b)) (optional (direction b)) y) (at k .key-is) (w .status-reason .ensures) _) (x .ended .ensures)
 

@@ -129,7 +129,7 @@ returns-2 c =
     let x = c .before .before in
     let e = x .before .before in
     let b = there e in
-    ends-local (s b) (key b) (call b) (out b) (local e .0) (local e .1 .0) (reads-none (s b) (key b) (call b) (local e .1 .1)) refl (local e .1 .1) refl refl (x .ended-local .ensures)
+    ends-local (s b) (key b) (call b) (out b) (local e .0) (local e .1 .0) (reads-none (s b) (key b) (call b) (local e .1 .1)) refl (λ _. refl) (local e .1 .1) refl refl (x .ended-local .ensures)
 
 same-length-2 : tie.Need-same-length-2
 same-length-2 c = search needs
@@ -143,7 +143,7 @@ returns-3 c =
     let b = began k in
     let m = w .before in
     let z = stepped (a .apply-at .ensures .bucket) (λ (u : rules.BucketSettings) (n : ℕ) (y : rules.Bucket). rules.remove u (time b) n y) (at k .key-is) (m .remove-sound .ensures .0) (m .remove-sound .ensures .1) in
-    ends-at (s b) (key b) (call b) (out b) (opening k .0) (at k .passed) (own-formed (s b) (key b) (call b) (at k) refl) refl (at k .index) (no-own (a .apply-at .ensures .records))
+    ends-at (s b) (key b) (call b) (out b) (opening k .0) (at k .passed) (own-formed (s b) (key b) (call b) (at k) refl) refl (λ _. refl) (at k .index) (no-own (a .apply-at .ensures .records))
     (ap model.Told.Removed (z .answer)) (reason-told (a .apply-at .ensures .bucket) (λ (bs : ℕ → rules.Bucket) (u : rules.BucketSettings) (n : ℕ) (y : rules.Bucket). removeReason n y) (at k .key-is) (w .remove-reason .ensures) _) (x .ended .ensures)
 
 pub explain-remove-spec : {M : Type 1} → statement M

@@ -226,7 +226,7 @@ returns-3 c =
     let x = c .before .before in
     let e = x .before .before in
     let b = there e in
-    ends-local (s b) (key b) (call b) (out b) (local e .0) (local e .1 .0) (reads-none (s b) (key b) (call b) (local e .1 .1)) refl (local e .1 .1) refl refl (x .ended-local .ensures)
+    ends-local (s b) (key b) (call b) (out b) (local e .0) (local e .1 .0) (reads-none (s b) (key b) (call b) (local e .1 .1)) refl (λ _. refl) (local e .1 .1) refl refl (x .ended-local .ensures)
 
 same-length-2 : tie.Need-same-length-2
 same-length-2 c = search needs
@@ -247,7 +247,7 @@ returns-4 c =
     let y = rules.applyPending u (time b) (t .buckets i) .0 in
     let f = g .has-failed .ensures ∙ read g .1 in
     let z = stepped (a .apply-at .ensures .bucket) (does b (g .has-failed .result)) (at k .key-is) (m .update-node-in .ensures .0) (m .update-node-in .ensures .1) in
-    ends-at (s b) (key b) (call b) (out b) (opening k .0) (at k .passed) (reads-are (s b) (key b) (call b) (at k .index) (read g .0)) refl (at k .index)
+    ends-at (s b) (key b) (call b) (out b) (opening k .0) (at k .passed) (reads-are (s b) (key b) (call b) (at k .index) (read g .0)) refl (λ _. refl) (at k .index)
     (update-records _ (time b) _ _ (m .update-node-in .result .bucket) (a .apply-at .ensures .bucket) (a .apply-at .ensures .records) (at k .key-is) (r .record-of .ensures .0) (failsTableFilter t i (number (key b)) (valueOf (value b))) (valueOf (value b)) (optional (state b)) (z .bucket ∙ ap (λ (q : Bool). does b q u (number (key b)) y .1) f))
     (w .before .told-update .ensures ∙ ap told (z .answer ∙ ap (λ (q : Bool). does b q u (number (key b)) y .0) f))
     (reason-told (a .apply-at .ensures .bucket) (why b (g .has-failed .result)) (at k .key-is) (w .update-node-why .ensures) _ ∙ ap (λ (q : Bool). why b q (t .buckets) u (number (key b)) y) f) (x .ended .ensures)

@@ -155,7 +155,7 @@ returns-2 c =
     let x = c .before .before in
     let e = x .before .before in
     let b = there e in
-    ends-local (s b) (key b) (call b) (out b) (local e .0) (local e .1 .0) (reads-none (s b) (key b) (call b) (local e .1 .1)) refl (local e .1 .1) refl refl (x .ended-local .ensures)
+    ends-local (s b) (key b) (call b) (out b) (local e .0) (local e .1 .0) (reads-none (s b) (key b) (call b) (local e .1 .1)) refl (λ _. refl) (local e .1 .1) refl refl (x .ended-local .ensures)
 
 same-length-2 : tie.Need-same-length-2
 same-length-2 c = search needs
@@ -170,7 +170,7 @@ returns-3 c =
     let k = a .before .before in
     let b = began k in
     let z = stepped (a .apply-at .ensures .bucket) (λ (u : rules.BucketSettings) (n : ℕ) (y : rules.Bucket). rules.updateStatus u n (isOne (state b)) (optional (direction b)) y) (at k .key-is) (m .update-status-sound .ensures .0) (m .update-status-sound .ensures .1) in
-    ends-at (s b) (key b) (call b) (out b) (opening k .0) (at k .passed) (own-formed (s b) (key b) (call b) (at k) refl) refl (at k .index)
+    ends-at (s b) (key b) (call b) (out b) (opening k .0) (at k .passed) (own-formed (s b) (key b) (call b) (at k) refl) refl (λ _. refl) (at k .index)
     (status-records _ (time b) _ _ (m .update-status-sound .result .bucket) (a .apply-at .ensures .bucket) (a .apply-at .ensures .records) (at k .key-is) (r .record-of .ensures .0) (isOne (state b)) (optional (direction b)) (z .bucket))
     (w .before .told-update .ensures ∙ ap toldUpdate (z .answer)) (reason-told (a .apply-at .ensures .bucket) (λ (bs : ℕ → rules.Bucket) (u : rules.BucketSettings) (n : ℕ) (y : rules.Bucket). statusReason u n (isOne (state b)) (optional (direction b)) y) (at k .key-is) (w .status-reason .ensures) _) (x .ended .ensures)
 

@@ -1,4 +1,5 @@
 use Rattle.model.specs.Call.{Call, KeyCall}
+use Rattle.session.specs.Hours.{sessionOf}
 use Rattle.codes.proofs.Thin.{carries, too-short, absent-insert-asked}
 use borrow.Author.Needs.{needs}
 use Rattle.kbuckets.proofs.kbuckets_absent_insert.Statement.{statement}
@@ -13,8 +14,8 @@ same-length c = search needs
 returns : tie.Need-returns
 returns c =
     let i = c .before .before in
-    let a = i .before .before .before .before .args in
-    too-short (Call.onKey (a .key .now) (KeyCall.absentInsert (record { flag = a .flag; a = a .a; b = a .b; c = a .c; d = a .d; slot = a .slot }) (a .state) (a .direction) (a .time))) (a .storage .now) (a .answer .now) (i .if1 .taken) (absent-insert-asked (a .key .now) (record { flag = a .flag; a = a .a; b = a .b; c = a .c; d = a .d; slot = a .slot }) (a .state) (a .direction) (a .time) (a .storage .now)) (c .short-node .ensures)
+    let a = i .before .before .before .before .before .before .args in
+    too-short (Call.onKey (a .key .now) (KeyCall.absentInsert (record { flag = a .flag; a = a .a; b = a .b; c = a .c; d = a .d; slot = a .slot }) (a .state) (a .direction) (a .time) (sessionOf (a .windows .now) (a .closed .now) (record { year = a .year; month = a .month; day = a .day; minute = a .minute })))) (a .storage .now) (a .answer .now) (i .if1 .taken) (absent-insert-asked (a .key .now) (record { flag = a .flag; a = a .a; b = a .b; c = a .c; d = a .d; slot = a .slot }) (a .state) (a .direction) (a .time) (sessionOf (a .windows .now) (a .closed .now) (record { year = a .year; month = a .month; day = a .day; minute = a .minute })) (a .storage .now)) (c .short-node .ensures)
 
 absent-insert-requires : tie.Need-absent-insert-requires
 absent-insert-requires c κs = search needs
@@ -33,8 +34,8 @@ returns-2 c =
     let p = c .before .before in
     let x = p .before .before .before .before in
     let i = x .before .before in
-    let a = i .before .before .before .before .args in
-    carries (Call.onKey (a .key .now) (KeyCall.absentInsert (record { flag = a .flag; a = a .a; b = a .b; c = a .c; d = a .d; slot = a .slot }) (a .state) (a .direction) (a .time))) (a .storage .now) (a .answer .now) (i .if1 .left) (x .absent-insert .ensures) (p .put-inserted .ensures .0) (p .put-inserted .ensures .1)
+    let a = i .before .before .before .before .before .before .args in
+    carries (Call.onKey (a .key .now) (KeyCall.absentInsert (record { flag = a .flag; a = a .a; b = a .b; c = a .c; d = a .d; slot = a .slot }) (a .state) (a .direction) (a .time) (sessionOf (a .windows .now) (a .closed .now) (record { year = a .year; month = a .month; day = a .day; minute = a .minute })))) (a .storage .now) (a .answer .now) (i .if1 .left) (x .absent-insert .ensures) (p .put-inserted .ensures .0) (p .put-inserted .ensures .1)
 
 pub kbuckets-absent-insert-spec : {M : Type 1} → statement M
 kbuckets-absent-insert-spec =

@@ -47,6 +47,10 @@ Set-up that writes the bytes without asking (I is a bucket's index, or b for the
   MAX_INCOMING       the most connected incoming nodes of a bucket, 0 to 16
   TABLE_FILTER       1: a value fails where the table holds 10 values of its /24 that are unequal to it, the key's own apart; 0: off
   BUCKET_FILTER      1: a value fails where the bucket holds 2 values of its /24 that are unequal to it, the key's own apart; 0: off
+  WINDOWS            weekly windows, WEEKDAY:OPENING:CLOSING joined by commas, as 1:540:1020,5:540:1440; '-' for none, and then no hours are
+                     asked for. Weekdays are 1, Monday, to 7, Sunday; the opening minute is in a window, the closing minute is not
+  CLOSED             dates without windows, joined by commas, '-' for none; '+' behind WINDOWS or CLOSED hands over one number more
+  DATE MINUTE        the UTC date, YEAR-MONTH-DAY, from 2000 to 2399, and minute, 0 to 1439
   DISTANCES          log2 distances joined by commas, '-' for none; distance D, 1 to 256, is bucket D - 1, others are dropped
   PREDICATE          0 always, 1 has an address, 2:a.b.c address in that /24, 3:SLOT slot equals
   PLACE              the first connected place, '-' for none
@@ -59,7 +63,8 @@ Set-up that writes the bytes without asking (I is a bucket's index, or b for the
 
 'Refused Q' is a call that changed nothing, since question Q failed: 1 the storage's length, 2 the form of settings, queue and, asked after
 6, the buckets that the call reads, 3 a key's length, 4 a code, 5 NOW + TIMEOUT, 6 N or the output's length, 7 the entry's kind, 8 room in
-the queue of records, 9 the bytes to be read, or a table that holds a node, a pending or a record.
+the queue of records, 9 the bytes to be read, or a table that holds a node, a pending or a record, 10 WINDOWS, CLOSED, DATE or MINUTE, 11 a
+key that is neither local, held nor pending, outside all windows.
 
 Other answers are sigp/discv5's names; host/CALLS.md has them all, and the form of a dump. 'explain' gives a call's answer before it is made,
 the reason, and the keys behind it: 'Failed BucketFull pending KEY'. The table stays as it is.
@@ -205,9 +210,9 @@ fn table_call(storage: &mut [u8], call: &TableCall, output: &mut Output, out: &m
         TableCall::UpdateNode { now, key, value, state } => {
             update_result(lent::update_node(storage, key, *value, *state, *now)?, out);
         }
-        TableCall::InsertOrUpdate { now, key, value, state, direction } => {
+        TableCall::InsertOrUpdate { now, key, value, state, direction, session } => {
             let answer = answer(output);
-            let result = lent::insert_or_update(storage, key, *value, *state, *direction, *now, answer)?;
+            let result = lent::insert_or_update(storage, key, *value, *state, *direction, *now, session, answer)?;
             insert_result(result, output, out);
         }
         TableCall::Remove { now, key } => yes_or_no(lent::remove(storage, key, *now)?, out),
@@ -218,9 +223,9 @@ fn table_call(storage: &mut [u8], call: &TableCall, output: &mut Output, out: &m
         TableCall::PendingUpdate { key, state, direction } => {
             update_result(lent::pending_update(storage, key, *state, *direction)?, out);
         }
-        TableCall::AbsentInsert { now, key, value, state, direction } => {
+        TableCall::AbsentInsert { now, key, value, state, direction, session } => {
             let answer = answer(output);
-            let result = lent::absent_insert(storage, key, *value, *state, *direction, *now, answer)?;
+            let result = lent::absent_insert(storage, key, *value, *state, *direction, *now, session, answer)?;
             bucket_insert_result(result, output, out);
         }
         TableCall::List { now, listing, n, room } => list(storage, *now, listing, *n, *room, output, out)?,
@@ -353,8 +358,8 @@ fn explain(
         TableCall::UpdateNode { now, key, value, state } => {
             lent::explain_update_node(storage, key, *value, *state, *now, lent)
         }
-        TableCall::InsertOrUpdate { now, key, value, state, direction } => {
-            lent::explain_insert_or_update(storage, key, *value, *state, *direction, *now, lent)
+        TableCall::InsertOrUpdate { now, key, value, state, direction, session } => {
+            lent::explain_insert_or_update(storage, key, *value, *state, *direction, *now, session, lent)
         }
         TableCall::Remove { now, key } => lent::explain_remove(storage, key, *now, lent),
         TableCall::PresentUpdate { key, state, direction } => {
@@ -363,8 +368,8 @@ fn explain(
         TableCall::PendingUpdate { key, state, direction } => {
             lent::explain_pending_update(storage, key, *state, *direction, lent)
         }
-        TableCall::AbsentInsert { now, key, value, state, direction } => {
-            lent::explain_absent_insert(storage, key, *value, *state, *direction, *now, lent)
+        TableCall::AbsentInsert { now, key, value, state, direction, session } => {
+            lent::explain_absent_insert(storage, key, *value, *state, *direction, *now, session, lent)
         }
         _ => unreachable!("the text has no explanation of another call"),
     }?;
@@ -521,7 +526,7 @@ mod tests {
 
     #[test]
     fn a_refusal_changes_nothing() {
-        for question in 1..=9 {
+        for question in 1..=11 {
             let refused = || Err(Unanswered::Refused(question));
             assert_eq!(called(false, |_, _| refused()), refused());
             let storage = called(true, |bytes, _| {

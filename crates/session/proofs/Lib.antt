@@ -1,0 +1,3 @@
+pub mod Threes
+pub mod Months
+pub mod Hours
