@@ -1,2 +1,3 @@
 -- Laws of the entry calls.
 pub mod Kind
+pub mod InPlace

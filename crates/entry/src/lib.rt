@@ -23,6 +23,7 @@ use node::NodeStatus;
 use node::Value;
 use on_key::Start;
 use session::Moment;
+use storage::Layout;
 
 // The kind of a key's entry, with its status.
 pub enum EntryKind {
@@ -201,17 +202,32 @@ pub fn absent_insert(
         Start::Refused(q) => InsertAnswer::Refused(q),
         Start::Local => InsertAnswer::Refused(7),
         Start::At(k, i) => {
-            let b = buckets::load_bucket(s, i);
-            let found = kind_of(b, k);
-            if !is_absent(found) {
-                return InsertAnswer::Refused(7);
-            }
             let status = NodeStatus { state, direction };
             let node = Node {
                 key: k,
                 value,
                 status,
             };
+            let at = Layout::HEADER + i * Layout::BUCKET;
+            if held::is_quiet(s, at) {
+                let count = s[at] as usize;
+                let pos = held::position(s, at, count, k);
+                let known = pos < count;
+                if known {
+                    return InsertAnswer::Refused(7);
+                }
+                let q = session::asked(windows, closed, moment, known);
+                if q != 0 {
+                    return InsertAnswer::Refused(q);
+                }
+                let result = held::insert_new(s, at, count, node, time);
+                return InsertAnswer::Answered(result);
+            }
+            let b = buckets::load_bucket(s, i);
+            let found = kind_of(b, k);
+            if !is_absent(found) {
+                return InsertAnswer::Refused(7);
+            }
             let inserted = b.insert_sound(node, time);
             let filled = inserted.bucket;
             let result = inserted.result;

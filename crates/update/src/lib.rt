@@ -97,16 +97,27 @@ pub fn insert_or_update(
                 return InsertOrUpdateAnswer::Refused(2);
             }
             let fails = table_filter::has_failed(filter);
-            let a = on_key::apply_at(s, i, time);
-            let applied = a.applied;
-            let b = a.bucket;
-            let before = b.pending;
             let status = NodeStatus { state, direction };
             let node = Node {
                 key: k,
                 value,
                 status,
             };
+            let at = Layout::HEADER + i * Layout::BUCKET;
+            if held::is_quiet(s, at) {
+                let count = s[at] as usize;
+                let pos = held::position(s, at, count, k);
+                let q = session::asked(windows, closed, moment, pos < count);
+                if q != 0 {
+                    return InsertOrUpdateAnswer::Refused(q);
+                }
+                let result = held_update::insert_or_update(s, at, count, pos, fails, node, time);
+                return InsertOrUpdateAnswer::Answered(result);
+            }
+            let a = on_key::apply_at(s, i, time);
+            let applied = a.applied;
+            let b = a.bucket;
+            let before = b.pending;
             let placed = bucket_update::insert_or_update_in(b, fails, node, time);
             let filled = placed.bucket;
             let result = placed.result;
