@@ -9,6 +9,7 @@ from pathlib import Path
 
 ROOT = Path(__file__).resolve().parent.parent
 ITEM = re.compile(r'^impl (\w+)|^( *)((?:pub(?:\(crate\))? )?)(?:extern "C" )?fn (\w+)', re.M)
+CONSTANT = re.compile(r"^(?:pub(?:\(crate\))? )?const (\w+)\b.*?;$", re.M | re.S)
 TOKEN = re.compile(r"//[^\n]*|--[^\n]*|(?P<string>\"[^\"\n]*\")|(0x[0-9A-Fa-f_]+|[0-9][0-9_]*)|(\w+|[^\w\s])")
 
 
@@ -35,6 +36,15 @@ def functions_of(crate, file):
         name = "::".join([crate, *module, *([kind] if item[2] else []), item[4]])
         found.append(Function(name, bool(item[3]), is_internal(text[: item.start()]), item.start(), opens.end(), closes.end()))
     return found
+
+
+def users_of(crate, constant):
+    """the functions of a crate whose body names a constant"""
+    users = set()
+    for path in sorted((ROOT / "crates" / crate / "src").glob("*.rt")):
+        text = path.read_text()
+        users |= {f.name for f in functions_of(crate, f"src/{path.name}") if re.search(rf"\b{constant}\b", text[f.body : f.end])}
+    return users
 
 
 def is_internal(before):
@@ -67,13 +77,16 @@ class Edit:
         return path.read_text() if path.is_file() else ""
 
     def changed(self, body=False):
-        """the functions that an edit of code changes, by their text or by their body alone"""
+        """the functions that an edit of code changes, by their text or by their body alone; of a constant: those that name it"""
         names = set()
         for file, old, _ in self.pairs:
             at = self.text(file).find(old)
             for f in functions_of(self.crate, file) if at >= 0 else []:
                 if (f.body if body else f.start) <= at and at + len(old) <= f.end:
                     names.add(f.name)
+            for constant in CONSTANT.finditer(self.text(file)):
+                if constant.start() <= at and at + len(old) <= constant.end():
+                    names |= users_of(self.crate, constant[1])
         return names
 
     def of_bodies(self):

@@ -1,6 +1,6 @@
 -- Laws of the calendar (02, slips 8 and 9): the day after a date is one further, and its weekday is the next, also over the ends of
 -- months, leap years and centuries.
-use Prim.Native.Nat.{ℕ, _+_, _-_, _%_, _≤_, _<_}
+use Prim.Native.Nat.{ℕ, zero, suc, _+_, _-_, _*_, _%_, _≤_, _<_}
 use native.Mathlib.Numerals.{add-one}
 use native.Mathlib.Omega.{arith}
 use mathlib.Core.Path.{_≡_, refl, sym, ap, _∙_}
@@ -12,7 +12,7 @@ use lib.Dec.{leb, ltb}
 use borrow.Author.Tests.{ltb-true, ltb-false, leb-true, le-leb}
 use Rattle.model.specs.Base.{allBelow}
 use Rattle.model.specs.Session.{Date, leap, yearDays, yearStart, monthDays, monthStart, daysIn, isDate, dayNumber, nextDay, weekdayOf}
-use Rattle.laws.proofs.Tests.{and-left, and-right, cases}
+use Rattle.laws.proofs.Tests.{and-left, and-right, cases, split}
 use Rattle.laws.proofs.Lists.{all-gives, lt-or-le}
 
 -- what a date is made of
@@ -66,6 +66,15 @@ pub month-not-empty : (l : Bool) (m : ℕ) → m < 12 → 1 ≤ getD (monthDays 
 unfolding allBelow
 month-not-empty true m h = leb-true _ _ (all-gives 12 (λ i. leb 1 (getD (monthDays true) i 0)) m h refl)
 month-not-empty false m h = leb-true _ _ (all-gives 12 (λ i. leb 1 (getD (monthDays false) i 0)) m h refl)
+
+-- no year has more than 366 days
+pub year-at-most : (n : ℕ) → yearStart n ≤ 366 * n
+unfolding yearStart
+year-at-most zero = omega arith
+year-at-most (suc n) =
+    split (leap (2000 + n))
+    (λ e. let d : yearDays (2000 + n) ≡ 366 = rw e in omega (arith, year-at-most n, d))
+    (λ e. let d : yearDays (2000 + n) ≡ 365 = rw e in omega (arith, year-at-most n, d))
 
 -- the first of the month behind month m
 month-turns : (ds : List ℕ) (m : ℕ) → 1 ≤ m → monthStart ds (m + 1 - 1) ≡ monthStart ds (m - 1) + getD ds (m - 1) 0

@@ -1,17 +1,17 @@
 -- The calendar's tables of months, and how large its numbers are.
-use Prim.Native.Nat.{ℕ, zero, suc, _+_, _-_, _*_, _≤_, _<_}
+use Prim.Native.Nat.{ℕ, _+_, _-_, _≤_, _<_}
 use native.Mathlib.Omega.{arith}
-use mathlib.Core.Path.{_≡_, refl, _∙_}
+use mathlib.Core.Path.{_≡_, refl}
 use mathlib.Core.Bool.{Bool, true, false, cond, _&&_, _||_}
 use mathlib.Core.List.{List, [], _∷_}
 use lib.ListN.{getD}
 use lib.Dec.{eqb, leb, ltb}
 use borrow.Author.Tests.{eqb-true, leb-true, ne-eqb, lt-ltb, le-ltb}
 use Rattle.model.specs.Base.{allBelow}
-use Rattle.model.specs.Session.{Date, leap, yearDays, yearStart, monthDays, monthStart, isDate, dayNumber}
-use Rattle.laws.proofs.Tests.{or-rest, and-none, split}
+use Rattle.model.specs.Session.{Date, leap, monthDays, monthStart, isDate, dayNumber}
+use Rattle.laws.proofs.Tests.{or-rest, and-none}
 use Rattle.laws.proofs.Lists.{all-gives}
-use Rattle.laws.proofs.Calendar.{date-parts, year-next}
+use Rattle.laws.proofs.Calendar.{date-parts, year-at-most}
 
 -- the days before each month of a year that is no leap year
 abbrev pub monthStarts : List ℕ
@@ -49,15 +49,7 @@ module _ (l : Bool) (m : ℕ) (h : m < 12) where
 pub february : (l : Bool) (m : ℕ) → m ≡ 2 → cond l 29 28 ≡ getD (monthDays l) (m - 1) 0
 february l m e = rw e
 
--- a year further
-module _ (n : ℕ) where
-  pub year-leap : leap (2000 + n) ≡ true → yearStart (n + 1) ≡ yearStart n + 366
-  year-leap e = year-next n ∙ rw e
-
-  pub year-plain : leap (2000 + n) ≡ false → yearStart (n + 1) ≡ yearStart n + 365
-  year-plain e = year-next n ∙ rw e
-
--- how large: a month, its start, a year's start, a day number
+-- how large: a month, its start, a day number
 
 pub month-at-most : (l : Bool) (m : ℕ) → m < 12 → getD (monthDays l) m 0 ≤ 31
 unfolding allBelow
@@ -72,14 +64,6 @@ pub start-at-most : (l : Bool) (m : ℕ) → m < 12 → monthStart (monthDays l)
 unfolding allBelow monthStart
 start-at-most false m h = leb-true _ _ (all-gives 12 (λ i. leb (monthStart (monthDays false) i) 335) m h refl)
 start-at-most true m h = leb-true _ _ (all-gives 12 (λ i. leb (monthStart (monthDays true) i) 335) m h refl)
-
-pub year-at-most : (n : ℕ) → yearStart n ≤ 366 * n
-unfolding yearStart
-year-at-most zero = omega arith
-year-at-most (suc n) =
-    split (leap (2000 + n))
-    (λ e. let d : yearDays (2000 + n) ≡ 366 = rw e in omega (arith, year-at-most n, d))
-    (λ e. let d : yearDays (2000 + n) ≡ 365 = rw e in omega (arith, year-at-most n, d))
 
 pub day-at-most : (d : Date) → isDate d ≡ true → dayNumber d < 200000
 unfolding dayNumber

@@ -9,6 +9,10 @@ ghost use Rattle.model.specs.Session.{windowsOf, datesOf, leap, yearStart, mont
 ghost use Rattle.on_key.specs.Answers.{refusal};
 ghost use Rattle.session.specs.Hours.{windowOf, dateOf, entryAt, sessionOf};
 
+mod years;
+
+use crate::years::YEAR_STARTS;
+
 // How many windows and closed dates a call may give, three numbers each.
 const MAX_WINDOWS: usize = 32;
 
@@ -48,22 +52,12 @@ fn is_leap(year: u16) -> bool
     year % 400 == 0
 }
 
-// The day number of 1 January of the year 2000 + n.
+// The day number of 1 January of the year 2000 + n, looked up.
 fn year_start(n: u16) -> u32
     requires { ⌜ n < 400 ⌝ }
     ensures { λ r. ⌜ r ≡ yearStart n ⌝ }
 {
-    let mut start: u32 = 0;
-    let mut i: u16 = 0;
-    while i < n {
-        if is_leap(FIRST_YEAR + i) {
-            start += 366;
-        } else {
-            start += 365;
-        }
-        i += 1;
-    }
-    start
+    YEAR_STARTS[n as usize]
 }
 
 // The days of a month.

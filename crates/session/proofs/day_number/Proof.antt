@@ -1,9 +1,9 @@
 use Prim.Native.Nat.{_-_}
 use native.Mathlib.Omega.{arith}
 use Rattle.model.specs.Session.{leap, dayNumber}
-use Rattle.laws.proofs.Calendar.{date-parts}
+use Rattle.laws.proofs.Calendar.{date-parts, year-at-most}
 use Rattle.session.specs.Hours.{dateOf}
-use Rattle.session.proofs.Months.{month-at-most, start-at-most, year-at-most}
+use Rattle.session.proofs.Months.{month-at-most, start-at-most}
 use borrow.Author.Needs.{needs}
 use Rattle.session.proofs.day_number.Statement.{statement}
 use Rattle.session.proofs.day_number.Tie as tie
