@@ -1,6 +1,7 @@
 // Nanoseconds per call of the table's exports, whole calls with all their questions, in passes of CALLS: the least and the median of all
-// passes. Of a plain sum (sum.c, sum.rs) and of question 2 of the whole table the least: kbuckets_write without an output asks questions 1
-// and 2, of all buckets, and is refused with 6.
+// passes. Question 2 of the whole table is kbuckets_write without an output, which asks questions 1 and 2, of all buckets, and is refused
+// with 6. The limit is what it takes to read the bytes that a call must read, 16 at a time, and do nothing with them (x86-64).
+#include <emmintrin.h>
 #include <stddef.h>
 #include <stdint.h>
 #include <stdio.h>
@@ -9,10 +10,10 @@
 #include <time.h>
 #include "../../include/kbuckets.h"
 
-enum { ROUNDS = 100, CALLS = 32, N = 16 };
+enum { ROUNDS = 100, CALLS = 32, N = 16, ALL = 4096 };
 
 static uint8_t storage[KBUCKETS_STORAGE_BYTES];
-static uint8_t answer[KBUCKETS_ANSWER_BYTES], output[N * KBUCKETS_CLOSEST_KEYS_ENTRY_BYTES];
+static uint8_t answer[KBUCKETS_ANSWER_BYTES], output[ALL * KBUCKETS_ITER_ENTRY_BYTES];
 static uint8_t held[4096][32];
 static int held_count;
 
@@ -59,50 +60,32 @@ static void fill(int first, int most) {
         }
 }
 
-// Plain sums: by 64-bit and by 32-bit numbers.
-typedef uint64_t sum_function(const uint8_t *bytes, size_t length);
-#define SUMS(compiler) sum_function sum_64_##compiler, sum_32_##compiler;
-#ifdef HAS_gcc
-SUMS(gcc)
-#endif
-#ifdef HAS_clang
-SUMS(clang)
-#endif
-#ifdef HAS_rustc
-SUMS(rustc)
-#endif
-#define SUM(compiler) { #compiler, { sum_64_##compiler, sum_32_##compiler } },
-static const struct {
-    const char *compiler;
-    sum_function *by[2];
-} sums[] = {
-#ifdef HAS_gcc
-    SUM(gcc)
-#endif
-#ifdef HAS_clang
-    SUM(clang)
-#endif
-#ifdef HAS_rustc
-    SUM(rustc)
-#endif
-};
-
 static volatile uint64_t sink;
-static sum_function *chosen;
-static void run_sum(int i) { (void)i; sink += chosen(storage, sizeof storage); }
+
+// The bytes OR-ed, 16 at a time and 128 in a step, in eight sums, since one would wait for itself; the last 128 may overlap those before.
+static int or_of(const uint8_t *bytes, size_t length) {
+    __m128i sums[8] = {0};
+    for (size_t i = 0; i < length; i += 128) {
+        const uint8_t *step = bytes + (i + 128 <= length ? i : length - 128);
+        for (int k = 0; k < 8; k++) sums[k] = _mm_or_si128(sums[k], _mm_loadu_si128((const __m128i *)step + k));
+    }
+    for (int k = 1; k < 8; k++) sums[0] = _mm_or_si128(sums[0], sums[k]);
+    return _mm_movemask_epi8(sums[0]);
+}
+static void run_header(int i) { (void)i; sink += (uint64_t)or_of(storage, KBUCKETS_HEADER_BYTES); }
+static void run_bucket(int i) {
+    size_t bucket = 192 + (size_t)i * 37 % 64;
+    run_header(i);
+    sink += (uint64_t)or_of(storage + KBUCKETS_HEADER_BYTES + bucket * KBUCKETS_STORED_BUCKET_BYTES, KBUCKETS_STORED_BUCKET_BYTES);
+}
+static void run_storage(int i) { (void)i; sink += (uint64_t)or_of(storage, sizeof storage); }
+
 static void run_question_2(int i) { (void)i; sink += kbuckets_write(storage, sizeof storage, output, 0); }
 static void run_take(int i) { (void)i; sink += kbuckets_take_applied_pending(storage, sizeof storage, answer, sizeof answer); }
 
-// The keys of a pass stand in one buffer, as in the messages that a host took them from; they are put there before the clock starts. With the
-// word 'list' on the command line they stay in the list of all keys, and the call is the first to read its key.
-static uint8_t messages[CALLS][32];
-static const uint8_t *keys[CALLS], *key;
-static int from_list;
-static void take_key(int i) {
-    const uint8_t *from = held[(unsigned)i * 2654435761u % (unsigned)held_count];
-    if (!from_list) from = memcpy(messages[i % CALLS], from, 32);
-    keys[i % CALLS] = from;
-}
+// The keys of a pass stand in one buffer, as in the messages that a host took them from; they are put there before the clock starts.
+static uint8_t keys[CALLS][32], *key;
+static void take_key(int i) { memcpy(keys[i % CALLS], held[(unsigned)i * 2654435761u % (unsigned)held_count], 32); }
 static void run_status(int i) { (void)i; sink += kbuckets_update_node_status(storage, sizeof storage, key, 32, 1, 0, 0); }
 static void run_held(int i) { (void)i; sink += put(key); }
 static void run_update(int i) { sink += kbuckets_update_node(storage, sizeof storage, key, 32, 1, 10, 0, 0, 1, (kbuckets_slot)i, 1, 0); }
@@ -114,23 +97,9 @@ static void run_closest(int i) {
     uint8_t target[32];
     memcpy(target, key, sizeof target);
     target[31] ^= 85;
-    sink += kbuckets_closest_keys(storage, sizeof storage, target, sizeof target, N, 0, output, sizeof output);
+    sink += kbuckets_closest_keys(storage, sizeof storage, target, sizeof target, N, 0, output, N * KBUCKETS_CLOSEST_KEYS_ENTRY_BYTES);
 }
-
-static double timed(void (*f)(int), int i) {
-    double start = now_ns();
-    f(i);
-    return now_ns() - start;
-}
-
-static double best(void (*f)(int)) {
-    double ns = 1e18;
-    for (int r = 0; r < ROUNDS * CALLS; r++) {
-        double took = timed(f, r);
-        if (took < ns) ns = took;
-    }
-    return ns;
-}
+static void run_iter(int i) { (void)i; sink += kbuckets_iter(storage, sizeof storage, ALL, 0, output, sizeof output); }
 
 static int ascending(const void *a, const void *b) { return (*(const double *)a > *(const double *)b) - (*(const double *)a < *(const double *)b); }
 
@@ -145,7 +114,7 @@ static void pass(void (*f)(int), int r) {
 static void measure_call(const char *name, void (*f)(int), void (*undo)(int)) {
     static double whole[ROUNDS];
     for (int r = 0; r < ROUNDS; r++) {
-        for (int i = r * CALLS; i < (r + 1) * CALLS; i++) take_key(i);
+        for (int i = r * CALLS; held_count > 0 && i < (r + 1) * CALLS; i++) take_key(i);
         double start = now_ns();
         pass(f, r);
         whole[r] = (now_ns() - start) / CALLS;
@@ -155,12 +124,13 @@ static void measure_call(const char *name, void (*f)(int), void (*undo)(int)) {
     printf("  %-42s %9.0f ns, median %6.0f\n", name, whole[0], whole[ROUNDS / 2]);
 }
 
-static double measure(const char *name, int first, int most) {
+static void measure(const char *name, int first, int most) {
     fill(first, most);
-    double question_2 = best(run_question_2);
-    printf("%s, %d nodes\n  %-42s %9.0f ns\n", name, held_count, "question 2 of the whole table", question_2);
-    if (held_count == 0) return question_2;
+    printf("%s, %d nodes\n", name, held_count);
+    measure_call("question 2 of the whole table", run_question_2, 0);
     measure_call("take_applied_pending, empty queue", run_take, 0);
+    measure_call("iter", run_iter, 0);
+    if (held_count == 0) return;
     measure_call("update_node_status", run_status, 0);
     measure_call("present_update", run_present, 0);
     measure_call("update_node, another value", run_update, 0);
@@ -168,47 +138,43 @@ static double measure(const char *name, int first, int most) {
     measure_call("entry", run_entry, 0);
     if (held_count > 2 * CALLS) measure_call("remove", run_remove, run_held);
     measure_call("closest_keys of 16", run_closest, 0);
-    return question_2;
 }
 
-// For a count of instructions (tools/bench/instructions): CALLS calls of closest_keys and as many of update_node_status, on a table as `fill`
-// makes it.
-static int counted(int first, int most) {
+// For a count of instructions (tools/bench/instructions): fills the table and makes CALLS calls, on nodes spread over all that are held, or on
+// new keys of CALLS buckets where none is. 'new' takes its keys out first, 'remove' puts them in where none is held, 'filled' makes no calls.
+static void count(int first, int most, const char *call) {
     fill(first, most);
     for (int i = 0; i < CALLS; i++) {
-        if (held_count == 0) random_key(messages[i], 255), keys[i] = messages[i];
-        else take_key(i);
+        if (held_count == 0) random_key(keys[i], 255 - i);
+        else memcpy(keys[i], held[i * held_count / CALLS], 32);
     }
-    pass(run_closest, 0);
-    pass(run_status, 0);
-    return held_count;
+    static const struct {
+        const char *name;
+        void (*f)(int);
+    } calls[] = {
+        {"update_node_status", run_status}, {"update_node", run_update}, {"held", run_held}, {"new", run_held}, {"remove", run_remove},
+        {"closest_keys", run_closest},      {"iter", run_iter},
+    };
+    if (strcmp(call, "new") == 0 && held_count > 0) pass(run_remove, 0);
+    if (strcmp(call, "remove") == 0 && held_count == 0) pass(run_held, 0);
+    for (size_t k = 0; k < sizeof calls / sizeof calls[0]; k++)
+        if (strcmp(call, calls[k].name) == 0) pass(calls[k].f, 0);
+    printf("%d nodes, %d calls\n", held_count, CALLS);
 }
 
-int main(int count, char **words) {
-    double sum[2] = {1e18, 1e18};
-    if (count == 4 && strcmp(words[1], "count") == 0) {
-        printf("%d nodes, %d calls\n", counted(atoi(words[2]), atoi(words[3])), CALLS);
+int main(int words, char **word) {
+    if (words == 5 && strcmp(word[1], "count") == 0) {
+        count(atoi(word[2]), atoi(word[3]), word[4]);
         return 0;
     }
-    from_list = count > 1 && strcmp(words[1], "list") == 0;
-    fill(0, 16);
-    printf("plain sum of %zu bytes, ns\n  %-10s %12s %12s\n", sizeof storage, "", "64-bit", "32-bit");
-    for (size_t k = 0; k < sizeof sums / sizeof sums[0]; k++) {
-        printf("  %-10s", sums[k].compiler);
-        for (int width = 0; width < 2; width++) {
-            chosen = sums[k].by[width];
-            double ns = best(run_sum);
-            if (ns < sum[width]) sum[width] = ns;
-            printf(" %12.0f", ns);
-        }
-        printf("\n");
-    }
-    double full = measure("full table", 0, 16);
+    measure("full table", 0, 16);
     measure("63 full buckets", 193, 16);
     measure("252 buckets of 4", 4, 4);
     measure("one full bucket", 255, 16);
-    double empty = measure("empty table", 256, 16);
-    printf("question 2 / plain sum, 64-bit: full %.2f, empty %.2f\n", full / sum[0], empty / sum[0]);
-    printf("question 2 / plain sum, 32-bit: full %.2f, empty %.2f\n", full / sum[1], empty / sum[1]);
+    measure("empty table", 256, 16);
+    printf("limit\n");
+    measure_call("header", run_header, 0);
+    measure_call("header and one bucket", run_bucket, 0);
+    measure_call("header and all buckets", run_storage, 0);
     return 0;
 }

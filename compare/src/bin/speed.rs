@@ -27,12 +27,15 @@ fn main() -> ExitCode {
 mod measure {
     use compare::driver::{Table, key_of, new_table};
     use compare::kbucket::{
-        ConnectionDirection, ConnectionState, FailureReason, InsertResult, Key, NodeStatus, UpdateResult,
+        AppliedPending, ConnectionDirection, ConnectionState, FailureReason, InsertResult, Key, NodeStatus,
+        UpdateResult, access,
     };
-    use compare::layout::{BUCKETS, KEY, NODE, PLACES, RECORD, STORAGE, Settings, VALUE, value_bytes};
+    use compare::layout::{
+        BUCKETS, KEY, NODE, PLACES, RECORD, RECORDS, STORAGE, Settings, TableBytes, VALUE, value_bytes,
+    };
     use compare::stand_ins::enr::NodeId;
     use compare::stand_ins::{Value, clock};
-    use compare::text::{Slot, ValueCodes};
+    use compare::text::{EndingCodes, RecordCodes, Slot, ValueCodes};
     use std::alloc::{GlobalAlloc, Layout, System};
     use std::hint::black_box;
     use std::process::ExitCode;
@@ -42,16 +45,17 @@ mod measure {
     const HELP: &str = "speed [ROUNDS]
 
 Prints nanoseconds per call of the proved library and of sigp/discv5: whole calls, with all their questions, in passes of 64 (32 inserts or
-removes, 4 of iter), the least time of ROUNDS (60) rounds. Then the most that a call on one key takes of the reference's time, filters off, and
-what closest_keys takes on 1,008 nodes in 63 buckets.
+removes; 16 on the nodes of one bucket; 4 of iter), the least time of ROUNDS (60) rounds. At the end the figures wanted, each beside what was reached: the most
+that the call takes of the reference's time on any of the tables with an empty queue.
 
-On the tables of 1,008 nodes also the explanations of these calls, and how many times the call's own time they take. Their lines name no key.";
+On the tables of 1,008 nodes and an empty queue also the explanations of these calls, and how many times the call's own time they take. Their
+lines name no key.";
 
     const ROUNDS: usize = 60;
     /// Calls in a timed pass: on one key, of `iter`.
     const CALLS: usize = 64;
     const ITER_CALLS: usize = 4;
-    /// Calls in a timed pass of inserts and of removes, each in another bucket.
+    /// Calls in a timed pass of inserts and of removes, each in another bucket; where one bucket alone holds nodes, all of these.
     const CHANGES: usize = 32;
     /// Keys asked of `closest_keys`, nodes of `iter`.
     const CLOSEST: usize = 16;
@@ -60,9 +64,21 @@ On the tables of 1,008 nodes also the explanations of these calls, and how many 
     const EXPLANATION: usize = 2048;
     /// The nodes of the tables on which explanations are timed.
     const EXPLAINED_NODES: usize = 1008;
-    /// What is wanted of the library's time divided by the reference's: a call on one key, and closest_keys on 1,008 nodes in 63 buckets.
-    const MOST_ON_KEY: f64 = 10.0;
-    const MOST_CLOSEST: f64 = 0.5;
+    /// What is wanted of the library's time divided by the reference's: the calls, the filters, how many nodes (any number where it is not given),
+    /// the most.
+    const WANTED: [(&[Call], u8, Option<usize>, f64); 11] = [
+        (&[Call::UpdateNodeStatus], 0, None, 2.5),
+        (&[Call::SameValue, Call::OtherValue], 0, None, 1.9),
+        (&[Call::Insert, Call::Full], 0, None, 2.9),
+        (&[Call::Remove], 0, None, 3.4),
+        (&[Call::ClosestKeys], 0, Some(0), 0.8),
+        (&[Call::ClosestKeys], 0, Some(1008), 0.33),
+        (&[Call::Iter], 0, Some(0), 5.2),
+        (&[Call::Iter], 0, Some(1008), 1.9),
+        (&[Call::Iter], 0, Some(4047), 1.2),
+        (&[Call::OtherValue, Call::Insert, Call::Full], 1, Some(1008), 2.3),
+        (&[Call::OtherValue, Call::Insert, Call::Full], 1, Some(4047), 1.8),
+    ];
     const NOW: u64 = 1;
     const TIMEOUT: u64 = 60_000;
 
@@ -487,10 +503,6 @@ On the tables of 1,008 nodes also the explanations of these calls, and how many 
             }
         }
 
-        fn on_key(self) -> bool {
-            !matches!(self, Call::ClosestKeys | Call::Iter | Call::Take)
-        }
-
         /// The line of its explanation, where it has one.
         fn line(self) -> Option<&'static str> {
             match self {
@@ -518,9 +530,11 @@ On the tables of 1,008 nodes also the explanations of these calls, and how many 
         reference_bytes: usize,
         held: usize,
         filter: u8,
-        /// Held, drawn at random.
+        /// In the queue.
+        records: usize,
+        /// Held, drawn at random, none of them twice.
         drawn: Vec<Peer>,
-        /// Of different buckets; all held, or none where no node is held.
+        /// Of different buckets, or all of the one bucket; all held, or none where no node is held.
         changing: Vec<Peer>,
         /// Not held, of full buckets.
         outside: Vec<Peer>,
@@ -543,8 +557,8 @@ On the tables of 1,008 nodes also the explanations of these calls, and how many 
     }
 
     impl Setup {
-        /// At most `most` nodes in each of the buckets from `first` on.
-        fn new(first: usize, most: usize, filter: u8) -> Setup {
+        /// At most `most` nodes in each of the buckets from `first` on, and so many records of placed pendings in the queue.
+        fn new(first: usize, most: usize, filter: u8, records: usize) -> Setup {
             let mut random = Random(88_172_645_463_325_252);
             let local = random.key();
             let settings = Settings { timeout: TIMEOUT, max_incoming: 16, table_filter: filter, bucket_filter: filter };
@@ -566,26 +580,34 @@ On the tables of 1,008 nodes also the explanations of these calls, and how many 
                 }
                 peers.push(of_bucket);
             }
+            let mut bytes = TableBytes(library.storage);
+            for _ in 0..records {
+                let key = random.key();
+                bytes.push_record(&RecordCodes { key, ending: EndingCodes::Placed(None) }).unwrap();
+                let record = AppliedPending { inserted: key_of(&key), evicted: None };
+                access::applied_pending_mut(&mut reference).push_back(record);
+            }
+            library.storage = bytes.0;
             let before = ALLOCATED.load(Relaxed);
             let copy = reference.clone();
             let reference_bytes = size_of::<Table>() + ALLOCATED.load(Relaxed) - before;
             drop(copy);
             let held = number;
             let again = |p: &Peer| peer(p.key, p.slot as usize);
-            let drawn = match held {
-                0 => Vec::new(),
-                _ => (0..CALLS)
-                    .map(|_| {
-                        let of_bucket = &peers[random.next() as usize % peers.len()];
-                        again(&of_bucket[random.next() as usize % of_bucket.len()])
-                    })
-                    .collect(),
-            };
+            let mut drawn: Vec<Peer> = Vec::new();
+            while drawn.len() < CALLS.min(held) {
+                let of_bucket = &peers[random.next() as usize % peers.len()];
+                let new = again(&of_bucket[random.next() as usize % of_bucket.len()]);
+                if drawn.iter().all(|p| p.key != new.key) {
+                    drawn.push(new);
+                }
+            }
             let changing = match held {
                 0 => (BUCKETS - CHANGES..BUCKETS)
                     .enumerate()
                     .map(|(n, i)| peer(random.key_of_bucket(&local, i), n))
                     .collect(),
+                _ if peers.len() == 1 => peers[0].iter().map(again).collect(),
                 _ => (0..CHANGES).map(|n| again(&peers[peers.len() - 1 - n][n % most])).collect(),
             };
             let outside = match most {
@@ -603,6 +625,7 @@ On the tables of 1,008 nodes also the explanations of these calls, and how many 
                 .filter(|call| match call {
                     Call::UpdateNodeStatus | Call::SameValue | Call::OtherValue => held > 0,
                     Call::Full => most == PLACES && held > 0,
+                    Call::Take => records == 0,
                     _ => true,
                 })
                 .filter(|call| filter == 0 || call.filtered())
@@ -615,11 +638,34 @@ On the tables of 1,008 nodes also the explanations of these calls, and how many 
                 .collect();
             let buckets = peers.len();
             let name = format!(
-                "{held} nodes{}, filters {}",
-                if held == 0 { String::new() } else { format!(", at most {most} in each of {buckets} buckets") },
-                if filter == 0 { "off" } else { "on" }
+                "{held} nodes{}, filters {}{}",
+                match buckets {
+                    0 => String::new(),
+                    1 => " in one bucket".to_string(),
+                    _ => format!(", at most {most} in each of {buckets} buckets"),
+                },
+                if filter == 0 { "off" } else { "on" },
+                if records == 0 { String::new() } else { format!(", records in the queue: {records}") }
             );
-            Setup { name, library, reference, reference_bytes, held, filter, drawn, changing, outside, targets, rows }
+            Setup {
+                name,
+                library,
+                reference,
+                reference_bytes,
+                held,
+                filter,
+                records,
+                drawn,
+                changing,
+                outside,
+                targets,
+                rows,
+            }
+        }
+
+        /// Whether explanations are timed here.
+        fn explains(&self) -> bool {
+            self.held == EXPLAINED_NODES && self.records == 0
         }
 
         /// One round: each call on one side, then on the other.
@@ -632,15 +678,14 @@ On the tables of 1,008 nodes also the explanations of these calls, and how many 
                 held: self.held > 0,
             };
             let [one, other] = outputs;
+            let explains = self.explains();
             for row in &mut self.rows {
                 let (library, reference) = (&mut self.library, &mut self.reference);
                 peers.timed(library, row.call, one, &mut row.library);
                 peers.timed(reference, row.call, other, &mut row.reference);
                 assert!(one.answers == other.answers, "{}: the answers differ", row.call.name());
                 assert!(one.bytes == other.bytes, "{}: the outputs differ", row.call.name());
-                if self.held == EXPLAINED_NODES
-                    && let Some(line) = row.call.line()
-                {
+                if explains && let Some(line) = row.call.line() {
                     peers.explained(library, row.call, line, &mut one.answers, &mut row.explanation);
                     // The same removes and inserts on the other side, so that the buckets keep one order.
                     if row.call == Call::Insert {
@@ -737,13 +782,20 @@ On the tables of 1,008 nodes also the explanations of these calls, and how many 
         };
         clock::set(Some(NOW));
         let mut setups = [
-            Setup::new(BUCKETS, PLACES, 0),
-            Setup::new(193, PLACES, 0),
-            Setup::new(4, 4, 0),
-            Setup::new(0, PLACES, 0),
-            Setup::new(BUCKETS, PLACES, 1),
-            Setup::new(193, PLACES, 1),
-            Setup::new(0, PLACES, 1),
+            Setup::new(BUCKETS, PLACES, 0, 0),
+            Setup::new(255, PLACES, 0, 0),
+            Setup::new(193, PLACES, 0, 0),
+            Setup::new(4, 4, 0, 0),
+            Setup::new(0, PLACES, 0, 0),
+            Setup::new(193, PLACES, 0, 1),
+            Setup::new(193, PLACES, 0, RECORDS),
+            Setup::new(BUCKETS, PLACES, 1, 0),
+            Setup::new(255, PLACES, 1, 0),
+            Setup::new(193, PLACES, 1, 0),
+            Setup::new(4, 4, 1, 0),
+            Setup::new(0, PLACES, 1, 0),
+            Setup::new(193, PLACES, 1, 1),
+            Setup::new(193, PLACES, 1, RECORDS),
         ];
         let mut outputs = [(); 2].map(|_| Output { answers: Vec::new(), bytes: vec![0; ALL * NODE] });
         for _ in 0..rounds {
@@ -765,7 +817,7 @@ On the tables of 1,008 nodes also the explanations of these calls, and how many 
                 println!("  {:<40} {library:>8.0} {reference:>9.0} {:>19.2}", row.call.name(), row.times());
             }
             println!("  bytes: library {STORAGE}, reference {}", setup.reference_bytes);
-            if setup.held == EXPLAINED_NODES {
+            if setup.explains() {
                 println!("  {:<40} {:>8} {:>29}", "explained", "library", "explained / call");
                 for row in setup.rows.iter().filter(|row| row.call.line().is_some()) {
                     let (explanation, call) = (row.explanation.0, row.library.0);
@@ -773,15 +825,19 @@ On the tables of 1,008 nodes also the explanations of these calls, and how many 
                 }
             }
         }
-        let unfiltered = || setups.iter().filter(|setup| setup.filter == 0);
-        let on_key = unfiltered().flat_map(|setup| &setup.rows).filter(|row| row.call.on_key());
-        let most = on_key.max_by(|one, other| one.times().total_cmp(&other.times())).unwrap();
-        let (name, times) = (most.call.name(), most.times());
-        println!("\nlibrary / reference, filters off");
-        println!("  a call on one key: at most {times:.2} ({name}), wanted at most {MOST_ON_KEY}");
-        let full = unfiltered().find(|setup| setup.held == EXPLAINED_NODES).unwrap();
-        let closest = full.rows.iter().find(|row| row.call == Call::ClosestKeys).unwrap();
-        println!("  closest_keys, 16, {}: {:.2}, wanted at most {MOST_CLOSEST}", full.name, closest.times());
+        println!("\nlibrary / reference, wanted and reached, empty queue");
+        for (calls, filter, nodes, wanted) in WANTED {
+            let (reached, call, table) = setups
+                .iter()
+                .filter(|setup| setup.records == 0 && setup.filter == filter)
+                .filter(|setup| nodes.is_none_or(|nodes| setup.held == nodes))
+                .flat_map(|setup| setup.rows.iter().map(|row| (row.times(), row.call, &setup.name)))
+                .filter(|(_, call, _)| calls.contains(call))
+                .max_by(|one, other| one.0.total_cmp(&other.0))
+                .unwrap();
+            let verdict = if reached <= wanted { "reached" } else { "missed " };
+            println!("  at most {wanted:>4} {verdict} {reached:>6.2}  {}, {table}", call.name());
+        }
         ExitCode::SUCCESS
     }
 }
