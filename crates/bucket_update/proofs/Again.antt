@@ -1,14 +1,14 @@
--- The status's step and the value's step on a held node, in either order: where the bucket filter is off they are the node put again.
+-- The status's step and the value's step on a held node, in either order: where neither fails they are the node put again.
 use Prim.Native.Nat.{ℕ}
 use mathlib.Core.Path.{_≡_, refl, sym, ap, _∙_, subst}
-use mathlib.Core.Bool.{Bool, true, false, cond, not, _&&_}
+use mathlib.Core.Bool.{Bool, true, false, true≢false, cond, not, _&&_}
 use mathlib.Core.List.{List, [], _∷_, _++_}
 use mathlib.Core.Option.{Option, none, some}
 use Rattle.model.specs.Base.{same, isSome}
 use Rattle.model.specs.Value.{Value, sameValue}
 use Rattle.model.specs.Node.{Node, PendingNode, withStatus, withValue, sameStatus, promotes}
 use Rattle.model.specs.Result.{FailureReason, UpdateResult, InsertResult, isFailed}
-use Rattle.model.specs.Bucket.{Bucket, BucketSettings, nodes, find, get, holds, isMaxIncoming, withPending, cleared, only, placed, omit, takeOut, reinsert, statusResult, isFirst, takenOut, updateStatus, revalue, updateValue}
+use Rattle.model.specs.Bucket.{Bucket, BucketSettings, nodes, find, get, holds, failsBucketFilter, isMaxIncoming, withPending, cleared, only, placed, omit, takeOut, reinsert, statusResult, isFirst, takenOut, updateStatus, revalue, updateValue}
 use Rattle.model.specs.Table.{Answer, bothUpdates, updateNodeIn, insertUpdates, insertOrUpdateIn}
 use Rattle.laws.proofs.Tests.{same-self, split, cases}
 use Rattle.laws.proofs.Values.{sameValue-true}
@@ -16,9 +16,9 @@ use Rattle.laws.proofs.All.{all-left, all-right}
 use Rattle.laws.proofs.KeepLists.{Without, get-nodes, holds-without}
 use Rattle.laws.proofs.KeepFormed.{nodes-put, nodes-revalue, takeOut-without}
 use Rattle.bucket.proofs.Steps.{filter-off}
-use Rattle.bucket.proofs.Rules.{reinsert-many, reinsert-placed, status-held, value-same, value-changes}
+use Rattle.bucket.proofs.Rules.{reinsert-filter, reinsert-many, reinsert-placed, status-held, value-same, value-fails, value-changes}
 use Rattle.bucket_update.specs.Again.{putAgain, valueResult}
-use Rattle.bucket_update.proofs.Rules.{insert-failed, insert-both, node-both}
+use Rattle.bucket_update.proofs.Rules.{insert-failed, insert-both, node-failed, node-both}
 
 same-lists : {ds ds' cs cs' : List Node} {p p' : Option PendingNode} → ds ≡ ds' → cs ≡ cs' → p ≡ p'
     → _≡_ {A = Bucket} (record { disconnected = ds; connected = cs; pending = p }) (record { disconnected = ds'; connected = cs'; pending = p' })
@@ -50,6 +50,17 @@ revalue-placed n v b h =
     same-lists (revalue-end n v (not (n .connected)) (b .disconnected) (all-left (λ (m : Node). same (m .key) (n .key) ≡ false) (b .disconnected) (b .connected) w))
     (revalue-end n v (n .connected) (b .connected) (all-right (λ (m : Node). same (m .key) (n .key) ≡ false) (b .disconnected) (b .connected) w)) refl
 
+omit-end : (n : Node) (t : Bool) (ns : List Node) → Without (n .key) ns → omit (n .key) (ns ++ only t n) ≡ ns
+omit-end n true [] h = rw (same-self (n .key))
+omit-end n false [] h = refl
+omit-end n t (x ∷ xs) h = rw (h .0) (ap (λ (l : List Node). x ∷ l) (omit-end n t xs (h .1)))
+
+takeOut-placed : (n : Node) (b : Bucket) → holds (n .key) b ≡ false → takeOut (n .key) (placed n b) ≡ withPending (cleared (n .key) (b .pending)) b
+takeOut-placed n b h =
+    let w = holds-without (n .key) b h in
+    same-lists (omit-end n (not (n .connected)) (b .disconnected) (all-left (λ (m : Node). same (m .key) (n .key) ≡ false) (b .disconnected) (b .connected) w))
+    (omit-end n (n .connected) (b .connected) (all-right (λ (m : Node). same (m .key) (n .key) ≡ false) (b .disconnected) (b .connected) w)) refl
+
 -- Each step by itself.
 
 again-status : (s : BucketSettings) (b : Bucket) (m : Node) → get (m .key) b ≡ some m → (u : Bool) (d : Option Bool)
@@ -65,16 +76,17 @@ failed-both : (t : Bool) (r : FailureReason) → insertUpdates (cond t UpdateRes
 failed-both true r = refl
 failed-both false r = refl
 
-module _ (s : BucketSettings) (off : s .filter ≡ false) where
-  again-many : (n : Node) (b : Bucket) → isMaxIncoming s n (takenOut (n .key) (n .connected) b) ≡ true → putAgain s n b ≡ (some FailureReason.TooManyIncoming, takenOut (n .key) (n .connected) b)
-  again-many n b e = reinsert-many s n (takenOut (n .key) (n .connected) b) (filter-off s (n .value) (takenOut (n .key) (n .connected) b) off) e
+-- the filter reads the nodes alone
+filter-nodes : (s : BucketSettings) (v : Value) (o : Option PendingNode) (b : Bucket) → failsBucketFilter s v (withPending o b) ≡ failsBucketFilter s v b
+unfolding failsBucketFilter
+filter-nodes s v o b = refl
 
-  again-placed : (n : Node) (b : Bucket) → isMaxIncoming s n (takenOut (n .key) (n .connected) b) ≡ false → putAgain s n b ≡ (none, placed n (takenOut (n .key) (n .connected) b))
-  again-placed n b e = reinsert-placed s n (takenOut (n .key) (n .connected) b) (filter-off s (n .value) (takenOut (n .key) (n .connected) b) off) e
+module _ (s : BucketSettings) (n : Node) (v : Value) (b : Bucket) (h : holds (n .key) b ≡ false) where
+  filter-placed : failsBucketFilter s v (takeOut (n .key) (placed n b)) ≡ failsBucketFilter s v b
+  filter-placed = ap (failsBucketFilter s v) (takeOut-placed n b h) ∙ filter-nodes s v (cleared (n .key) (b .pending)) b
 
-  value-placed : (n : Node) (v : Value) (b : Bucket) → holds (n .key) b ≡ false
-      → updateValue s (n .key) v (placed n b) ≡ (valueResult (n .value) v, placed (withValue v n) b)
-  value-placed n v b h =
+  value-placed : failsBucketFilter s v b ≡ false → updateValue s (n .key) v (placed n b) ≡ (valueResult (n .value) v, placed (withValue v n) b)
+  value-placed f =
       let at = get-placed n b h in
       split (sameValue (n .value) v)
       (λ e.
@@ -82,46 +94,91 @@ module _ (s : BucketSettings) (off : s .filter ≡ false) where
       ∙ ap (λ (w : Value). (UpdateResult.NotModified, placed (withValue w n) b)) (sameValue-true (n .value) v e)
       ∙ ap (λ (t : Bool). (cond t UpdateResult.NotModified UpdateResult.Updated, placed (withValue v n) b)) (sym e))
       (λ e.
-      value-changes s (n .key) v (placed n b) n at e (filter-off s v (takeOut (n .key) (placed n b)) off)
+      value-changes s (n .key) v (placed n b) n at e (filter-placed ∙ f)
       ∙ ap (λ (m : Bucket). (UpdateResult.Updated, m)) (revalue-placed n v b h)
       ∙ ap (λ (t : Bool). (cond t UpdateResult.NotModified UpdateResult.Updated, placed (withValue v n) b)) (sym e))
 
-  -- insert_or_update of a held node m
-  module _ (now : ℕ) (b : Bucket) (m : Node) (at : get (m .key) b ≡ some m) (u d : Bool) (v : Value) where
-    abbrev stated : Node
-    stated = withStatus u (some d) m
+  value-refused : failsBucketFilter s (n .value) b ≡ false → failsBucketFilter s v b ≡ true
+      → updateValue s (n .key) v (placed n b) ≡ (UpdateResult.Failed FailureReason.BucketFilter, withPending (cleared (n .key) (b .pending)) b)
+  value-refused f g =
+      let new : sameValue (n .value) v ≡ false =
+      split (sameValue (n .value) v) (λ e. absurd (true≢false (sym g ∙ ap (λ (w : Value). failsBucketFilter s w b) (sym (sameValue-true (n .value) v e)) ∙ f))) (λ e. e) in
+      value-fails s (n .key) v (placed n b) n (get-placed n b h) new (filter-placed ∙ g)
+      ∙ ap (λ (m : Bucket). (UpdateResult.Failed FailureReason.BucketFilter, m)) (takeOut-placed n b h)
 
-    abbrev new : Node
-    new = withValue v stated
+-- insert_or_update of a held node m that becomes n: b is the bucket with m taken out
+abbrev pub heldSteps : BucketSettings → Node → Node → Bucket → Answer × Bucket
+heldSteps s m n b =
+    cond (failsBucketFilter s (m .value) b) (Answer.InsertOrUpdate (InsertResult.Failed FailureReason.TooManyIncoming), b)
+    (cond (isMaxIncoming s n b) (Answer.InsertOrUpdate (InsertResult.Failed FailureReason.TooManyIncoming), b)
+    (cond (failsBucketFilter s (n .value) b) (Answer.InsertOrUpdate (InsertResult.Failed FailureReason.BucketFilter), withPending (cleared (n .key) (b .pending)) b)
+    (Answer.InsertOrUpdate (insertUpdates (valueResult (m .value) (n .value)) (statusResult m n none)), placed n b)))
 
-    same-maximum : isMaxIncoming s stated (takenOut (m .key) u b) ≡ isMaxIncoming s new (takenOut (m .key) u b)
-    unfolding isMaxIncoming
-    same-maximum = refl
+module _ (s : BucketSettings) (now : ℕ) (b : Bucket) (m : Node) (at : get (m .key) b ≡ some m) (u d : Bool) (v : Value) where
+  abbrev stated : Node
+  stated = withStatus u (some d) m
 
-    abbrev answers : UpdateResult × Bucket → Answer × Bucket
-    answers r = (Answer.InsertOrUpdate (insertUpdates (updateValue s (m .key) v (r .1) .0) (r .0)), updateValue s (m .key) v (r .1) .1)
+  abbrev new : Node
+  new = withValue v stated
 
+  abbrev left : Bucket
+  left = takenOut (m .key) u b
+
+  same-maximum : isMaxIncoming s stated left ≡ isMaxIncoming s new left
+  unfolding isMaxIncoming
+  same-maximum = refl
+
+  step-is : (o : Option FailureReason) (x : Bucket) → reinsert s stated left ≡ (o, x) → updateStatus s (m .key) u (some d) b ≡ (statusResult m stated o, x)
+  step-is o x e = status-held s (m .key) u (some d) b m o x at e
+
+  held : holds (m .key) b ≡ true
+  held = ap isSome at
+
+  failed : (r : FailureReason) → reinsert s stated left ≡ (some r, left)
+      → insertOrUpdateIn s false now new b ≡ (Answer.InsertOrUpdate (InsertResult.Failed FailureReason.TooManyIncoming), left)
+  failed r e =
+      let x = step-is (some r) left e in
+      insert-failed s false now new b refl held (ap (λ (y : UpdateResult × Bucket). isFailed (y .0)) x)
+      ∙ ap (λ (y : UpdateResult × Bucket). (Answer.InsertOrUpdate (InsertResult.Failed FailureReason.TooManyIncoming), y .1)) x
+
+  passed : reinsert s stated left ≡ (none, placed stated left) → (a : UpdateResult) (x : Bucket) → updateValue s (m .key) v (placed stated left) ≡ (a, x)
+      → insertOrUpdateIn s false now new b ≡ (Answer.InsertOrUpdate (insertUpdates a (statusResult m new none)), x)
+  passed e a x f =
+      let y = step-is none (placed stated left) e in
+      insert-both s false now new b refl held (ap (λ (z : UpdateResult × Bucket). isFailed (z .0)) y ∙ status-fine (sameStatus m stated) (promotes m stated))
+      ∙ ap (λ (z : UpdateResult × Bucket). (Answer.InsertOrUpdate (insertUpdates (updateValue s (m .key) v (z .1) .0) (z .0)), updateValue s (m .key) v (z .1) .1)) y
+      ∙ ap (λ (z : UpdateResult × Bucket). (Answer.InsertOrUpdate (insertUpdates (z .0) (statusResult m stated none)), z .1)) f
+
+  pub insert-steps : insertOrUpdateIn s false now new b ≡ heldSteps s m new left
+  insert-steps =
+      let absent = takeOut-without (m .key) b in
+      split (failsBucketFilter s (m .value) left)
+      (λ f. failed FailureReason.BucketFilter (reinsert-filter s stated left f) ∙ rw f)
+      (λ f.
+      split (isMaxIncoming s new left)
+      (λ g. failed FailureReason.TooManyIncoming (reinsert-many s stated left f (same-maximum ∙ g)) ∙ rw (f, g))
+      (λ g.
+      let e = reinsert-placed s stated left f (same-maximum ∙ g) in
+      split (failsBucketFilter s v left)
+      (λ h. passed e _ _ (value-refused s stated v left absent f h) ∙ rw (f, g, h))
+      (λ h. passed e _ _ (value-placed s stated v left absent h) ∙ rw (f, g, h))))
+
+  -- where the bucket filter is off
+  module _ (off : s .filter ≡ false) where
     abbrev again : Option FailureReason × Bucket → Answer × Bucket
     again r = (Answer.InsertOrUpdate (insertUpdates (valueResult (m .value) v) (statusResult m new (r .0))), r .1)
 
     pub insert-again : insertOrUpdateIn s false now new b ≡ again (putAgain s new b)
     insert-again =
-        let status = again-status s b m at u (some d) in
-        let held : holds (m .key) b ≡ true = ap isSome at in
-        split (isMaxIncoming s new (takenOut (m .key) u b))
-        (λ e.
-        let x = status ∙ ap (λ (r : Option FailureReason × Bucket). (statusResult m stated (r .0), r .1)) (again-many stated b (same-maximum ∙ e)) in
-        insert-failed s false now new b refl held (ap (λ (r : UpdateResult × Bucket). isFailed (r .0)) x)
-        ∙ ap (λ (r : UpdateResult × Bucket). (Answer.InsertOrUpdate (InsertResult.Failed FailureReason.TooManyIncoming), r .1)) x
-        ∙ ap (λ (r : InsertResult). (Answer.InsertOrUpdate r, takenOut (m .key) u b)) (sym (failed-both (sameValue (m .value) v) FailureReason.TooManyIncoming))
-        ∙ ap again (sym (again-many new b e)))
-        (λ e.
-        let x = status ∙ ap (λ (r : Option FailureReason × Bucket). (statusResult m stated (r .0), r .1)) (again-placed stated b (same-maximum ∙ e)) in
-        insert-both s false now new b refl held (ap (λ (r : UpdateResult × Bucket). isFailed (r .0)) x ∙ status-fine (sameStatus m stated) (promotes m stated))
-        ∙ ap answers x
-        ∙ ap (λ (r : UpdateResult × Bucket). (Answer.InsertOrUpdate (insertUpdates (r .0) (statusResult m stated none)), r .1))
-        (value-placed stated v (takenOut (m .key) u b) (takeOut-without (m .key) b))
-        ∙ ap again (sym (again-placed new b e)))
+        let f = filter-off s (m .value) left off in
+        let h = filter-off s v left off in
+        insert-steps
+        ∙ split (isMaxIncoming s new left)
+        (λ g.
+        rw (f, g)
+        (ap (λ (r : InsertResult). (Answer.InsertOrUpdate r, left)) (sym (failed-both (sameValue (m .value) v) FailureReason.TooManyIncoming))
+        ∙ ap again (sym (reinsert-many s new left h g))))
+        (λ g. rw (f, g, h) (ap again (sym (reinsert-placed s new left h g))))
 
 -- A value in the place of a key: the node is found with it, and the step that takes the node out sees no difference.
 
@@ -157,7 +214,7 @@ status-valued m n v none = refl
 status-valued m n v (some r) = refl
 
 -- update_node of a held node m, where a state is given
-module _ (s : BucketSettings) (off : s .filter ≡ false) (now : ℕ) (b : Bucket) (m : Node) (at : get (m .key) b ≡ some m) (u : Bool) (v : Value) where
+module _ (s : BucketSettings) (now : ℕ) (b : Bucket) (m : Node) (at : get (m .key) b ≡ some m) (u : Bool) (v : Value) where
   abbrev valued : Node
   valued = withStatus u none (withValue v m)
 
@@ -170,8 +227,8 @@ module _ (s : BucketSettings) (off : s .filter ≡ false) (now : ℕ) (b : Bucke
   abbrev answered : Bool → Answer × Bucket
   answered t = left-by (cond t UpdateResult.NotModified UpdateResult.Updated) valued (takenOut (m .key) u b)
 
-  pub node-again : updateNodeIn s false now (m .key) v (some u) b ≡ left-by (valueResult (m .value) v) valued (takenOut (m .key) u b)
-  node-again =
+  pub node-again : failsBucketFilter s v (takeOut (m .key) b) ≡ false → updateNodeIn s false now (m .key) v (some u) b ≡ left-by (valueResult (m .value) v) valued (takenOut (m .key) u b)
+  node-again f =
       split (sameValue (m .value) v)
       (λ e.
       let x = value-same s (m .key) v b m at e in
@@ -181,7 +238,7 @@ module _ (s : BucketSettings) (off : s .filter ≡ false) (now : ℕ) (b : Bucke
       ∙ ap (λ (w : Value). left-by UpdateResult.NotModified (withStatus u none (withValue w m)) (takenOut (m .key) u b)) (sameValue-true (m .value) v e)
       ∙ ap answered (sym e))
       (λ e.
-      let x = value-changes s (m .key) v b m at e (filter-off s v (takeOut (m .key) b) off) in
+      let x = value-changes s (m .key) v b m at e f in
       let again' = putAgain s valued (revalued (m .key) v b) in
       node-both s false now (m .key) v (some u) b refl (ap (λ (r : UpdateResult × Bucket). isFailed (r .0)) x) u refl
       ∙ ap steps x
@@ -190,3 +247,21 @@ module _ (s : BucketSettings) (off : s .filter ≡ false) (now : ℕ) (b : Bucke
       ∙ ap (λ (r : UpdateResult). (Answer.Update (bothUpdates UpdateResult.Updated r), again' .1)) (status-valued m valued v (again' .0))
       ∙ ap (left-by UpdateResult.Updated valued) (without-revalue (m .key) u v b)
       ∙ ap answered (sym e))
+
+  -- a value that the filter refuses fails in either step
+  pub node-refused : takenOut (m .key) u b ≡ takeOut (m .key) b → failsBucketFilter s v (takeOut (m .key) b) ≡ true
+      → updateNodeIn s false now (m .key) v (some u) b ≡ (Answer.Update (UpdateResult.Failed FailureReason.BucketFilter), takeOut (m .key) b)
+  node-refused p f =
+      split (sameValue (m .value) v)
+      (λ e.
+      let x = value-same s (m .key) v b m at e in
+      let g : failsBucketFilter s (m .value) (takeOut (m .key) b) ≡ true = ap (λ (w : Value). failsBucketFilter s w (takeOut (m .key) b)) (sameValue-true (m .value) v e) ∙ f in
+      node-both s false now (m .key) v (some u) b refl (ap (λ (r : UpdateResult × Bucket). isFailed (r .0)) x) u refl
+      ∙ ap steps x
+      ∙ ap (λ (r : UpdateResult × Bucket). (Answer.Update (bothUpdates UpdateResult.NotModified (r .0)), r .1))
+      (status-held s (m .key) u none b m (some FailureReason.BucketFilter) (takeOut (m .key) b) at
+      (ap (reinsert s (withStatus u none m)) p ∙ reinsert-filter s (withStatus u none m) (takeOut (m .key) b) g)))
+      (λ e.
+      let x = value-fails s (m .key) v b m at e f in
+      node-failed s false now (m .key) v (some u) b refl (ap (λ (r : UpdateResult × Bucket). isFailed (r .0)) x)
+      ∙ ap (λ (r : UpdateResult × Bucket). (Answer.Update (r .0), r .1)) x)

@@ -17,7 +17,7 @@ use Rattle.bucket.specs.declared.KBucket.{KBucket}
 use Rattle.bucket.specs.Bucket.{Becomes}
 use Rattle.bucket.specs.Calls.{updateResultOf, failureReasonOf}
 
-both-failed : (v : UpdateResult) (r : FailureReason) → UpdateResult.Failed r ≡ bothUpdates v (UpdateResult.Failed r)
+pub both-failed : (v : UpdateResult) (r : FailureReason) → UpdateResult.Failed r ≡ bothUpdates v (UpdateResult.Failed r)
 both-failed UpdateResult.Updated r = refl
 both-failed UpdateResult.UpdatedAndPromoted r = refl
 both-failed UpdateResult.UpdatedPending r = refl

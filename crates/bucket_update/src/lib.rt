@@ -120,8 +120,8 @@ pub fn both_updates(value: UpdateResult, status: UpdateResult) -> UpdateResult
     }
 }
 
-// What the value's step answers on a held node, where the bucket filter is off.
-fn value_result(old: Value, value: Value) -> UpdateResult
+// Internal: what the value's step answers on a held node, where the bucket filter passes.
+pub fn value_result(old: Value, value: Value) -> UpdateResult
     ensures { λ r. ⌜ updateResultOf r ≡ valueResult (valueOf old) (valueOf value) ⌝ }
 {
     if old.eq(value) {

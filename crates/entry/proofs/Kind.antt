@@ -1,4 +1,4 @@
--- The kind of a key in its bucket, and the codes of an inserted node.
+-- The kind of a key in its bucket, the codes of its status, and the codes of an inserted node.
 use Prim.Native.Nat.{ℕ}
 use mathlib.Core.Path.{_≡_, sym, ap, _∙_}
 use mathlib.Core.Bool.{Bool, true, false, cond, _&&_}
@@ -13,9 +13,11 @@ use Rattle.model.specs.Table.{EntryKind, kindIfPending, kindOfNode, kindOf, kin
 use Rattle.model.specs.Layout.{tableOf}
 use Rattle.model.specs.Call.{ValueArgument}
 use Rattle.model.specs.Question.{valueInRange, kindOfKey}
-use Rattle.laws.proofs.Tests.{and-turned}
+use Rattle.laws.proofs.Tests.{and-left, and-right, and-turned}
 use Rattle.key.specs.declared.Key.{Key}
 use Rattle.key.specs.Key.{num}
+use Rattle.node.specs.declared.Node as declared
+use Rattle.node.specs.Node.{nodeCodes}
 use Rattle.bucket.specs.declared.KBucket.{KBucket}
 use Rattle.bucket.specs.Bucket.{bucketOf, Becomes}
 use Rattle.on_key.specs.Answers.{failedOfFive}
@@ -52,6 +54,11 @@ pub kind-told : {s key : List ℕ} {codes : Bool} {now : Option ℕ} {k : Key} {
     → Becomes (tableOf s .settings .bucket) (tableOf s .buckets i) b → {r : EntryKind} → r ≡ kindOf (num k) (bucketOf b) → kindOfKey key (tableOf s) ≡ r
 kind-told {s} {key} {k = k} {i = i} y x e =
     kind-at s key i (y .index) ∙ ap (λ (n : ℕ). kindOf n (tableOf s .buckets i)) (sym (y .key-is)) ∙ ap (kindOf (num k)) (sym (x .bucket)) ∙ sym e
+
+-- the codes of the status of a node
+pub status-codes : (n : declared.Node) → nodeCodes n ≡ true → (leb (n .status .state) 1 && leb (n .status .direction) 1) ≡ true
+status-codes n h =
+    rw (and-left (leb (n .status .state) 1) _ h) (and-left (leb (n .status .direction) 1) _ (and-right (leb (n .status .state) 1) _ h))
 
 -- Absent insert: the codes that it asks about, and those of the node that it inserts
 abbrev pub insertCodes : ValueArgument → ℕ → ℕ → Bool

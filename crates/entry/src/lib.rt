@@ -1,13 +1,18 @@
 // The entry of a key (entry.rs): its kind and status, and the actions on it, which name the key again and apply no pending.
 ghost use mathlib.Core.Path.{_≡_};
 ghost use mathlib.Core.Bool.{true};
+ghost use Prim.Native.Nat.{_+_, _≤_};
+ghost use lib.ListN.{length};
+ghost use Rattle.model.specs.Bytes.{part};
 ghost use Rattle.model.specs.Table.{kindOf};
 ghost use Rattle.model.specs.Call.{Call, KeyCall};
 ghost use Rattle.model.specs.Question.{isPresent, isPending, isAbsent};
+ghost use Rattle.model.specs.Sizes.{bucketSize};
 ghost use Rattle.model.specs.StepBytes.{stepBytes};
 ghost use Rattle.key.specs.Key.{num};
 ghost use Rattle.node.specs.Node.{argumentOf};
 ghost use Rattle.bucket.specs.Bucket.{bucketOf, Sound};
+ghost use Rattle.held.specs.Held.{Quiet, bucketHere};
 ghost use Rattle.on_key.specs.Answers.{Answers, updateAnswer};
 ghost use Rattle.session.specs.Hours.{sessionOf};
 ghost use Rattle.entry.specs.Kind as kind;
@@ -65,7 +70,23 @@ pub fn kind_of(b: KBucket, key: Key) -> EntryKind
     }
 }
 
-// The kind and status of the key, after a due pending was applied.
+// Internal: the same in the storage, of a bucket without a pending.
+pub fn kind_here(s: &[u8], at: usize, key: Key) -> EntryKind
+    requires { ⌜ (at + bucketSize ≤ length (now s)) × Quiet (part (now s) at bucketSize) ⌝ }
+    ensures { λ r. ⌜ kind.kindOf r ≡ kindOf (num key) (bucketHere (now (s .entry)) at) ⌝ }
+    ensures { λ r. ⌜ kind.kindCodes r ≡ true ⌝ }
+{
+    let count = s[at] as usize;
+    let pos = held::position(s, at, count, key);
+    if pos < count {
+        let node = storage::load_node(s, at + (Layout::PLACES_AT + pos * Layout::NODE));
+        let status = node.status;
+        return EntryKind::Present(status);
+    }
+    EntryKind::Absent
+}
+
+// The kind and status of the key, after a due pending was applied. Without a pending nothing is written.
 pub fn entry(s: &mut [u8], key: &[u8], time: u64) -> EntryAnswer
     ensures { λ r. ⌜ Answers (kind.entryAnswer r) (now (s .exit)) (stepBytes (Call.onKey (now (key .entry)) (KeyCall.entry time)) (now (s .entry))) ⌝ }
     ensures { λ r. ⌜ kind.entryCodes r ≡ true ⌝ }
@@ -78,6 +99,11 @@ pub fn entry(s: &mut [u8], key: &[u8], time: u64) -> EntryAnswer
             EntryAnswer::Answered(own)
         }
         Start::At(k, i) => {
+            let at = Layout::HEADER + i * Layout::BUCKET;
+            if held::is_quiet(s, at) {
+                let here = kind_here(s, at, k);
+                return EntryAnswer::Answered(here);
+            }
             let a = on_key::apply_at(s, i, time);
             let applied = a.applied;
             let b = a.bucket;
@@ -136,6 +162,17 @@ pub fn present_update(s: &mut [u8], key: &[u8], state: u8, direction: u8) -> Upd
         Start::Refused(q) => UpdateAnswer::Refused(q),
         Start::Local => UpdateAnswer::Refused(7),
         Start::At(k, i) => {
+            let at = Layout::HEADER + i * Layout::BUCKET;
+            let quiet = held::is_quiet(s, at);
+            if quiet {
+                let count = s[at] as usize;
+                let pos = held::position(s, at, count, k);
+                if count <= pos {
+                    return UpdateAnswer::Refused(7);
+                }
+                let result = held::update_status(s, at, k, state, direction);
+                return UpdateAnswer::Answered(result);
+            }
             let b = buckets::load_bucket(s, i);
             let found = kind_of(b, k);
             if !is_present(found) {

@@ -1,5 +1,5 @@
 -- The query, by the questions, by the key's index, and by what the call does to the key's bucket.
-use Prim.Native.Nat.{ℕ, _+_}
+use Prim.Native.Nat.{ℕ, _+_, _≤_}
 use native.Mathlib.Nat.{add-zero}
 use mathlib.Core.Path.{_≡_, refl, sym, ap, _∙_, subst}
 use mathlib.Core.Bool.{Bool, true, false, cond, and-true}
@@ -7,26 +7,29 @@ use mathlib.Core.List.{List, [], _∷_, _++_}
 use mathlib.Core.Option.{Option, none, some}
 use lib.ListN.{length, length-append}
 use lib.Dec.{leb}
-use Rattle.model.specs.Bytes.{number, splice}
+use borrow.Author.Tests.{leb-true}
+use Rattle.model.specs.Sizes.{storageSize}
+use Rattle.model.specs.Bytes.{splice}
 use Rattle.model.specs.Node.{EndedPending}
 use Rattle.model.specs.Bucket.{Bucket, BucketSettings}
-use Rattle.model.specs.Table.{Table, Effect, maxRecords, indexIn}
+use Rattle.model.specs.Table.{Table, maxRecords}
 use Rattle.model.specs.Result.{Reply}
 use Rattle.model.specs.Call.{Call, KeyCall}
 use Rattle.model.specs.Question.{firstFailed, withRoom, keyArguments, kindOfKey, keysFit, codesInRange, clockFits, outputFits, kindFits}
 use Rattle.model.specs.Step.{Outcome, onKey, ownAnswer, effect, act, queueFits, late}
 use Rattle.model.specs.Layout.{tableOf}
-use Rattle.model.specs.Formed.{bucketsFormed}
+use Rattle.model.specs.Formed.{headerFormed, bucketsFormed}
 use Rattle.model.specs.StepBytes.{Replied, reads, allQuestions}
-use Rattle.model.specs.Explain.{Told, told, Reason, bucketReason, keyReason, reason, Explanation, explanation, line, explanationRoom, lineUnlessRefused, explainBytes}
+use Rattle.model.specs.Explain.{Told, told, Reason, bucketReason, keyReason, reason, explanation, line, explanationRoom, lineUnlessRefused, explainBytes}
 use Rattle.laws.proofs.Questions.{front-fails, front-passes}
+use Rattle.key.specs.declared.Key.{Key}
 use Rattle.bucket.specs.declared.KBucket.{KBucket}
 use Rattle.bucket.specs.Bucket.{bucketOf, settingsOf, Becomes}
 use Rattle.on_key.specs.declared.Start.{Start}
 use Rattle.on_key.specs.Answers.{Replies, firstFive, failedOfFive, roomFor}
 use Rattle.on_key.specs.Start.{keyFormed, Located}
-use Rattle.on_key.proofs.Questions.{stricter-fails}
-use Rattle.on_key.proofs.OneKey.{ReadFormed, hours, read-own}
+use Rattle.on_key.proofs.Questions.{stricter-fails, passed-five}
+use Rattle.on_key.proofs.OneKey.{ReadFormed, hours, read-own, reads-none}
 use Rattle.on_key.proofs.Steps.{begun-at}
 use Rattle.explanation.specs.declared.Why.{Why}
 use Rattle.explanation.specs.Explanation.{whyOf}
@@ -76,10 +79,6 @@ module _ (s key : List ℕ) (codes : Bool) (now : Option ℕ) (room : Bool) wher
     opened-at f Start.Local l = (f, begun-at s key codes now e Start.Local l)
     opened-at f (Start.At k i) l = (f, begun-at s key codes now e (Start.At k i) l)
 
--- how a call started, by the codes that it is asked and by what was answered
-pub opened : (s key : List ℕ) (now : Option ℕ) (room : Bool) {codes codes′ : Bool} {r v : Start} → codes ≡ codes′ → Opened s key codes now room r → r ≡ v → Opened s key codes′ now room v
-opened s key now room {codes} {codes′} {r} {v} e b f = subst (Opened s key codes′ now room) f (subst (λ (q : Bool). Opened s key q now room r) e b)
-
 -- a reason under another name
 pub as-reason : {r : Reply ℕ} {out′ : List ℕ} (kind room : Bool) (hrs : Option ℕ) (d : Told) (out : List ℕ) {w w′ : Reason} → w ≡ w′
     → Replies r out′ (lastAsked kind room hrs (line (record { told = d; reason = w })) out) → Replies r out′ (lastAsked kind room hrs (line (record { told = d; reason = w′ })) out)
@@ -99,6 +98,20 @@ module _ (s key : List ℕ) (c : KeyCall) (out : List ℕ) where
 
   abbrev room : Bool
   room = leb explanationRoom (length out)
+
+  -- how its explanation starts
+  abbrev pub Opens : Start → Type 0
+  Opens r = Opened s key (keyArguments c .codes) (keyArguments c .now) room r
+
+  -- by the codes that were tested and by what was answered
+  pub opened : {codes : Bool} {r v : Start} → codes ≡ keyArguments c .codes → Opened s key codes (keyArguments c .now) room r → r ≡ v → Opens v
+  opened {codes} {r} e b f = subst Opens f (subst (λ (q : Bool). Opened s key q (keyArguments c .now) room r) e b)
+
+  -- what `ended_local` requires
+  pub own-ready : Opens Start.Local → ((length s ≡ storageSize) × (headerFormed s ≡ true)) × (explanationRoom ≤ length out)
+  own-ready o =
+      let p = passed-five s key (keyArguments c .codes) (keyArguments c .now) (o .1 .0) in
+      ((p .size, p .header), leb-true explanationRoom (length out) (o .0))
 
   asked-are : firstFailed (withRoom room (allQuestions call s))
       ≡ firstFailed (firstFive key (keyArguments c .codes) (keyArguments c .now) s ++ ((6, room) ∷ (2, bucketsFormed s (reads call t)) ∷ late call t))
@@ -128,56 +141,59 @@ module _ (s key : List ℕ) (c : KeyCall) (out : List ℕ) where
         asked-are ∙ front-passes (firstFive key (keyArguments c .codes) (keyArguments c .now) s) ((6, room) ∷ (2, bucketsFormed s (reads call t)) ∷ late call t) e
         ∙ ap (λ (b : Bool). firstFailed ((6, b) ∷ (2, bucketsFormed s (reads call t)) ∷ late call t)) h
 
-    -- a bucket that the table filter reads
-    pub refused-read : bucketsFormed s (reads call t) ≡ false → Explains (ExplainAnswer.Refused 2) out (explainBytes key c out s)
-    refused-read d = refused (asked-then ∙ rw d)
-
-  module _ (h : room ≡ true) (e : failed ≡ none) (f : ReadFormed s key c) where
-    asked-last : explainBytes key c out s ≡ lastAsked (keyArguments c .kind (kindOfKey key t)) (queueFits call t) (firstFailed (hours s key c)) (line (explanation c key t)) out
+    asked-last : ReadFormed s key c
+        → explainBytes key c out s ≡ lastAsked (keyArguments c .kind (kindOfKey key t)) (queueFits call t) (firstFailed (hours s key c)) (line (explanation c key t)) out
     unfolding explainBytes lastAsked kindFits
-    asked-last =
+    asked-last f =
         ap (λ (o : Option ℕ). lineUnlessRefused o (line (explanation c key t)) out)
-        (asked-then h e ∙ ap (λ (b : Bool). firstFailed ((2, b) ∷ late call t)) f)
+        (asked-then ∙ ap (λ (b : Bool). firstFailed ((2, b) ∷ late call t)) f)
 
-    -- the hours where the key is of the kind that the call needs
-    with-hours : (kind fits : Bool) {hrs hrs′ : Option ℕ} (l : List ℕ) → (kind ≡ true → hrs ≡ hrs′) → lastAsked kind fits hrs l out ≡ lastAsked kind fits hrs′ l out
-    unfolding lastAsked
-    with-hours true fits l n = rw (n refl)
-    with-hours false fits l n = refl
+  -- a bucket that the table filter reads
+  pub refused-read : {k : Key} {i : ℕ} → Opens (Start.At k i) → bucketsFormed s (reads call t) ≡ false → Explains (ExplainAnswer.Refused 2) out (explainBytes key c out s)
+  refused-read o d = refused (asked-then (o .0) (o .1 .passed) ∙ rw d)
 
-    -- by what was asked and explained
-    module _ {kind : Bool} (k : kind ≡ keyArguments c .kind (kindOfKey key t)) {hrs : Option ℕ} (n : kind ≡ true → hrs ≡ firstFailed (hours s key c))
-        {d : Told} {w : Reason} {r : Reply ℕ} {out′ : List ℕ} where
-      ends : {fits : Bool} → fits ≡ queueFits call t → d ≡ told (act call t .answer) → w ≡ reason c key t
-          → Replies r out′ (lastAsked kind fits hrs (line (record { told = d; reason = w })) out) → Replies r out′ (explainBytes key c out s)
-      unfolding explanation
-      ends {fits} f p q x =
-          let l : List ℕ = line (record { told = d; reason = w }) in
-          let y : lastAsked kind fits (firstFailed (hours s key c)) l out ≡ explainBytes key c out s = rw (k, f, p, q) (sym asked-last) in
-          let z = with-hours kind fits l n ∙ y in
-          record { answer = x .answer ∙ ap (λ (y : Replied). y .answer) z; output = x .output ∙ ap (λ (y : Replied). y .output) z }
+  -- the hours where the key is of the kind that the call needs
+  with-hours : (kind fits : Bool) {hrs hrs′ : Option ℕ} (l : List ℕ) → (kind ≡ true → hrs ≡ hrs′) → lastAsked kind fits hrs l out ≡ lastAsked kind fits hrs′ l out
+  unfolding lastAsked
+  with-hours true fits l n = rw (n refl)
+  with-hours false fits l n = refl
 
-      -- the local key
-      pub ends-local : indexIn t (number key) ≡ none → d ≡ told (ownAnswer c) → w ≡ Reason.LocalKey
-          → Replies r out′ (lastAsked kind (roomFor s []) hrs (line (record { told = d; reason = w })) out) → Replies r out′ (explainBytes key c out s)
-      unfolding queueFits roomFor act reason
-      ends-local i p q x =
-          let a = ap (onKey t (ownAnswer c) (effect c key t)) (sym i) in
-          ends (ap (λ (n : ℕ). leb n maxRecords) (add-zero (length (t .queue))) ∙ ap (λ (o : Outcome). leb (length (o .table .queue)) maxRecords) a)
-          (p ∙ ap (λ (o : Outcome). told (o .answer)) a) (q ∙ ap (keyReason (bucketReason c key t)) (sym i)) x
+  -- by what was asked and explained
+  module _ {kind : Bool} (k : kind ≡ keyArguments c .kind (kindOfKey key t)) {hrs : Option ℕ} (n : kind ≡ true → hrs ≡ firstFailed (hours s key c))
+      {d : Told} {w : Reason} {r : Reply ℕ} {out′ : List ℕ} where
+    ends : {fits : Bool} → room ≡ true → failed ≡ none → ReadFormed s key c → fits ≡ queueFits call t → d ≡ told (act call t .answer) → w ≡ reason c key t
+        → Replies r out′ (lastAsked kind fits hrs (line (record { told = d; reason = w })) out) → Replies r out′ (explainBytes key c out s)
+    unfolding explanation
+    ends {fits} h e g f p q x =
+        let l : List ℕ = line (record { told = d; reason = w }) in
+        let y : lastAsked kind fits (firstFailed (hours s key c)) l out ≡ explainBytes key c out s = rw (k, f, p, q) (sym (asked-last h e g)) in
+        let z = with-hours kind fits l n ∙ y in
+        record { answer = x .answer ∙ ap (λ (y : Replied). y .answer) z; output = x .output ∙ ap (λ (y : Replied). y .output) z }
 
-      -- any other key
-      pub ends-at : {i : ℕ} → indexIn t (number key) ≡ some i → {rs : List EndedPending} → rs ≡ effect c key t i (t .buckets i) .records
-          → d ≡ told (effect c key t i (t .buckets i) .answer) → w ≡ bucketReason c key t i
-          → Replies r out′ (lastAsked kind (roomFor s rs) hrs (line (record { told = d; reason = w })) out) → Replies r out′ (explainBytes key c out s)
-      unfolding queueFits roomFor act reason
-      ends-at {i} j {rs} m p q x =
-          let a = ap (onKey t (ownAnswer c) (effect c key t)) (sym j) in
-          ends
-          (ap (λ (l : List EndedPending). leb (length (t .queue) + length l) maxRecords) m
-          ∙ ap (λ (n : ℕ). leb n maxRecords) (sym (length-append (t .queue) (effect c key t i (t .buckets i) .records)))
-          ∙ ap (λ (o : Outcome). leb (length (o .table .queue)) maxRecords) a)
-          (p ∙ ap (λ (o : Outcome). told (o .answer)) a) (q ∙ ap (keyReason (bucketReason c key t)) (sym j)) x
+    -- the local key
+    pub ends-local : Opens Start.Local → d ≡ told (ownAnswer c) → w ≡ Reason.LocalKey
+        → Replies r out′ (lastAsked kind (roomFor s []) hrs (line (record { told = d; reason = w })) out) → Replies r out′ (explainBytes key c out s)
+    unfolding queueFits roomFor act reason
+    ends-local o p q x =
+        let i = o .1 .1 in
+        let a = ap (onKey t (ownAnswer c) (effect c key t)) (sym i) in
+        ends (o .0) (o .1 .0) (reads-none s key c i)
+        (ap (λ (n : ℕ). leb n maxRecords) (add-zero (length (t .queue))) ∙ ap (λ (o : Outcome). leb (length (o .table .queue)) maxRecords) a)
+        (p ∙ ap (λ (o : Outcome). told (o .answer)) a) (q ∙ ap (keyReason (bucketReason c key t)) (sym i)) x
+
+    -- any other key
+    pub ends-at : {own : Key} {i : ℕ} → Opens (Start.At own i) → ReadFormed s key c → {rs : List EndedPending} → rs ≡ effect c key t i (t .buckets i) .records
+        → d ≡ told (effect c key t i (t .buckets i) .answer) → w ≡ bucketReason c key t i
+        → Replies r out′ (lastAsked kind (roomFor s rs) hrs (line (record { told = d; reason = w })) out) → Replies r out′ (explainBytes key c out s)
+    unfolding queueFits roomFor act reason
+    ends-at {own} {i} o g m p q x =
+        let j = o .1 .index in
+        let a = ap (onKey t (ownAnswer c) (effect c key t)) (sym j) in
+        ends (o .0) (o .1 .passed) g
+        (ap (λ (l : List EndedPending). leb (length (t .queue) + length l) maxRecords) m
+        ∙ ap (λ (n : ℕ). leb n maxRecords) (sym (length-append (t .queue) (effect c key t i (t .buckets i) .records)))
+        ∙ ap (λ (o : Outcome). leb (length (o .table .queue)) maxRecords) a)
+        (p ∙ ap (λ (o : Outcome). told (o .answer)) a) (q ∙ ap (keyReason (bucketReason c key t)) (sym j)) x
 
 -- the reason found on a bucket by value, as a reason on the model's bucket, with the key as the bytes that were given
 pub reason-told : {s : BucketSettings} {m : Bucket} {b : KBucket} {k n : ℕ} {w : Why} → Becomes s m b → (F : (ℕ → Bucket) → BucketSettings → ℕ → Bucket → Reason) → k ≡ n

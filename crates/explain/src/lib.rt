@@ -1,7 +1,7 @@
 // What a call that inserts, updates or removes a peer would answer, the true reason and the keys behind it, in one line (document 02, slip 1).
 // A query: it is asked what the call is asked, and nothing but the lent output is written.
 ghost use mathlib.Core.Path.{_≡_};
-ghost use mathlib.Core.Bool.{Bool, true};
+ghost use mathlib.Core.Bool.{true};
 ghost use mathlib.Core.List.{[]};
 ghost use mathlib.Core.Option.{none, some};
 ghost use Prim.Native.Nat.{_≤_};

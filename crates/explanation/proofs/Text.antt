@@ -1,5 +1,5 @@
 -- Text put into the output piece by piece, and the digits of a key.
-use mathlib.Core.Path.{_≡_, refl, sym, ap, _∙_}
+use mathlib.Core.Path.{_≡_, refl, sym, _∙_}
 use mathlib.Core.List.{List, [], _++_}
 use Prim.Native.Nat.{ℕ, _+_, _*_, _≤_, _<_}
 use native.Mathlib.Numerals.{add-one}
@@ -12,7 +12,7 @@ use Rattle.model.specs.Sizes.{keySize}
 use Rattle.model.specs.Explain.{digits, keyText}
 use Rattle.laws.proofs.All.{all-any}
 use Rattle.laws.proofs.Lists.{joined-snoc, length-joined}
-use Rattle.laws.proofs.Parts.{splice-nil, splice-append, splice-next, length-splice}
+use Rattle.laws.proofs.Parts.{splice-nil, splice-append, splice-next}
 use Rattle.laws.proofs.Bytes.{length-bytes}
 use Rattle.words.proofs.Words.{set-more}
 use Rattle.explanation.specs.Put.{Put, keyTextSize}
@@ -29,9 +29,6 @@ put-then {a} {b} {o} {t} {u} {at} p q h =
       output = q .output ∙ rw (p .output, p .next) (splice-append o at a b h);
       next = q .next ∙ rw (p .next, length-append) (omega arith);
     }
-
-pub put-length : {a o u : List ℕ} {at m : ℕ} → Put a o at u m → at + length a ≤ length o → length u ≡ length o
-put-length {a} {o} {u} {at} p h = ap length (p .output) ∙ length-splice o at a h
 
 -- one byte more of a word
 pub word-next : {t : List ℕ} (o : List ℕ) (at : ℕ) (w : List ℕ) (i : ℕ) → t ≡ splice o at (take i w) → i < length w → at + i < length o

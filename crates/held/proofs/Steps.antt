@@ -1,6 +1,6 @@
 -- The model's steps on a bucket without a pending: the tests on its bytes, and what each step answers and leaves.
 use mathlib.Core.Path.{_≡_, refl, sym, ap, _∙_}
-use mathlib.Core.Bool.{Bool, true, false, cond, _&&_}
+use mathlib.Core.Bool.{Bool, true, false, _&&_}
 use mathlib.Core.List.{List, [], _∷_, _++_}
 use mathlib.Core.Option.{Option, none, some}
 use Prim.Native.Nat.{ℕ, suc, _+_, _*_, _≤_, _<_}
@@ -22,6 +22,7 @@ use Rattle.model.specs.Call.{isOne, optional}
 use Rattle.model.specs.Sizes.{keySize, valueSize, nodeSize, timeSize, pendingAt, bucketSize, timeoutAt, maxIncomingAt, bucketFilterAt}
 use Rattle.model.specs.Layout.{valueBytes, pendingBytes, bucketBytes, settingsIn, nodeIn, placeIn}
 use Rattle.model.specs.Formed as formed
+use Rattle.laws.proofs.Tests.{cases}
 use Rattle.laws.proofs.Parts.{splice-part}
 use Rattle.laws.proofs.Lists.{getD-tabulate}
 use Rattle.laws.proofs.NodeFormed.{node-codes}
@@ -42,7 +43,7 @@ use Rattle.well_formed.proofs.Places.{place-part, place-node, place-key}
 use Rattle.buckets.proofs.Loaded.{stored-read}
 use Rattle.places.specs.Places.{removeAt}
 use Rattle.places.proofs.Laws.{before-le}
-use Rattle.places.proofs.Model.{held-is, find-held, find-absent, found-key, revalue-at}
+use Rattle.places.proofs.Model.{held-is, find-held, find-absent, found-key, revalue-at, own-place}
 use Rattle.bucket.proofs.Rules.{remove-held, remove-absent, reinsert-filter, reinsert-many, reinsert-placed, status-held, status-absent, value-absent, value-same, value-fails, value-changes, insert-exists, insert-filter, insert-many, insert-placed, insert-full, full-disconnected, full-connected, full-becomes-pending}
 use Rattle.held.specs.Held.{Quiet, Does, bucketHere, nodesHere, others, place, settingsHere, restated, insertedFull}
 use Rattle.held.proofs.Quiet.{count-is, first-is, nodes-are}
@@ -89,6 +90,18 @@ does x at s a m t e h = record { answers = ap (λ y. y .0) (sym e); leaves = h �
 pub does-as : {A : Type 0} {x y : A × Bucket} {at : ℕ} {s : List ℕ} {a : A} {t : List ℕ} → x ≡ y → Does y at s a t → Does x at s a t
 does-as {y = y} {at = at} {s = s} e d = record { answers = d .answers ∙ ap (λ z. z .0) (sym e); leaves = d .leaves ∙ ap (λ z. splice s at (bucketBytes (z .1))) (sym e) }
 
+-- where there is no pending none is cleared
+
+module _ (m : Bucket) (e : m .pending ≡ none) where
+  pub cleared-none : (k : ℕ) → withPending (cleared k (m .pending)) m ≡ m
+  cleared-none k = ap (λ (o : Option PendingNode). withPending (cleared k o) m) e ∙ sym (ap (λ (o : Option PendingNode). withPending o m) e)
+
+  pub placed-none : (n : Node) → placed n m ≡ put n m
+  placed-none n = ap (put n) (cleared-none (n .key))
+
+  pub taken-none : (k : ℕ) (u : Bool) → takenOut k u m ≡ takeOut k m
+  taken-none k u = ap (λ (o : Option PendingNode). withPending o (takeOut k m)) (cases (λ (o : Option PendingNode). o ≡ m .pending) (u && isFirst k (nodes m)) (λ _. sym e) (λ _. refl))
+
 head-is : {A : Type 0} (xs ys : List A) (d : A) → 0 < length xs → (rest : List A) × (xs ≡ getD (xs ++ ys) 0 d ∷ rest)
 head-is [] ys d h = absurd (not-suc-le-zero h)
 head-is (x ∷ xs) ys d h = (xs, refl)
@@ -110,14 +123,23 @@ module _ (s : List ℕ) (at : ℕ) (q : Quiet (part s at bucketSize)) (l : at + 
   pub untouched : s ≡ splice s at (bucketBytes b)
   untouched = sym (ap (splice s at) (sym (q .exact)) ∙ splice-part s at bucketSize l)
 
-  -- what is placed where no pending is to be cleared
-  placed-none : (n : Node) (m : Bucket) → m .pending ≡ none → placed n m ≡ put n m
-  placed-none n m e =
-      ap (λ (o : Option PendingNode). put n (withPending (cleared (n .key) o) m)) e ∙ sym (ap (λ (o : Option PendingNode). put n (withPending o m)) e)
-
   module _ (count : ℕ) (ec : count ≡ getD s at 0) where
     many : length (nodes b) ≡ count
     many = length-nodes b ∙ sym (count-is s at) ∙ sym ec
+
+    pub here : (k : ℕ) {pos : ℕ} → place k (nodes b) ≡ pos → pos ≡ place k (nodesHere s at count)
+    here k e = sym (ap (place k) (nodes-are s at count ec) ∙ e)
+
+    -- the node at a place, as it is read
+    module _ (pos : ℕ) (h : pos < count) (few : count ≤ maxNodesPerBucket) (old : declared.Node) (eo : old ≡ readNode (part s (at + (2 + pos * nodeSize)) nodeSize)) where
+      old-is : nodeOf old ≡ getD (nodes b) pos (nodeIn [])
+      unfolding nodesHere
+      old-is =
+          ap nodeOf eo ∙ nodeOf-read (part s (at + (2 + pos * nodeSize)) nodeSize) ∙ sym (place-node s at pos (omega arith))
+          ∙ sym (getD-tabulate count (nodeAt (part s at bucketSize)) pos (nodeIn []) h) ∙ ap (λ (ns : List Node). getD ns pos (nodeIn [])) (nodes-are s at count ec)
+
+      pub own-key : place (nodeOf old .key) (nodes b) ≡ pos
+      own-key = ap (λ (n : Node). place (n .key) (nodes b)) old-is ∙ own-place (nodes b) pos (nodeIn []) (q .different) (omega (arith, many))
 
     module _ (k pos : ℕ) (ep : pos ≡ place k (nodesHere s at count)) where
       pub at-place : place k (nodes b) ≡ pos
@@ -153,22 +175,16 @@ module _ (s : List ℕ) (at : ℕ) (q : Quiet (part s at bucketSize)) (l : at + 
           does (updateValue c k v b) at s (UpdateResult.Failed FailureReason.KeyNonExistent) b s
           (value-absent c k v b (absent-get h) ∙ rw (q .pending)) untouched
 
-      -- the node at the place, as it is read
+      -- the node at its place
       module _ (h : pos < count) (few : count ≤ maxNodesPerBucket) (old : declared.Node) (eo : old ≡ readNode (part s (at + (2 + pos * nodeSize)) nodeSize)) where
-        old-is : nodeOf old ≡ getD (nodes b) pos (nodeIn [])
-        unfolding nodesHere
-        old-is =
-            ap nodeOf eo ∙ nodeOf-read (part s (at + (2 + pos * nodeSize)) nodeSize) ∙ sym (place-node s at pos (omega arith))
-            ∙ sym (getD-tabulate count (nodeAt (part s at bucketSize)) pos (nodeIn []) h) ∙ ap (λ (ns : List Node). getD ns pos (nodeIn [])) (nodes-are s at count ec)
-
         pub get-old : get k b ≡ some (nodeOf old)
         get-old =
             get-nodes k b ∙ find-held k (nodes b) (nodeIn []) (omega (arith, at-place, many))
-            ∙ ap some (ap (λ (i : ℕ). getD (nodes b) i (nodeIn [])) at-place ∙ sym old-is)
+            ∙ ap some (ap (λ (i : ℕ). getD (nodes b) i (nodeIn [])) at-place ∙ sym (old-is pos h few old eo))
 
-        key-old : nodeOf old .key ≡ k
+        pub key-old : nodeOf old .key ≡ k
         key-old =
-            ap (λ (n : Node). n .key) old-is ∙ ap (λ (i : ℕ). getD (nodes b) i (nodeIn []) .key) (sym at-place)
+            ap (λ (n : Node). n .key) (old-is pos h few old eo) ∙ ap (λ (i : ℕ). getD (nodes b) i (nodeIn []) .key) (sym at-place)
             ∙ found-key k (nodes b) (nodeIn []) (omega (arith, at-place, many))
 
         codes-old : formed.nodeCodes (part s (at + (2 + pos * nodeSize)) nodeSize) ≡ true
@@ -194,21 +210,11 @@ module _ (s : List ℕ) (at : ℕ) (q : Quiet (part s at bucketSize)) (l : at + 
           pub new-place : place (num (new .key)) (nodes b) ≡ pos
           new-place = ap (λ (i : ℕ). place i (nodes b)) new-key ∙ at-place
 
-          -- the pending stays none
-          taken-none : takenOut k (isOne state) b ≡ takeOut k b
-          taken-none =
-              let p : (t : Bool) → cond t none (b .pending) ≡ b .pending = λ t. none-by t in
-              ap (λ (o : Option PendingNode). withPending o (takeOut k b)) (p (isOne state && isFirst k (nodes b)))
-            where
-              none-by : (t : Bool) → cond t none (b .pending) ≡ b .pending
-              none-by true = sym (q .pending)
-              none-by false = refl
-
           status-is : updateStatus c k (isOne state) (optional direction) b ≡ restated c (nodeOf old) (nodeOf new) b
           status-is =
               let n : Node = withStatus (isOne state) (optional direction) (nodeOf old) in
               let r : reinsert c n (takenOut k (isOne state) b) ≡ reinsert c (nodeOf new) (takeOut (num (new .key)) b) =
-              ap (reinsert c n) taken-none ∙ ap (λ (i : ℕ). reinsert c n (takeOut i b)) (sym new-key)
+              ap (reinsert c n) (taken-none b (q .pending) k (isOne state)) ∙ ap (λ (i : ℕ). reinsert c n (takeOut i b)) (sym new-key)
               ∙ ap (λ (x : Node). reinsert c x (takeOut (num (new .key)) b)) (sym new-is) in
               status-held c k (isOne state) (optional direction) b (nodeOf old) (reinsert c (nodeOf new) (takeOut (num (new .key)) b) .0)
               (reinsert c (nodeOf new) (takeOut (num (new .key)) b) .1) get-old r
@@ -217,29 +223,38 @@ module _ (s : List ℕ) (at : ℕ) (q : Quiet (part s at bucketSize)) (l : at + 
           pub status-does : (a : UpdateResult) (t : List ℕ) → Does (restated c (nodeOf old) (nodeOf new) b) at s a t → Does (updateStatus c k (isOne state) (optional direction) b) at s a t
           status-does a t d = does-as status-is d
 
+    -- the tests, with the node of the key taken out
+
+    module _ (k pos : ℕ) (ep : place k (nodes b) ≡ pos) (h : pos < count) where
+      others-left : nodes (takeOut k b) ≡ others s at count pos
+      unfolding others
+      others-left = out-nodes s at q l count _ ec refl k pos ep h ∙ sym (ap (removeAt pos) (nodes-are s at count ec))
+
+      pub fails-left : (v : model-value.Value) {r : Bool} → r ≡ (eqb (getD s bucketFilterAt 0) 1 && ipFilterFails maxNodesPerSubnetBucket v (others s at count pos)) → failsBucketFilter c v (takeOut k b) ≡ r
+      fails-left v e = filter-is s (takeOut k b) (others s at count pos) others-left v ∙ sym e
+
+      pub max-left : (n : Node) {x : Bool} → x ≡ (connectedIncoming n && leb (getD s maxIncomingAt 0) (length (incomingNodes (others s at count pos)))) → isMaxIncoming c n (takeOut k b) ≡ x
+      max-left n e = maximum-is s (takeOut k b) (others s at count pos) others-left n ∙ sym e
+
     -- the status step of a node n at its place
 
-    module _ (first : ℕ) (ef : first ≡ getD s (at + 1) 0) (m n : Node) (pos : ℕ) (ep : place (n .key) (nodes b) ≡ pos) (h : pos < count) where
+    module _ (m n : Node) (pos : ℕ) (ep : place (n .key) (nodes b) ≡ pos) (h : pos < count) where
       abbrev left : Bucket
       left = takeOut (n .key) b
-
-      others-left : nodes left ≡ others s at count pos
-      unfolding others
-      others-left = out-nodes s at q l count first ec ef (n .key) pos ep h ∙ sym (ap (removeAt pos) (nodes-are s at count ec))
 
       by : (o : Option FailureReason) (x : Bucket) → reinsert c n left ≡ (o, x) → restated c m n b ≡ (statusResult m n o, x)
       by o x e = ap (λ y. (statusResult m n (y .0), y .1)) e
 
       module _ (r : Bool) (er : r ≡ (eqb (getD s bucketFilterAt 0) 1 && ipFilterFails maxNodesPerSubnetBucket (n .value) (others s at count pos))) where
         fails-is : failsBucketFilter c (n .value) left ≡ r
-        fails-is = filter-is s left (others s at count pos) others-left (n .value) ∙ sym er
+        fails-is = fails-left (n .key) pos ep h (n .value) er
 
         pub step-filter : (t : List ℕ) → r ≡ true → t ≡ splice s at (bucketBytes left) → Does (restated c m n b) at s (UpdateResult.Failed FailureReason.BucketFilter) t
         step-filter t e f = does (restated c m n b) at s _ left t (by (some FailureReason.BucketFilter) left (reinsert-filter c n left (fails-is ∙ e))) f
 
         module _ (fine : r ≡ false) (x : Bool) (ex : x ≡ (connectedIncoming n && leb (getD s maxIncomingAt 0) (length (incomingNodes (others s at count pos))))) where
           max-is : isMaxIncoming c n left ≡ x
-          max-is = maximum-is s left (others s at count pos) others-left n ∙ sym ex
+          max-is = max-left (n .key) pos ep h n ex
 
           pub step-many : (t : List ℕ) → x ≡ true → t ≡ splice s at (bucketBytes left) → Does (restated c m n b) at s (UpdateResult.Failed FailureReason.TooManyIncoming) t
           step-many t e f = does (restated c m n b) at s _ left t (by (some FailureReason.TooManyIncoming) left (reinsert-many c n left (fails-is ∙ fine) (max-is ∙ e))) f
@@ -247,12 +262,12 @@ module _ (s : List ℕ) (at : ℕ) (q : Quiet (part s at bucketSize)) (l : at + 
           pub step-placed : (a : UpdateResult) (t : List ℕ) → x ≡ false → a ≡ statusResult m n none → t ≡ splice s at (bucketBytes (put n left)) → Does (restated c m n b) at s a t
           step-placed a t e g f =
               let d = does (restated c m n b) at s (statusResult m n none) (put n left) t
-              (by none (put n left) (reinsert-placed c n left (fails-is ∙ fine) (max-is ∙ e) ∙ ap (λ (y : Bucket). (none, y)) (placed-none n left (q .pending)))) f in
+              (by none (put n left) (reinsert-placed c n left (fails-is ∙ fine) (max-is ∙ e) ∙ ap (λ (y : Bucket). (none, y)) (placed-none left (q .pending) n))) f in
               record { answers = g ∙ d .answers; leaves = d .leaves }
 
     -- the value step at a place
 
-    module _ (few : count ≤ maxNodesPerBucket) (first : ℕ) (ef : first ≡ getD s (at + 1) 0) (k pos : ℕ) (ep : place k (nodes b) ≡ pos) (h : pos < count) (v : Value) where
+    module _ (few : count ≤ maxNodesPerBucket) (k pos : ℕ) (ep : place k (nodes b) ≡ pos) (h : pos < count) (v : Value) where
       abbrev was : Node
       was = getD (nodes b) pos (nodeIn [])
 
@@ -274,9 +289,7 @@ module _ (s : List ℕ) (at : ℕ) (q : Quiet (part s at bucketSize)) (l : at + 
 
         module _ (new : r ≡ false) (x : Bool) (ex : x ≡ (eqb (getD s bucketFilterAt 0) 1 && ipFilterFails maxNodesPerSubnetBucket (valueOf v) (others s at count pos))) where
           value-filter : failsBucketFilter c (valueOf v) (takeOut k b) ≡ x
-          unfolding others
-          value-filter =
-              filter-is s (takeOut k b) (others s at count pos) (out-nodes s at q l count first ec ef k pos ep h ∙ sym (ap (removeAt pos) (nodes-are s at count ec))) (valueOf v) ∙ sym ex
+          value-filter = fails-left k pos ep h (valueOf v) ex
 
           pub value-out : (t : List ℕ) → x ≡ true → t ≡ splice s at (bucketBytes (takeOut k b)) → Does (updateValue c k (valueOf v) b) at s (UpdateResult.Failed FailureReason.BucketFilter) t
           value-out t e f = does (updateValue c k (valueOf v) b) at s _ (takeOut k b) t (value-fails c k (valueOf v) b was get-was (is-same ∙ new) (value-filter ∙ e)) f
@@ -329,7 +342,7 @@ module _ (s : List ℕ) (at : ℕ) (q : Quiet (part s at bucketSize)) (l : at + 
             pub inserts-placed : (t : List ℕ) → x ≡ false → count < maxNodesPerBucket → t ≡ splice s at (bucketBytes (put n b)) → Does (insert c time n b) at s BucketInsertResult.Inserted t
             inserts-placed t e h f =
                 does (insert c time n b) at s _ (put n b) t
-                (insert-placed c time n b new-holds (fails-all ∙ fine) (max-all ∙ e) (omega (arith, many, length-nodes b)) ∙ ap (λ (y : Bucket). (BucketInsertResult.Inserted, y)) (placed-none n b (q .pending))) f
+                (insert-placed c time n b new-holds (fails-all ∙ fine) (max-all ∙ e) (omega (arith, many, length-nodes b)) ∙ ap (λ (y : Bucket). (BucketInsertResult.Inserted, y)) (placed-none b (q .pending) n)) f
 
             pub inserts-full : (a : BucketInsertResult) (t : List ℕ) → x ≡ false → maxNodesPerBucket ≤ count → Does (insertedFull c time n b) at s a t → Does (insert c time n b) at s a t
             inserts-full a t e h d = does-as (insert-full c time n b new-holds (fails-all ∙ fine) (max-all ∙ e) (omega (arith, many, length-nodes b))) d

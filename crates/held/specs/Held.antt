@@ -3,15 +3,16 @@ use Prim.Native.Nat.{ℕ, _≤_}
 use mathlib.Core.Path.{_≡_}
 use mathlib.Core.List.{List}
 use mathlib.Core.Option.{none}
+use lib.ListN.{length}
 use Rattle.model.specs.Base.{same, tabulate}
 use Rattle.model.specs.Bytes.{part, splice}
 use Rattle.model.specs.Node.{Node}
 use Rattle.model.specs.Result.{BucketInsertResult, UpdateResult}
-use Rattle.model.specs.Bucket.{Bucket, BucketSettings, maxNodesPerBucket, nodes, numEntries, takeOut, reinsert, statusResult, insertFull}
+use Rattle.model.specs.Bucket.{Bucket, BucketSettings, maxNodesPerBucket, nodes, numEntries, put, takeOut, reinsert, statusResult, insertFull}
 use Rattle.model.specs.Sizes.{bucketSize}
 use Rattle.model.specs.Layout.{bucketBytes, bucketIn, settingsIn}
 use Rattle.model.specs.Fits.{Different}
-use Rattle.places.specs.Places.{before, removeAt}
+use Rattle.places.specs.Places.{before, insertAt, removeAt}
 use Rattle.well_formed.specs.Tests.{nodeAt}
 
 -- the bucket whose bytes stand at `at`
@@ -36,6 +37,11 @@ others s at count skip = removeAt skip (nodesHere s at count)
 -- the place of a key, or the number of nodes where none has it
 abbrev pub place : ℕ → List Node → ℕ
 place k ns = before (λ (n : Node). same (n .key) k) ns
+
+-- n goes to place `to` of the bucket b, and the first connected place is `first` then
+pub record Goes (n : Node) (to first : ℕ) (b : Bucket) : Type 0 where
+  pub there : nodes (put n b) ≡ insertAt to n (nodes b)
+  pub until : first ≡ length (put n b .disconnected)
 
 -- the answer of the step x on the bucket at `at`, and the bytes that it leaves
 pub record Does {A : Type 0} (x : A × Bucket) (at : ℕ) (s : List ℕ) (answer : A) (left : List ℕ) : Type 0 where

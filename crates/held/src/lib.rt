@@ -1,10 +1,10 @@
 // Internal: a bucket of the lent storage that has no pending, changed in place: its nodes are found, moved and written as bytes. What is
 // left are the bytes of the bucket that the model's step leaves. `count` is the bucket's count, read by the caller.
 ghost use mathlib.Core.Path.{_≡_};
-ghost use mathlib.Core.Bool.{Bool, true, false, _&&_};
+ghost use mathlib.Core.Bool.{Bool, true, cond, _&&_};
 ghost use mathlib.Core.List.{[], _∷_, _++_};
 ghost use mathlib.Core.Option.{some};
-ghost use Prim.Native.Nat.{ℕ, _+_, _^_, _≤_, _<_};
+ghost use Prim.Native.Nat.{ℕ, _+_, _-_, _^_, _≤_, _<_};
 ghost use lib.Dec.{eqb, leb};
 ghost use lib.ListN.{length, getD};
 ghost use Rattle.model.specs.Bytes.{number, part, splice, zeros};
@@ -18,7 +18,7 @@ ghost use Rattle.model.specs.Formed.{bucketFormed};
 ghost use Rattle.key.specs.Key.{num};
 ghost use Rattle.node.specs.Node.{valueOf, nodeOf, valueCodes, nodeCodes};
 ghost use Rattle.bucket.specs.Calls.{insertResultOf, updateResultOf};
-ghost use Rattle.held.specs.Held.{bucketHere, Quiet, nodesHere, others, place, Does, settingsHere, restated, insertedFull};
+ghost use Rattle.held.specs.Held.{bucketHere, Quiet, nodesHere, others, place, Goes, Does, settingsHere, restated, insertedFull};
 use bucket::FailureReason;
 use bucket::InsertResult;
 use bucket::UpdateResult;
@@ -132,52 +132,64 @@ pub fn place(s: &mut [u8], at: usize, count: usize, node: Node)
     }
 }
 
-// The node at place pos goes, and one of its key is placed, which is disconnected.
-fn replace_disconnected(s: &mut [u8], at: usize, count: usize, pos: usize, node: Node)
-    requires { ⌜ (at + bucketSize ≤ length (now s)) × (count ≤ maxNodesPerBucket) × (pos < count) ⌝ }
+// The place among `count` nodes that a node goes to, where `first` of the others are disconnected.
+fn place_of(connected: bool, count: usize, first: usize) -> usize
+    requires { ⌜ 1 ≤ count ⌝ }
+    ensures { λ r. ⌜ r ≡ cond connected (count - 1) first ⌝ }
+{
+    if connected {
+        return count - 1;
+    }
+    first
+}
+
+// The node at place pos goes, and one of its key is put at place `to` of the others; `first` is the first connected place then.
+fn replace_at(
+    s: &mut [u8],
+    at: usize,
+    count: usize,
+    pos: usize,
+    to: usize,
+    first: usize,
+    node: Node,
+)
+    requires { ⌜ (at + bucketSize ≤ length (now s)) × (count ≤ maxNodesPerBucket) × (pos < count) × (to < count) × (first ≤ count) ⌝ }
     requires { ⌜ (count ≡ getD (now s) at 0) × Quiet (part (now s) at bucketSize) ⌝ }
-    requires { ⌜ (nodeCodes node ≡ true) × (nodeOf node .connected ≡ false) × (place (num (node .key)) (nodes (bucketHere (now s) at)) ≡ pos) ⌝ }
+    requires { ⌜ (nodeCodes node ≡ true) × (place (num (node .key)) (nodes (bucketHere (now s) at)) ≡ pos) ⌝ }
+    requires { ⌜ Goes (nodeOf node) to first (takeOut (num (node .key)) (bucketHere (now s) at)) ⌝ }
     ensures { λ _. ⌜ now (s .exit) ≡ splice (now (s .entry)) at (bucketBytes (put (nodeOf node) (takeOut (num (node .key)) (bucketHere (now (s .entry)) at)))) ⌝ }
 {
-    let first = byte_at(s, at + 1);
-    if pos < first {
+    if pos < to {
         put_behind(
             s,
             at + (Layout::PLACES_AT + pos * Layout::NODE),
-            (first - 1 - pos) * Layout::NODE,
+            (to - pos) * Layout::NODE,
             node,
         );
         put_counts(s, at, count, first);
     } else {
         put_before(
             s,
-            at + (Layout::PLACES_AT + first * Layout::NODE),
-            (pos - first) * Layout::NODE,
+            at + (Layout::PLACES_AT + to * Layout::NODE),
+            (pos - to) * Layout::NODE,
             node,
         );
-        put_counts(s, at, count, first + 1);
+        put_counts(s, at, count, first);
     }
 }
 
-// The node at place pos goes, and one of its key is placed.
-fn replace(s: &mut [u8], at: usize, count: usize, pos: usize, node: Node)
+// Internal: the node at place pos goes, and one of its key is placed.
+pub fn replace(s: &mut [u8], at: usize, count: usize, pos: usize, node: Node)
     requires { ⌜ (at + bucketSize ≤ length (now s)) × (count ≤ maxNodesPerBucket) × (pos < count) ⌝ }
     requires { ⌜ (count ≡ getD (now s) at 0) × Quiet (part (now s) at bucketSize) ⌝ }
     requires { ⌜ (nodeCodes node ≡ true) × (place (num (node .key)) (nodes (bucketHere (now s) at)) ≡ pos) ⌝ }
     ensures { λ _. ⌜ now (s .exit) ≡ splice (now (s .entry)) at (bucketBytes (put (nodeOf node) (takeOut (num (node .key)) (bucketHere (now (s .entry)) at)))) ⌝ }
 {
-    if node.is_connected() {
-        let first = byte_at(s, at + 1);
-        put_behind(
-            s,
-            at + (Layout::PLACES_AT + pos * Layout::NODE),
-            (count - 1 - pos) * Layout::NODE,
-            node,
-        );
-        put_counts(s, at, count, first - (pos < first) as usize);
-    } else {
-        replace_disconnected(s, at, count, pos, node);
-    }
+    let first = byte_at(s, at + 1);
+    let rest = first - (pos < first) as usize;
+    let connected = node.is_connected();
+    let to = place_of(connected, count, rest);
+    replace_at(s, at, count, pos, to, rest + (!connected) as usize, node);
 }
 
 // Of the first count places but `skip`, those that are connected and incoming.
@@ -213,8 +225,8 @@ fn counted(s: &[u8], at: usize, count: usize, skip: usize, value: Value) -> usiz
     n
 }
 
-// The node is connected and incoming, with max_incoming such nodes at other places than `skip`.
-fn is_max_incoming(s: &[u8], at: usize, count: usize, skip: usize, node: Node) -> bool
+// Internal: the node is connected and incoming, with max_incoming such nodes at other places than `skip`.
+pub fn is_max_incoming(s: &[u8], at: usize, count: usize, skip: usize, node: Node) -> bool
     requires { ⌜ (at + bucketSize ≤ length (now s)) × (count ≤ maxNodesPerBucket) ⌝ }
     ensures { λ r. ⌜ r ≡ (connectedIncoming (nodeOf node)
         && leb (getD (now (s .entry)) maxIncomingAt 0) (length (incomingNodes (others (now (s .entry)) at count skip)))) ⌝ }
@@ -225,8 +237,8 @@ fn is_max_incoming(s: &[u8], at: usize, count: usize, skip: usize, node: Node) -
     false
 }
 
-// The bucket filter fails for the value, with the values at other places than `skip`.
-fn fails_filter(s: &[u8], at: usize, count: usize, skip: usize, value: Value) -> bool
+// Internal: the bucket filter fails for the value, with the values at other places than `skip`.
+pub fn fails_filter(s: &[u8], at: usize, count: usize, skip: usize, value: Value) -> bool
     requires { ⌜ (at + bucketSize ≤ length (now s)) × (count ≤ maxNodesPerBucket) ⌝ }
     ensures { λ r. ⌜ r ≡ (eqb (getD (now (s .entry)) bucketFilterAt 0) 1
         && ipFilterFails maxNodesPerSubnetBucket (valueOf value) (others (now (s .entry)) at count skip)) ⌝ }
@@ -275,6 +287,27 @@ fn step(s: &mut [u8], at: usize, count: usize, pos: usize, old: Node, node: Node
     bucket::status_result(old, node)
 }
 
+// Internal: update_status of the node at place pos, on a bucket without a pending.
+pub fn update_status_at(
+    s: &mut [u8],
+    at: usize,
+    count: usize,
+    pos: usize,
+    state: u8,
+    direction: u8,
+) -> UpdateResult
+    requires { ⌜ (at + bucketSize ≤ length (now s)) × (count ≤ maxNodesPerBucket) × (pos < count) ⌝ }
+    requires { ⌜ (count ≡ getD (now s) at 0) × Quiet (part (now s) at bucketSize) ⌝ }
+    requires { ⌜ (state ≤ 1) × (direction ≤ 2) ⌝ }
+    ensures { λ r. ⌜ ((k : ℕ) → place k (nodes (bucketHere (now (s .entry)) at)) ≡ pos
+        → Does (updateStatus (settingsHere (now (s .entry))) k (isOne state) (optional direction) (bucketHere (now (s .entry)) at))
+        at (now (s .entry)) (updateResultOf r) (now (s .exit))) ⌝ }
+{
+    let old = storage::load_node(s, at + (Layout::PLACES_AT + pos * Layout::NODE));
+    let node = old.with_status(state, direction);
+    step(s, at, count, pos, old, node)
+}
+
 // Internal: update_status, on a bucket without a pending.
 pub fn update_status(s: &mut [u8], at: usize, key: Key, state: u8, direction: u8) -> UpdateResult
     requires { ⌜ (at + bucketSize ≤ length (now s)) × Quiet (part (now s) at bucketSize) ⌝ }
@@ -285,9 +318,7 @@ pub fn update_status(s: &mut [u8], at: usize, key: Key, state: u8, direction: u8
     let count = byte_at(s, at);
     let pos = position(s, at, count, key);
     if pos < count {
-        let old = storage::load_node(s, at + (Layout::PLACES_AT + pos * Layout::NODE));
-        let node = old.with_status(state, direction);
-        return step(s, at, count, pos, old, node);
+        return update_status_at(s, at, count, pos, state, direction);
     }
     UpdateResult::Failed(FailureReason::KeyNonExistent)
 }
@@ -307,8 +338,8 @@ pub fn update_value(s: &mut [u8], at: usize, key: Key, value: Value) -> UpdateRe
     UpdateResult::Failed(FailureReason::KeyNonExistent)
 }
 
-// The value step on the node at place pos.
-fn value_at(s: &mut [u8], at: usize, count: usize, pos: usize, value: Value) -> UpdateResult
+// Internal: update_value of the node at place pos, on a bucket without a pending.
+pub fn value_at(s: &mut [u8], at: usize, count: usize, pos: usize, value: Value) -> UpdateResult
     requires { ⌜ (at + bucketSize ≤ length (now s)) × (count ≤ maxNodesPerBucket) × (pos < count) ⌝ }
     requires { ⌜ (count ≡ getD (now s) at 0) × Quiet (part (now s) at bucketSize) × (valueCodes value ≡ true) ⌝ }
     ensures { λ r. ⌜ ((k : ℕ) → place k (nodes (bucketHere (now (s .entry)) at)) ≡ pos

@@ -1,173 +1,145 @@
--- insert_or_update and update_node in place: their steps, one behind the other.
-use Prim.Native.Nat.{ℕ, _+_, _≤_, _<_}
-use native.Mathlib.Omega.{arith}
-use mathlib.Core.Path.{_≡_, refl, sym, ap, _∙_, subst, subst⁻¹}
+-- insert_or_update and update_node in place: what each case answers and leaves.
+use Prim.Native.Nat.{ℕ}
+use mathlib.Core.Path.{_≡_, refl, sym, ap, _∙_, subst}
 use mathlib.Core.Bool.{Bool, true, false}
 use mathlib.Core.List.{List}
 use mathlib.Core.Option.{Option, none, some}
-use lib.ListN.{length, getD}
-use Rattle.model.specs.Bytes.{Bytes, part}
+use Rattle.model.specs.Bytes.{splice}
 use Rattle.model.specs.Value.{Value}
-use Rattle.model.specs.Node.{Node}
+use Rattle.model.specs.Node.{Node, withStatus, withValue}
 use Rattle.model.specs.Result.{FailureReason, BucketInsertResult, UpdateResult, InsertResult, isFailed}
-use Rattle.model.specs.Bucket.{Bucket, BucketSettings, holds, insert, updateStatus, updateValue, remove}
+use Rattle.model.specs.Bucket.{Bucket, BucketSettings, get, holds, failsBucketFilter, isMaxIncoming, put, placed, takeOut, takenOut, reinsert, statusResult, insert, updateValue, remove}
 use Rattle.model.specs.Table.{Answer, bothUpdates, updateNodeIn, insertUpdates, inserts, insertOrUpdateIn}
-use Rattle.model.specs.Sizes.{bucketSize, maxIncomingAt, headerSize}
-use Rattle.model.specs.Layout.{settingsIn}
-use Rattle.model.specs.Formed.{bucketFormed}
-use Rattle.model.specs.Fits.{Formed, FitsValue, FitsNode, FitsDeadline, FitsBucket}
-use Rattle.laws.proofs.Parts.{length-part}
-use Rattle.laws.proofs.Bytes.{Bytes-part}
-use Rattle.laws.proofs.BucketBack.{bucket-good, bucket-fits}
-use Rattle.laws.proofs.KeepEach.{updateStatus-each, updateValue-each}
-use Rattle.laws.proofs.KeepFormed.{updateStatus-formed, updateValue-formed}
-use Rattle.held.specs.Held.{Quiet, Does, bucketHere, settingsHere}
-use Rattle.bucket_update.proofs.Rules.{node-filtered, node-failed, node-valued, node-both}
-use Rattle.held.proofs.Steps.{does-as}
-use Rattle.held.proofs.Again.{status-keeps-none, value-keeps-none, length-left, settings-left, bucket-left, quiet-left, then-does}
-use Rattle.held_update.specs.Stands.{Stands, updatedHeld}
+use Rattle.model.specs.Layout.{bucketBytes}
+use Rattle.laws.proofs.Tests.{split}
+use Rattle.bucket.proofs.Rules.{reinsert-many, reinsert-placed}
+use Rattle.bucket_update.specs.Again.{valueResult}
+use Rattle.bucket_update.proofs.Rules.{both-failed, node-filtered, node-failed, node-valued}
+use Rattle.bucket_update.proofs.Again.{heldSteps, insert-steps, node-again, node-refused}
+use Rattle.held.specs.Held.{Does, bucketHere, settingsHere}
+use Rattle.held.proofs.Steps.{does, does-as, cleared-none, placed-none, taken-none}
 
--- a bucket that passed question 2 and has no pending
-pub stands : (s : List ℕ) (at : ℕ) → at + bucketSize ≤ length s → headerSize ≤ at → Bytes s → (p : ℕ → Bool) → bucketFormed p (getD s maxIncomingAt 0) (part s at bucketSize) ≡ true
-    → Quiet (part s at bucketSize) → Stands s at
-unfolding settingsIn
-stands s at l h w p f q =
-    let bs : List ℕ = part s at bucketSize in
-    record {
-      inside = l;
-      behind = h;
-      quiet = q;
-      formed = bucket-good bs p (getD s maxIncomingAt 0) f .formed;
-      fits = bucket-fits bs (length-part s at bucketSize l) (Bytes-part s at bucketSize w) p (getD s maxIncomingAt 0) f;
-    }
-
-module _ (s : List ℕ) (at : ℕ) (y : Stands s at) where
+module _ (s : List ℕ) (at : ℕ) where
   abbrev b : Bucket
   b = bucketHere s at
 
   abbrev c : BucketSettings
   c = settingsHere s
 
-  -- a first step x, and what it left
-  module _ {A : Type 0} (x : A × Bucket) (g : Formed (c .maxIncoming) (x .1)) (f : FitsBucket (x .1)) (p : x .1 .pending ≡ none) {a : A} {left : List ℕ} (d : Does x at s a left) where
-    settings-same : settingsHere left ≡ c
-    settings-same = settings-left s at (x .1) (y .inside) (g .at-most) (d .leaves) (y .behind)
+  -- insert_or_update
 
-    pub second-stands : Stands left at
-    second-stands =
-        let l = length-left s at (x .1) (y .inside) (g .at-most) (d .leaves) in
-        let z : bucketHere left at ≡ x .1 = bucket-left s at (x .1) (y .inside) (g .at-most) (d .leaves) f in
-        record {
-          inside = omega (arith, l, y .inside);
-          behind = y .behind;
-          quiet = quiet-left s at (x .1) (y .inside) (g .at-most) (d .leaves) f (g .different) p;
-          formed = subst⁻¹ (λ (v : BucketSettings). Formed (v .maxIncoming) (bucketHere left at)) settings-same (subst⁻¹ (Formed (c .maxIncoming)) z g);
-          fits = subst⁻¹ FitsBucket z f;
-        }
-
-    -- a second step G on that
-    pub second-does : {B : Type 0} (G : BucketSettings → Bucket → B × Bucket) {v : B} {last : List ℕ} → Formed (c .maxIncoming) (G c (x .1) .1)
-        → Does (G (settingsHere left) (bucketHere left at)) at left v last → Does (G c (x .1)) at s v last
-    second-does G {v} {last} m r =
-        then-does s at (x .1) (y .inside) (g .at-most) (d .leaves) f (G c) (m .at-most)
-        (subst (λ (t : BucketSettings). Does (G t (bucketHere left at)) at left v last) settings-same r)
-
--- insert_or_update
-
-module _ (s : List ℕ) (at : ℕ) (y : Stands s at) (n : Node) where
-  -- on a held key
-  abbrev first : UpdateResult × Bucket
-  first = updateStatus (c s at y) (n .key) (n .connected) (some (n .incoming)) (b s at y)
-
-  -- the status's step with the direction as a code that is given
-  pub as-given : {o : Option Bool} {a : UpdateResult} {left : List ℕ} → o ≡ some (n .incoming) → Does (updateStatus (c s at y) (n .key) (n .connected) o (b s at y)) at s a left → Does first at s a left
-  as-given {o} {a} {left} e x = subst (λ (z : Option Bool). Does (updateStatus (c s at y) (n .key) (n .connected) z (b s at y)) at s a left) e x
-
-  first-formed : Formed (c s at y .maxIncoming) (first .1)
-  first-formed = updateStatus-formed (c s at y) (n .key) (n .connected) (some (n .incoming)) (b s at y) (y .formed)
-
-  first-fits : FitsBucket (first .1)
-  first-fits = updateStatus-each FitsNode FitsDeadline (c s at y) (n .key) (n .connected) (some (n .incoming)) (b s at y) (λ m f. record { key = f .key; value = f .value }) (y .fits)
-
-  first-none : first .1 .pending ≡ none
-  first-none = status-keeps-none (c s at y) (n .key) (b s at y) (y .quiet .pending) (n .connected) (some (n .incoming))
-
-  module _ {a : UpdateResult} {left : List ℕ} (x : Does first at s a left) where
-    pub status-failed : isFailed a ≡ true → Does (updatedHeld (c s at y) n (b s at y)) at s (Answer.InsertOrUpdate (InsertResult.Failed FailureReason.TooManyIncoming)) left
-    status-failed e =
-        let z : isFailed (first .0) ≡ true = ap isFailed (sym (x .answers)) ∙ e in
-        record { answers = rw z; leaves = x .leaves ∙ (rw z) }
-
-    pub status-stands : Stands left at
-    status-stands = second-stands s at y first first-formed first-fits first-none x
-
-    pub value-does : isFailed a ≡ false → {v : UpdateResult} {last : List ℕ} → Does (updateValue (settingsHere left) (n .key) (n .value) (bucketHere left at)) at left v last
-        → Does (updatedHeld (c s at y) n (b s at y)) at s (Answer.InsertOrUpdate (insertUpdates v a)) last
-    value-does e {v} {last} d =
-        let r = second-does s at y first first-formed first-fits first-none x (λ (t : BucketSettings) (m : Bucket). updateValue t (n .key) (n .value) m)
-        (updateValue-formed (c s at y) (n .key) (n .value) (first .1) first-formed) d in
-        let z : isFailed (first .0) ≡ false = ap isFailed (sym (x .answers)) ∙ e in
-        record { answers = ap (λ (t : UpdateResult). Answer.InsertOrUpdate (insertUpdates t a)) (r .answers) ∙ ap (λ (t : UpdateResult). Answer.InsertOrUpdate (insertUpdates (updateValue (c s at y) (n .key) (n .value) (first .1) .0) t)) (x .answers) ∙ (rw z); leaves = r .leaves ∙ (rw z) }
-
-  -- by cases of the call
-  module _ (time : ℕ) where
-    pub filtered-does : {f : Bool} {a : Bool} {left : List ℕ} → f ≡ true → Does (remove (c s at y) time (n .key) (b s at y)) at s a left
-        → Does (insertOrUpdateIn (c s at y) f time n (b s at y)) at s (Answer.InsertOrUpdate (InsertResult.Failed FailureReason.TableFilter)) left
+  module _ (n : Node) (time : ℕ) where
+    pub filtered-does : {f : Bool} {a : Bool} {left : List ℕ} → f ≡ true → Does (remove c time (n .key) b) at s a left
+        → Does (insertOrUpdateIn c f time n b) at s (Answer.InsertOrUpdate (InsertResult.Failed FailureReason.TableFilter)) left
     filtered-does e x = record { answers = rw e; leaves = x .leaves ∙ (rw e) }
 
-    pub held-does : {f : Bool} {a : Answer} {left : List ℕ} → f ≡ false → holds (n .key) (b s at y) ≡ true → Does (updatedHeld (c s at y) n (b s at y)) at s a left → Does (insertOrUpdateIn (c s at y) f time n (b s at y)) at s a left
-    held-does e h x = record { answers = x .answers ∙ (rw (e, h)); leaves = x .leaves ∙ (rw (e, h)) }
+    pub held-does : {f : Bool} {a : Answer} {left : List ℕ} → f ≡ false → Does (insertOrUpdateIn c false time n b) at s a left → Does (insertOrUpdateIn c f time n b) at s a left
+    held-does e x = does-as (ap (λ (f : Bool). insertOrUpdateIn c f time n b) e) x
 
-    pub inserted-does : {f : Bool} {a : BucketInsertResult} {r : InsertResult} {left : List ℕ} → f ≡ false → holds (n .key) (b s at y) ≡ false → r ≡ inserts a → Does (insert (c s at y) time n (b s at y)) at s a left
-        → Does (insertOrUpdateIn (c s at y) f time n (b s at y)) at s (Answer.InsertOrUpdate r) left
+    pub inserted-does : {f : Bool} {a : BucketInsertResult} {r : InsertResult} {left : List ℕ} → f ≡ false → holds (n .key) b ≡ false → r ≡ inserts a → Does (insert c time n b) at s a left
+        → Does (insertOrUpdateIn c f time n b) at s (Answer.InsertOrUpdate r) left
     inserted-does e h p x =
         record { answers = ap Answer.InsertOrUpdate (p ∙ ap inserts (x .answers)) ∙ (rw (e, h)); leaves = x .leaves ∙ (rw (e, h)) }
 
--- update_node
+    -- the node m of its key is held, and there is no pending
+    module _ (p : b .pending ≡ none) (m : Node) (g : get (n .key) b ≡ some m) (k : m .key ≡ n .key) where
+      abbrev left : Bucket
+      left = takeOut (n .key) b
 
-module _ (s : List ℕ) (at : ℕ) (y : Stands s at) (fails : Bool) (k : ℕ) (v : Value) (u : Option Bool) where
-  abbrev valued : UpdateResult × Bucket
-  valued = updateValue (c s at y) k v (b s at y)
+      abbrev given : Answer × Bucket
+      given = insertOrUpdateIn c false time n b
 
-  abbrev both : ℕ → Answer × Bucket
-  both time = updateNodeIn (c s at y) fails time k v u (b s at y)
+      steps : given ≡ heldSteps c m n left
+      steps =
+          subst (λ (x : Node). insertOrUpdateIn c false time x b ≡ heldSteps c m x (takenOut (x .key) (x .connected) b))
+          (ap (λ (i : ℕ). record { key = i; value = n .value; connected = n .connected; incoming = n .incoming }) k)
+          (insert-steps c time b m (subst (λ (i : ℕ). get i b ≡ some m) (sym k) g) (n .connected) (n .incoming) (n .value))
+          ∙ ap (heldSteps c m n) (taken-none b p (n .key) (n .connected))
 
-  pub out-does : fails ≡ true → (time : ℕ) {a : Bool} {left : List ℕ} → Does (remove (c s at y) time k (b s at y)) at s a left → Does (both time) at s (Answer.Update (UpdateResult.Failed FailureReason.TableFilter)) left
-  out-does e time x =
-      does-as (node-filtered (c s at y) fails time k v u (b s at y) e) (record { answers = refl; leaves = x .leaves })
+      pub old-refused : failsBucketFilter c (m .value) left ≡ true → {t : List ℕ} → t ≡ splice s at (bucketBytes left)
+          → Does given at s (Answer.InsertOrUpdate (InsertResult.Failed FailureReason.TooManyIncoming)) t
+      old-refused f {t} e = does given at s _ left t (steps ∙ rw f) e
 
-  module _ (e : fails ≡ false) {a : UpdateResult} {left : List ℕ} (x : Does valued at s a left) where
+      module _ (f : failsBucketFilter c (m .value) left ≡ false) where
+        pub held-many : isMaxIncoming c n left ≡ true → {t : List ℕ} → t ≡ splice s at (bucketBytes left)
+            → Does given at s (Answer.InsertOrUpdate (InsertResult.Failed FailureReason.TooManyIncoming)) t
+        held-many h {t} e = does given at s _ left t (steps ∙ rw (f, h)) e
+
+        module _ (h : isMaxIncoming c n left ≡ false) where
+          pub new-refused : failsBucketFilter c (n .value) left ≡ true → {t : List ℕ} → t ≡ splice s at (bucketBytes left)
+              → Does given at s (Answer.InsertOrUpdate (InsertResult.Failed FailureReason.BucketFilter)) t
+          new-refused i {t} e =
+              does given at s _ left t
+              (steps ∙ rw (f, h, i) (ap (λ (x : Bucket). (Answer.InsertOrUpdate (InsertResult.Failed FailureReason.BucketFilter), x)) (cleared-none left p (n .key)))) e
+
+          pub held-put : failsBucketFilter c (n .value) left ≡ false → {a : InsertResult} → a ≡ insertUpdates (valueResult (m .value) (n .value)) (statusResult m n none)
+              → {t : List ℕ} → t ≡ splice s at (bucketBytes (put n left)) → Does given at s (Answer.InsertOrUpdate a) t
+          held-put i {a} r {t} e =
+              let told : InsertResult = insertUpdates (valueResult (m .value) (n .value)) (statusResult m n none) in
+              let d = does given at s (Answer.InsertOrUpdate told) (put n left) t (steps ∙ rw (f, h, i) (ap (λ (x : Bucket). (Answer.InsertOrUpdate told, x)) (placed-none left p n))) e in
+              record { answers = ap Answer.InsertOrUpdate r ∙ d .answers; leaves = d .leaves }
+
+  -- update_node
+
+  module _ (time k : ℕ) (v : Value) (u : Option Bool) where
+    pub out-does : {f : Bool} → f ≡ true → {a : Bool} {left : List ℕ} → Does (remove c time k b) at s a left
+        → Does (updateNodeIn c f time k v u b) at s (Answer.Update (UpdateResult.Failed FailureReason.TableFilter)) left
+    out-does {f} e x = does-as (node-filtered c f time k v u b e) (record { answers = refl; leaves = x .leaves })
+
+    pub kept-does : {f : Bool} → f ≡ false → {a : Answer} {left : List ℕ} → Does (updateNodeIn c false time k v u b) at s a left → Does (updateNodeIn c f time k v u b) at s a left
+    kept-does e x = does-as (ap (λ (f : Bool). updateNodeIn c f time k v u b) e) x
+
     -- the value's step alone
-    alone : (time : ℕ) → both time ≡ (Answer.Update (valued .0), valued .1) → Does (both time) at s (Answer.Update a) left
-    alone time p = does-as p (record { answers = ap Answer.Update (x .answers); leaves = x .leaves })
+    module _ {a : UpdateResult} {left : List ℕ} (x : Does (updateValue c k v b) at s a left) where
+      abbrev valued : UpdateResult × Bucket
+      valued = updateValue c k v b
 
-    pub value-failed : isFailed a ≡ true → (time : ℕ) → Does (both time) at s (Answer.Update a) left
-    value-failed f time = alone time (node-failed (c s at y) fails time k v u (b s at y) e (ap isFailed (sym (x .answers)) ∙ f))
+      alone : updateNodeIn c false time k v u b ≡ (Answer.Update (valued .0), valued .1) → Does (updateNodeIn c false time k v u b) at s (Answer.Update a) left
+      alone p = does-as p (record { answers = ap Answer.Update (x .answers); leaves = x .leaves })
 
-    module _ (f : isFailed a ≡ false) where
-      abbrev passed : isFailed (valued .0) ≡ false
-      passed = ap isFailed (sym (x .answers)) ∙ f
+      pub value-failed : isFailed a ≡ true → Does (updateNodeIn c false time k v u b) at s (Answer.Update a) left
+      value-failed f = alone (node-failed c false time k v u b refl (ap isFailed (sym (x .answers)) ∙ f))
 
-      pub value-alone : u ≡ none → (time : ℕ) → Does (both time) at s (Answer.Update a) left
-      value-alone g time = alone time (node-valued (c s at y) fails time k v u (b s at y) e passed g)
+      pub value-alone : u ≡ none → Does (updateNodeIn c false time k v u b) at s (Answer.Update a) left
+      value-alone e = alone (split (isFailed (valued .0)) (λ f. node-failed c false time k v u b refl f) (λ f. node-valued c false time k v u b refl f e))
 
-    module _ (w : FitsValue v) where
-      valued-formed : Formed (c s at y .maxIncoming) (valued .1)
-      valued-formed = updateValue-formed (c s at y) k v (b s at y) (y .formed)
+  -- the node m is held, there is no pending, and a state is given
+  module _ (p : b .pending ≡ none) (time : ℕ) (m : Node) (g : get (m .key) b ≡ some m) (u : Bool) (v : Value) where
+    abbrev out : Bucket
+    out = takeOut (m .key) b
 
-      valued-fits : FitsBucket (valued .1)
-      valued-fits = updateValue-each FitsNode FitsDeadline (c s at y) k v (b s at y) (λ m h. record { key = h .key; value = w }) (y .fits)
+    abbrev updated : Answer × Bucket
+    updated = updateNodeIn c false time (m .key) v (some u) b
 
-      valued-none : valued .1 .pending ≡ none
-      valued-none = value-keeps-none (c s at y) k (b s at y) (y .quiet .pending) v
+    -- the key and the state as the call names them
+    pub named-does : {k : ℕ} {o : Option Bool} → m .key ≡ k → o ≡ some u → {a : Answer} {t : List ℕ} → Does updated at s a t → Does (updateNodeIn c false time k v o b) at s a t
+    named-does {k} e h x =
+        does-as (ap (λ (o : Option Bool). updateNodeIn c false time k v o b) h ∙ ap (λ (i : ℕ). updateNodeIn c false time i v (some u) b) (sym e)) x
 
-      pub value-stands : Stands left at
-      value-stands = second-stands s at y valued valued-formed valued-fits valued-none x
+    pub value-refused : failsBucketFilter c v out ≡ true → {t : List ℕ} → t ≡ splice s at (bucketBytes out) → Does updated at s (Answer.Update (UpdateResult.Failed FailureReason.BucketFilter)) t
+    value-refused f {t} e = does updated at s _ out t (node-refused c time b m g u v (taken-none b p (m .key) u) f) e
 
-      pub status-does : isFailed a ≡ false → (t : Bool) → u ≡ some t → {r : UpdateResult} {last : List ℕ} → Does (updateStatus (settingsHere left) k t none (bucketHere left at)) at left r last
-          → (time : ℕ) → Does (both time) at s (Answer.Update (bothUpdates a r)) last
-      status-does f t g {r} d time =
-          let z = second-does s at y valued valued-formed valued-fits valued-none x (λ (q : BucketSettings) (m : Bucket). updateStatus q k t none m)
-          (updateStatus-formed (c s at y) k t none (valued .1) valued-formed) d in
-          does-as (node-both (c s at y) fails time k v u (b s at y) e (passed f) t g)
-          (record { answers = ap (λ (q : UpdateResult). Answer.Update (bothUpdates q r)) (x .answers) ∙ ap (λ (q : UpdateResult). Answer.Update (bothUpdates (valued .0) q)) (z .answers); leaves = z .leaves })
+    module _ (n : Node) (en : n ≡ withStatus u none (withValue v m)) (f : failsBucketFilter c v out ≡ false) where
+      abbrev by : Node → Option FailureReason × Bucket → Answer × Bucket
+      by x y = (Answer.Update (bothUpdates (valueResult (m .value) v) (statusResult m x (y .0))), y .1)
+
+      again : updated ≡ by n (reinsert c n out)
+      again =
+          let x : Node = withStatus u none (withValue v m) in
+          node-again c time b m g u v f ∙ ap (λ (y : Bucket). by x (reinsert c x y)) (taken-none b p (m .key) u) ∙ ap (λ (y : Node). by y (reinsert c y out)) (sym en)
+
+      fine : failsBucketFilter c (n .value) out ≡ false
+      fine = ap (λ (x : Node). failsBucketFilter c (x .value) out) en ∙ f
+
+      pub update-many : isMaxIncoming c n out ≡ true → {t : List ℕ} → t ≡ splice s at (bucketBytes out) → Does updated at s (Answer.Update (UpdateResult.Failed FailureReason.TooManyIncoming)) t
+      update-many h {t} e =
+          does updated at s _ out t
+          (again ∙ ap (by n) (reinsert-many c n out fine h) ∙ ap (λ (r : UpdateResult). (Answer.Update r, out)) (sym (both-failed (valueResult (m .value) v) FailureReason.TooManyIncoming))) e
+
+      pub update-put : isMaxIncoming c n out ≡ false → {a : UpdateResult} → a ≡ bothUpdates (valueResult (m .value) v) (statusResult m n none)
+          → {t : List ℕ} → t ≡ splice s at (bucketBytes (put n (takeOut (n .key) b))) → Does updated at s (Answer.Update a) t
+      update-put h {a} r {t} e =
+          let k : n .key ≡ m .key = ap (λ (x : Node). x .key) en in
+          let d = does updated at s _ (put n out) t (again ∙ ap (by n) (reinsert-placed c n out fine h) ∙ ap (λ (y : Bucket). by n (none, y)) (placed-none out p n))
+          (e ∙ ap (λ (i : ℕ). splice s at (bucketBytes (put n (takeOut i b)))) k) in
+          record { answers = ap Answer.Update r ∙ d .answers; leaves = d .leaves }

@@ -1,4 +1,5 @@
--- Laws of `found`.
+-- Laws of `items`.
 pub mod Items
 pub mod Run
+pub mod Packed
 pub mod Shown

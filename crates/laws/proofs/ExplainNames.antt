@@ -2,7 +2,7 @@
 use Prim.Native.Nat.{ℕ, zero, suc, _≤_}
 use native.Mathlib.Omega.{arith}
 use mathlib.Core.Path.{_≡_, refl, ap, _∙_}
-use mathlib.Core.Bool.{Bool, true, false, not, _&&_}
+use mathlib.Core.Bool.{Bool, true, false}
 use mathlib.Core.List.{List, [], _∷_}
 use mathlib.Core.Option.{Option, none, some}
 use lib.ListN.{length, take, length-map}
@@ -74,11 +74,6 @@ unfolding filterKeys ipFilterFails
 filter-number limit v ns h =
     length-map (take limit (counted v ns)) (λ (n : Node). n .key)
     ∙ length-take-le limit (counted v ns) (leb-true limit (length (counted v ns)) (and-right (hasAddress v) (leb limit (length (counted v ns))) h))
-
--- the incoming limit names those connected incoming, in their order
-pub incoming-names : (ns : List Node) → Named (λ (n : Node). connectedIncoming n ≡ true) ns (keysOf (incomingNodes ns))
-incoming-names ns =
-    record { who = incomingNodes ns; keys = refl; each = all-pass connectedIncoming ns; order = within-select connectedIncoming ns }
 
 -- The fact behind the reason of an insert of the node n.
 

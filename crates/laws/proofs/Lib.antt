@@ -41,7 +41,6 @@ pub mod SavedBack
 pub mod Touched
 pub mod Restored
 pub mod ReadBack
-pub mod Walk
 pub mod KeyReads
 pub mod ListReads
 pub mod Only

@@ -20,13 +20,13 @@ use Rattle.model.specs.Sizes.{keySize, nodeSize, pendingSize}
 use Rattle.model.specs.Layout.{flagByte, valueBytes, nodeBytes, bucketBytes, nodeIn, nodesIn, bucketIn}
 use Rattle.model.specs.Formed.{isAt, stateAt, bucketFormed}
 use Rattle.model.specs.Fits.{All, FormedBucket, FitsNode, FitsDeadline, FitsBucket, Fits}
-use Rattle.model.specs.Saved.{allNodes, keyBytes, savedEntry, saved, savedEntrySize, sizesBelow, savedCount, savedNode, loadedNodes, disconnectedFrom, loadedBytes, loadedBucket, holdsNothing, lengthFits, loadedFormed, threeOfANet, loadFits}
+use Rattle.model.specs.Saved.{allNodes, keyBytes, savedEntry, saved, savedEntrySize, sizesBelow, savedCount, savedNode, disconnectedFrom, loadedBytes, loadedBucket, holdsNothing, lengthFits, loadedFormed, threeOfANet, loadFits}
 use Rattle.laws.proofs.Tests.{split}
 use Rattle.laws.proofs.Lists.{lt-or-le, length-tabulate, getD-tabulate, tabulate-is, joined-tabulate, length-joined, all-if, conj-if}
 use Rattle.laws.proofs.Parts.{part-left, part-right, part-joined, slot-before}
 use Rattle.laws.proofs.Bytes.{length-bytes, Bytes-append, Bytes-bytes, Bytes-joined, Bytes-all}
-use Rattle.laws.proofs.All.{all-any, all-map, all-getD, all-tabulate, all-held}
-use Rattle.laws.proofs.NodeBytes.{length-value, Bytes-flag, Bytes-value, node-state, node-there as node-read}
+use Rattle.laws.proofs.All.{all-any, all-map, all-tabulate, all-held}
+use Rattle.laws.proofs.NodeBytes.{length-value, Bytes-flag, Bytes-value, node-state}
 use Rattle.laws.proofs.BucketBytes.{length-nodes, nodes-there, bucket-there}
 use Rattle.laws.proofs.BucketFormed.{state-at, bucket-formed}
 use Rattle.laws.proofs.KeepEach.{withPending-each}
@@ -188,15 +188,6 @@ module _ (t : Table) (f : Fits t) where
       (Bytes-append (keys t) (entries t)
       (Bytes-joined keyBytes held (all-any (λ (n : Node). Bytes (keyBytes n)) held (λ n. Bytes-bytes keySize (n .key))))
       (Bytes-joined savedEntry held (all-map FitsNode (λ (n : Node). Bytes (savedEntry n)) Bytes-savedEntry held held-fit)))
-
-  -- the nodes are read in the order written
-  pub saved-nodes : loadedNodes (saved t) ≡ allNodes t
-  unfolding loadedNodes
-  saved-nodes =
-      tabulate-is held (nodeIn []) (savedCount (saved t)) (λ j. nodeIn (savedNode (saved t) j)) (sym (count-there t))
-      (λ j l.
-      let m : j < length held = rw (count-there t) at l in
-      ap nodeIn (node-there t j (nodeIn []) m) ∙ node-read (getD held j (nodeIn [])) (all-getD FitsNode held j (nodeIn []) held-fit m))
 
   kept-fits : (i : ℕ) → FitsBucket (kept t i)
   kept-fits i = withPending-each FitsNode FitsDeadline none (t .buckets i) (f .buckets i) tt

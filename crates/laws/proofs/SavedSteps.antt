@@ -10,7 +10,6 @@ use lib.ListN.{length, getD, length-append}
 use lib.Dec.{eqb, leb}
 use borrow.Author.Tests.{eq-eqb, le-leb}
 use Rattle.model.specs.Bytes.{number, part, splice, Bytes}
-use Rattle.model.specs.Node.{Node}
 use Rattle.model.specs.Result.{Reply}
 use Rattle.model.specs.Bucket.{Bucket, maxNodesPerBucket, nodes, numEntries}
 use Rattle.model.specs.Table.{Settings, Table, Answer, numBuckets, emptyTable, heldNodes}
@@ -21,7 +20,7 @@ use Rattle.model.specs.Step.{settingsOf, act, queueFits, questions, step}
 use Rattle.model.specs.Layout.{bytesOf, bucketIn, bucketPart, tableOf}
 use Rattle.model.specs.Formed.{headerFormed, bucketFormedAt, formed}
 use Rattle.model.specs.Saved.{allNodes, saved, sizesBelow, savedCount, loadedBytes, loadedTable, threeOfANet}
-use Rattle.model.specs.StepBytes.{Replied, BytesOutcome, tellUnlessRefused, writeQuestions, writeBytes, allQuestions, unlessRefusedBytes, stepBytes}
+use Rattle.model.specs.StepBytes.{Replied, tellUnlessRefused, writeQuestions, writeBytes, allQuestions, unlessRefusedBytes, stepBytes}
 use Rattle.model.specs.Fits.{Fits, FitsCall}
 use Rattle.laws.proofs.Tests.{and-right}
 use Rattle.laws.proofs.Lists.{all-gives}

@@ -8,7 +8,7 @@ use mathlib.Core.List.{List, [], _∷_}
 use mathlib.Core.Option.{Option, none, some}
 use Rattle.model.specs.Base.{same, isSome}
 use Rattle.model.specs.Value.{Value, sameValue}
-use Rattle.model.specs.Node.{Node, PendingNode, withStatus, withValue, sameStatus, promotes}
+use Rattle.model.specs.Node.{Node, PendingNode, withStatus, withValue}
 use Rattle.model.specs.Result.{FailureReason, BucketInsertResult, UpdateResult, InsertResult, isFailed}
 use Rattle.model.specs.Bucket.{Bucket, BucketSettings, maxNodesPerBucket, numEntries, isFull, find, holds, get, failsBucketFilter, isMaxIncoming, withPending, cleared, placed, takeOut, insertFull, insert, reinsert, statusResult, takenOut, updateIfPending, updateStatusOf, updateStatus, updateValueOf, updateValue, pendingWithStatus, updatePending}
 use Rattle.model.specs.Table.{Table, EntryKind, Answer, insertUpdates, thenValue, kindIn, kindIfPending, kindOfNode, kindOf}
@@ -188,39 +188,6 @@ value-promotes-not s k v b = valueOf-promotes-not s k v b (get k b)
 -- kbucket.rs, insert_or_update: "Value update cannot promote a connection."
 pub value-not-promoted : (s : BucketSettings) (k : ℕ) (v : Value) (b : Bucket) → updateValue s k v b .0 ≡ UpdateResult.UpdatedAndPromoted → ⊥
 value-not-promoted s k v b e = subst NoPromotion e (value-promotes-not s k v b)
-
--- what a step answers on a held key
-abbrev NotPending : UpdateResult → Type 0
-NotPending UpdateResult.Updated = Unit {0}
-NotPending UpdateResult.UpdatedAndPromoted = Unit {0}
-NotPending UpdateResult.UpdatedPending = ⊥
-NotPending (UpdateResult.Failed r) = Unit {0}
-NotPending UpdateResult.NotModified = Unit {0}
-
-statusResult-not-pending : (m n : Node) (o : Option FailureReason) → NotPending (statusResult m n o)
-statusResult-not-pending m n (some r) = tt
-statusResult-not-pending m n none = cases NotPending (sameStatus m n) (λ _. tt) (λ _. cases NotPending (promotes m n) (λ _. tt) (λ _. tt))
-
--- kbucket.rs, insert_or_update: on a held key no step answers UpdatedPending
-pub held-status-not-pending : (s : BucketSettings) (k : ℕ) (u : Bool) (d : Option Bool) (b : Bucket) → holds k b ≡ true
-    → updateStatus s k u d b .0 ≡ UpdateResult.UpdatedPending → ⊥
-unfolding updateStatus
-held-status-not-pending s k u d b h e = subst NotPending e (found (get k b) h)
-  where
-    found : (o : Option Node) → isSome o ≡ true → NotPending (updateStatusOf s k u d b o .0)
-    found none h = clash h refl
-    found (some n) h = statusResult-not-pending n (withStatus u d n) (reinsert s (withStatus u d n) (takenOut k u b) .0)
-
-pub held-value-not-pending : (s : BucketSettings) (k : ℕ) (v : Value) (b : Bucket) → holds k b ≡ true
-    → updateValue s k v b .0 ≡ UpdateResult.UpdatedPending → ⊥
-unfolding updateValue
-held-value-not-pending s k v b h e = subst NotPending e (found (get k b) h)
-  where
-    found : (o : Option Node) → isSome o ≡ true → NotPending (updateValueOf s k v b o .0)
-    found none h = clash h refl
-    found (some n) h =
-        let Q : UpdateResult × Bucket → Type 0 = λ r. NotPending (r .0) in
-        cases Q (sameValue (n .value) v) (λ _. tt) (λ _. cases Q (failsBucketFilter s v (takeOut k b)) (λ _. tt) (λ _. tt))
 
 -- entry.rs: "We can only build a ConnectedEntry if the entry is in the bucket"
 waiting-not-present : (k : ℕ) (o : Option PendingNode) → isPresent (kindIfPending k o) ≡ false

@@ -5,7 +5,6 @@ use mathlib.Core.Logic.{_⊎_, inl, inr}
 use mathlib.Core.List.{List, [], _∷_, _++_}
 use Prim.Native.Nat.{ℕ, zero, suc, _+_, _-_, _/_, _%_, _^_, _<_, _≤_}
 use native.Mathlib.Nat.{lt-of-lt-of-le, zero-div, le-of-suc-le-suc, eq-or-lt-of-le, zero-add, suc-add, add-suc, add-zero, div-eq-of-lt}
-use native.Mathlib.Numerals.{add-one}
 use native.Mathlib.Omega.{arith}
 use lib.Dec.{eqb}
 use lib.Pow.{pow-pos, pow-mono}
@@ -32,18 +31,6 @@ module _ (D k : ℕ) where
   pub in-none : k ≤ 0 → setsDown D k ≡ []
   unfolding setsDown
   in-none h = let e : k ≡ 0 = omega arith in ap (setsDown D) e
-
-  out-step : k < 256 → clearsUp D k (256 - k) ≡ cond (testBit D k) (clearsUp D (suc k) (255 - k)) (k ∷ clearsUp D (suc k) (255 - k))
-  unfolding clearsUp
-  out-step h = let e : 256 - k ≡ suc (255 - k) = omega arith in ap (clearsUp D k) e
-
-  pub out-clear : k < 256 → testBit D k ≡ false → clearsUp D k (256 - k) ≡ k ∷ clearsUp D (suc k) (255 - k)
-  out-clear h t = out-step h ∙ ap (λ s. cond s (clearsUp D (suc k) (255 - k)) (k ∷ clearsUp D (suc k) (255 - k))) t
-
-  pub out-set : k < 256 → testBit D k ≡ true → clearsUp D k (256 - k) ≡ clearsUp D (k + 1) (256 - (k + 1))
-  out-set h t =
-      let e : 255 - k ≡ 256 - (k + 1) = omega arith in
-      out-step h ∙ ap (λ s. cond s (clearsUp D (suc k) (255 - k)) (k ∷ clearsUp D (suc k) (255 - k))) t ∙ ap₂ (clearsUp D) (sym (add-one k)) e
 
 -- the last of the clear bits
 pub clears-last : (D i k : ℕ) → clearsUp D i (suc k) ≡ clearsUp D i k ++ cond (testBit D (i + k)) [] ((i + k) ∷ [])

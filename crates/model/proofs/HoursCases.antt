@@ -23,7 +23,7 @@ use Rattle.model.specs.Explain.{filterKeys, insertReason, reinsertReason
 use Rattle.model.specs.Rows
 use Rattle.model.specs.ExplainCases
 use Rattle.model.specs.HoursCases.{hoursCases, hoursExplained}
-use Rattle.model.proofs.Cases.{storages-hold}
+use Rattle.model.proofs.QuestionCases.{storages-hold}
 
 pub hours-hold : every Rows.holds hoursCases ≡ true
 unfolding leadingZeros same joined tabulate allBelow number bytes part splice log2Distance bucketIndex testBit sameNet sameValue counts ipFilterFails firstConnectedPos isFull failsBucketFilter isMaxIncoming insert applyDue applyPending reinsert updateStatus updateValue updatePending remove heldNodes failsTableFilter insertBy sortBy setsDown clearsUp visits visited indexAt found keysFit codesInRange clockFits outputFits kindFits act queueFits step valueBytes nodeBytes recordBytes bucketBytes headerBytes itemBytes valueIn nodeIn recordIn nodesIn bucketIn settingsIn tableOf areZero nodeCodes notHeld pendingFormed bucketFormed recordFormed headerFormed formed nearest restore stepBytes dayNumber yearStart monthStart sessionFits isOpen hoursCases

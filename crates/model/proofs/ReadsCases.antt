@@ -16,8 +16,8 @@ use Rattle.model.specs.Step.{act, queueFits, step}
 use Rattle.model.specs.Layout.{valueIn, nodeIn, nodesIn, settingsIn}
 use Rattle.model.specs.Formed.{areZero, nodeCodes, notHeld, pendingFormed, bucketFormed}
 use Rattle.model.specs.ReadsCases.{readsCases}
-use Rattle.model.proofs.Rows.{rows-hold}
+use Rattle.model.proofs.Cases.{cases-hold}
 
 pub reads-cases-hold : every (λ (b : Bool). b) readsCases ≡ true
 unfolding leadingZeros same joined tabulate allBelow number bytes part log2Distance bucketIndex testBit sameNet sameValue counts ipFilterFails firstConnectedPos isFull failsBucketFilter isMaxIncoming insert applyDue applyPending reinsert updateStatus updateValue heldNodes failsTableFilter setsDown clearsUp visits visited indexAt keysFit codesInRange clockFits outputFits kindFits act queueFits step valueIn nodeIn nodesIn settingsIn areZero nodeCodes notHeld pendingFormed bucketFormed readsCases
-reads-cases-hold = let earlier = rows-hold in refl
+reads-cases-hold = let earlier = cases-hold in refl

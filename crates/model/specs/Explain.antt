@@ -7,11 +7,11 @@ use mathlib.Core.Option.{Option, none, some}
 use lib.ListN.{length, take}
 use lib.Dec.{leb, ltb}
 use Rattle.model.specs.Base.{same, joined}
-use Rattle.model.specs.Bytes.{number, bytes, splice}
+use Rattle.model.specs.Bytes.{number, bytes}
 use Rattle.model.specs.Value.{Value, sameValue}
 use Rattle.model.specs.Node.{Node, PendingNode, withStatus}
 use Rattle.model.specs.Filter.{counted, maxNodesPerSubnetTable, maxNodesPerSubnetBucket}
-use Rattle.model.specs.Result.{FailureReason, BucketInsertResult, UpdateResult, InsertResult, Reply, isFailed}
+use Rattle.model.specs.Result.{FailureReason, BucketInsertResult, UpdateResult, InsertResult, isFailed}
 use Rattle.model.specs.Bucket.{Bucket, BucketSettings, nodes, get, holds, isFull, failsBucketFilter, incomingNodes, isMaxIncoming, takeOut, takenOut, updateStatus, updateValue}
 use Rattle.model.specs.Table.{Table, Answer, otherNodes, failsTableFilter, indexIn}
 use Rattle.model.specs.Sizes.{keySize}

@@ -1,12 +1,10 @@
 -- Calls with session hours in single situations (02, slip 8), in the form of Rows. Keys 32 to 63 are of bucket 5; the timeout is 60,000.
 use Prim.Native.Nat.{ℕ}
-use mathlib.Core.Bool.{Bool, true, false, _&&_}
 use mathlib.Core.List.{List, [], _∷_, _++_}
 use mathlib.Core.Option.{some}
-use Rattle.model.specs.Base.{every}
 use Rattle.model.specs.Result.{FailureReason, BucketInsertResult, InsertResult}
 use Rattle.model.specs.Node.{Ending}
-use Rattle.model.specs.Table.{EntryKind, Answer}
+use Rattle.model.specs.Table.{Answer}
 use Rattle.model.specs.Session.{Date, Session}
 use Rattle.model.specs.Call.{Call, KeyCall}
 use Rattle.model.specs.Rows.{Row, key, plain, addressed, start, disconnected, connected, from, pendingAt100, twoOfANet}

@@ -2,7 +2,7 @@
 -- bytes in a bucket, so the reader asks question 2 of the bytes of each bucket that it would leave.
 use Prim.Native.Nat.{ℕ, zero, suc, _+_, _*_, _-_}
 use mathlib.Core.Bool.{Bool, cond, not, _&&_, _||_}
-use mathlib.Core.List.{List, [], _∷_, _++_}
+use mathlib.Core.List.{List, _∷_, _++_}
 use lib.ListN.{length, getD}
 use lib.Dec.{eqb, ltb}
 use Rattle.model.specs.Base.{isSome, anyOf, joined, tabulate, allBelow}

@@ -1,7 +1,7 @@
 -- Admission in session hours (02, slip 8): weekly windows, closed dates and the moment of a call, as a host gives them, and questions 10
 -- and 11 of them. Dates are those of the Gregorian calendar from 2000 to 2399.
 use Prim.Native.Nat.{ℕ, zero, suc, _+_, _-_, _*_, _%_}
-use mathlib.Core.Bool.{Bool, true, false, cond, not, _&&_, _||_}
+use mathlib.Core.Bool.{Bool, cond, not, _&&_, _||_}
 use mathlib.Core.List.{List, [], _∷_}
 use lib.ListN.{length, getD}
 use lib.Dec.{eqb, leb, ltb}

@@ -5,7 +5,7 @@ use mathlib.Core.List.{List, [], _∷_}
 use lib.Dec.{eqb}
 use Rattle.model.specs.Base.{given, joined, tabulate}
 use Rattle.model.specs.Question.{firstFailed}
-use Rattle.model.specs.Session.{Date, Session, monthDays, monthStart, isDate, dayNumber, weekdayOf, nextDay, sameDate, hoursQuestions}
+use Rattle.model.specs.Session.{Date, monthDays, monthStart, isDate, dayNumber, weekdayOf, nextDay, sameDate, hoursQuestions}
 
 abbrev date : (year month day : ℕ) → Date
 date y m d = record { year = y; month = m; day = d }

@@ -153,9 +153,6 @@ status-told s k u d b w = go (get k b) refl
     never true = refl
     never false = refl
 
-    left : Option PendingNode
-    left = cond (u && isFirst k (nodes b)) none (b .pending)
-
     go : (o : Option Node) → get k b ≡ o → gone k (b .pending) (updateStatusOf s k u d b o .1 .pending) ≡ statusEndings k u b
     go none e =
         ifPending-after k k (withStatus u d) b (b .pending) (b .pending) refl

@@ -3,11 +3,10 @@
 use Prim.Native.Nat.{ℕ, _+_}
 use native.Mathlib.Omega.{arith}
 use mathlib.Core.Path.{_≡_, refl, sym, ap, _∙_}
-use mathlib.Core.Bool.{Bool, true, cond, _&&_}
+use mathlib.Core.Bool.{Bool, true, _&&_}
 use mathlib.Core.List.{List, [], _++_, append-nil}
 use mathlib.Core.Option.{Option, none, some}
 use lib.ListN.{length}
-use lib.Dec.{leb}
 use borrow.Author.Tests.{le-leb}
 use Rattle.model.specs.Bytes.{Bytes, number, part, splice}
 use Rattle.model.specs.Value.{Value}
@@ -15,7 +14,7 @@ use Rattle.model.specs.Node.{Node, PendingNode, Ending, EndedPending, endedIf}
 use Rattle.model.specs.Result.{BucketInsertResult, isInserted, isFailed}
 use Rattle.model.specs.Bucket.{Bucket, BucketSettings, nodes, holds, ofKey, insert, insertEndings, applyPending, isFirst, statusEndings, updateValue}
 use Rattle.model.specs.Table.{Table, Answer, Effect, maxRecords, withQueue, noEndings, failsTableFilter, givenStatusEndings, updateNodeEndings, insertOrUpdateEndings}
-use Rattle.model.specs.Sizes.{bucketSize, bucketAt, storageSize}
+use Rattle.model.specs.Sizes.{bucketSize, bucketAt}
 use Rattle.model.specs.Call.{Call, KeyCall, isOne, optional, valueOf}
 use Rattle.model.specs.Question.{firstFailed, keyArguments, kindOfKey}
 use Rattle.model.specs.Step.{nodeOf, effect}

@@ -9,10 +9,10 @@ use borrow.Author.Tests.{le-leb}
 use Rattle.model.specs.Base.{same}
 use Rattle.model.specs.Value.{Value, sameValue}
 use Rattle.model.specs.Node.{Node, PendingNode, withStatus}
-use Rattle.model.specs.Result.{UpdateResult, isFailed}
+use Rattle.model.specs.Result.{isFailed}
 use Rattle.model.specs.Bucket.{Bucket, BucketSettings, maxNodesPerBucket, numEntries, get, holds, isFull, failsBucketFilter, isMaxIncoming, withPending, takeOut, takenOut, updateStatus, updateValue}
 use Rattle.model.specs.Call.{isOne}
-use Rattle.model.specs.Explain.{Reason, bucketFilterReason, incomingLimitReason, fullReason, insertReason, reinsertReason, ifPendingReason, statusReasonOf, statusReason, valueReasonOf, valueReason, thenStatusReason, updateNodeReason, insertOrUpdateReason, removeReason}
+use Rattle.model.specs.Explain.{Reason, bucketFilterReason, incomingLimitReason, fullReason, insertReason, reinsertReason, ifPendingReason, statusReasonOf, statusReason, valueReasonOf, valueReason, updateNodeReason, insertOrUpdateReason, removeReason}
 use Rattle.laws.proofs.KeepFormed.{free-isFull}
 use Rattle.node.specs.Node.{valueOf}
 use Rattle.bucket.specs.declared.KBucket.{KBucket}

@@ -10,9 +10,9 @@ use lib.Seq.{drop-cons}
 use lib.Dec.{eqb, leb}
 use borrow.Author.Tests.{eqb-true}
 use Rattle.model.specs.Base.{every, anyOf}
-use Rattle.model.specs.Session.{threes, areThrees}
+use Rattle.model.specs.Session.{threes, areThrees, isDate, isWindow}
 use Rattle.laws.proofs.Tests.{and-left}
-use Rattle.session.specs.Hours.{entryAt}
+use Rattle.session.specs.Hours.{windowOf, dateOf, entryAt, isEntry, areEntries}
 
 -- place i of a list of whole entries is the first of an entry, or the end
 pub record Whole (xs : List ℕ) (i : ℕ) : Type 0 where
@@ -50,13 +50,13 @@ module _ {A : Type 0} (f : ℕ → ℕ → ℕ → A) (p : A → Bool) (xs : Lis
 
   -- every entry passes the test, if those from place i on do
   module _ (i : ℕ) (h : every p (threes f xs) ≡ every p (threes f (drop i xs))) where
-    pub every-passes : i + 2 < length xs → p (entryAt f xs i) ≡ true → every p (threes f xs) ≡ every p (threes f (drop (i + 3) xs))
+    every-passes : i + 2 < length xs → p (entryAt f xs i) ≡ true → every p (threes f xs) ≡ every p (threes f (drop (i + 3) xs))
     every-passes l e = h ∙ ap (every p) (threes-next i l) ∙ rw e
 
-    pub every-fails : i + 2 < length xs → p (entryAt f xs i) ≡ false → every p (threes f xs) ≡ false
+    every-fails : i + 2 < length xs → p (entryAt f xs i) ≡ false → every p (threes f xs) ≡ false
     every-fails l e = h ∙ ap (every p) (threes-next i l) ∙ rw e
 
-    pub every-ends : length xs ≤ i → every p (threes f xs) ≡ true
+    every-ends : length xs ≤ i → every p (threes f xs) ≡ true
     every-ends l = h ∙ ap (every p) (threes-end i l)
 
   -- some entry passes the test, if one from place i on does
@@ -69,3 +69,18 @@ module _ {A : Type 0} (f : ℕ → ℕ → ℕ → A) (p : A → Bool) (xs : Lis
 
     pub any-ends : length xs ≤ i → anyOf p (threes f xs) ≡ false
     any-ends l = h ∙ ap (anyOf p) (threes-end i l)
+
+-- each entry is a closed date, or a window, if those from place i on are
+module _ (xs : List ℕ) (i : ℕ) where
+  pub entries-pass : (dates : Bool) → areEntries dates xs ≡ areEntries dates (drop i xs) → i + 2 < length xs → entryAt (isEntry dates) xs i ≡ true
+      → areEntries dates xs ≡ areEntries dates (drop (i + 3) xs)
+  entries-pass true = every-passes dateOf isDate xs i
+  entries-pass false = every-passes windowOf isWindow xs i
+
+  pub entries-fail : (dates : Bool) → areEntries dates xs ≡ areEntries dates (drop i xs) → i + 2 < length xs → entryAt (isEntry dates) xs i ≡ false → areEntries dates xs ≡ false
+  entries-fail true = every-fails dateOf isDate xs i
+  entries-fail false = every-fails windowOf isWindow xs i
+
+  pub entries-end : (dates : Bool) → areEntries dates xs ≡ areEntries dates (drop i xs) → length xs ≤ i → areEntries dates xs ≡ true
+  entries-end true = every-ends dateOf isDate xs i
+  entries-end false = every-ends windowOf isWindow xs i

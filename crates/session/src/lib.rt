@@ -7,7 +7,7 @@ ghost use Rattle.model.specs.Base.{every, anyOf};
 ghost use Rattle.model.specs.Question.{firstFailed};
 ghost use Rattle.model.specs.Session.{windowsOf, datesOf, leap, yearStart, monthDays, monthStart, daysIn, isDate, dayNumber, weekdayOf, sameDate, maxWindows, maxClosed, isWindow, areThrees, covers, hoursQuestions};
 ghost use Rattle.on_key.specs.Answers.{refusal};
-ghost use Rattle.session.specs.Hours.{windowOf, dateOf, entryAt, sessionOf};
+ghost use Rattle.session.specs.Hours.{windowOf, dateOf, entryAt, isEntry, areEntries, sessionOf};
 
 mod years;
 
@@ -156,54 +156,54 @@ fn is_window(day: u16, opening: u16, closing: u16) -> bool
     closing <= MINUTES
 }
 
-// The three numbers at i are a window.
-fn is_window_at(windows: &[u16], i: usize) -> bool
-    requires { ⌜ i + 2 < length (now windows) ⌝ }
-    ensures { λ r. ⌜ r ≡ isWindow (entryAt windowOf (now (windows .entry)) i) ⌝ }
+// The numbers are a date, or else a window.
+fn is_entry(dates: bool, a: u16, b: u16, c: u16) -> bool
+    ensures { λ r. ⌜ r ≡ isEntry dates a b c ⌝ }
 {
-    is_window(windows[i], windows[i + 1], windows[i + 2])
+    if dates {
+        return is_date(a, b, c);
+    }
+    is_window(a, b, c)
+}
+
+// The three numbers at i are such an entry.
+fn is_entry_at(dates: bool, numbers: &[u16], i: usize) -> bool
+    requires { ⌜ i + 2 < length (now numbers) ⌝ }
+    ensures { λ r. ⌜ r ≡ entryAt (isEntry dates) (now (numbers .entry)) i ⌝ }
+{
+    is_entry(dates, numbers[i], numbers[i + 1], numbers[i + 2])
+}
+
+// Whole entries, at most so many, and each a date, or else each a window.
+fn entries_fit(dates: bool, numbers: &[u16], most: usize) -> bool
+    requires { ⌜ most ≤ maxClosed ⌝ }
+    ensures { λ r. ⌜ r ≡ (areThrees most (now (numbers .entry)) && areEntries dates (now (numbers .entry))) ⌝ }
+{
+    if !are_threes(numbers, most) {
+        return false;
+    }
+    let mut i: usize = 0;
+    while i < numbers.len() {
+        if !is_entry_at(dates, numbers, i) {
+            return false;
+        }
+        i += 3;
+    }
+    true
 }
 
 // The windows are what question 10 asks.
 fn windows_fit(windows: &[u16]) -> bool
     ensures { λ r. ⌜ r ≡ (areThrees maxWindows (now (windows .entry)) && every isWindow (windowsOf (now (windows .entry)))) ⌝ }
 {
-    if !are_threes(windows, MAX_WINDOWS) {
-        return false;
-    }
-    let mut i: usize = 0;
-    while i < windows.len() {
-        if !is_window_at(windows, i) {
-            return false;
-        }
-        i += 3;
-    }
-    true
-}
-
-// The three numbers at i are a date.
-fn is_date_at(closed: &[u16], i: usize) -> bool
-    requires { ⌜ i + 2 < length (now closed) ⌝ }
-    ensures { λ r. ⌜ r ≡ isDate (entryAt dateOf (now (closed .entry)) i) ⌝ }
-{
-    is_date(closed[i], closed[i + 1], closed[i + 2])
+    entries_fit(false, windows, MAX_WINDOWS)
 }
 
 // The closed dates are what question 10 asks.
 fn closed_fit(closed: &[u16]) -> bool
     ensures { λ r. ⌜ r ≡ (areThrees maxClosed (now (closed .entry)) && every isDate (datesOf (now (closed .entry)))) ⌝ }
 {
-    if !are_threes(closed, MAX_CLOSED) {
-        return false;
-    }
-    let mut i: usize = 0;
-    while i < closed.len() {
-        if !is_date_at(closed, i) {
-            return false;
-        }
-        i += 3;
-    }
-    true
+    entries_fit(true, closed, MAX_CLOSED)
 }
 
 // Two dates are the same.

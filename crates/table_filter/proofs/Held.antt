@@ -4,16 +4,16 @@ use mathlib.Core.Bool.{Bool, true, false, not, and-true}
 use mathlib.Core.List.{List, [], _∷_, _++_}
 use mathlib.Core.Option.{none, some}
 use mathlib.Core.Logic.{⊎-elim}
-use Prim.Native.Nat.{ℕ, zero, suc, _+_, _≤_, _<_}
+use Prim.Native.Nat.{ℕ, zero, suc, _+_, _/_, _≤_, _<_}
 use native.Mathlib.Nat.{not-suc-le-zero, eq-or-lt-of-le, add-zero}
 use native.Mathlib.Numerals.{add-one}
 use native.Mathlib.Omega.{arith}
 use mir.Val.{boolByte}
 use lib.Dec.{eqb}
 use lib.ListN.{length, getD}
-use borrow.Author.Tests.{ne-eqb, le-leb, lt-leb}
+use borrow.Author.Tests.{ne-eqb, eqb-true, le-leb, lt-leb}
 use Rattle.model.specs.Base.{same, select, every, tabulate, allBelow}
-use Rattle.model.specs.Bytes.{number, part}
+use Rattle.model.specs.Bytes.{number, part, Bytes}
 use Rattle.model.specs.Value.{Value, hasAddress}
 use Rattle.model.specs.Node.{Node}
 use Rattle.model.specs.Filter.{counts, counted, ipFilterFails}
@@ -32,10 +32,12 @@ use Rattle.laws.proofs.BucketBack.{nodes-in}
 use Rattle.laws.proofs.TableBytes.{bucket-passes}
 use Rattle.node.specs.declared.Value as declared
 use Rattle.node.specs.Node.{valueOf}
+use Rattle.node.proofs.Tests.{and-both, counts-is}
+use Rattle.words.proofs.Words.{number-8}
 use Rattle.storage.specs.Read.{readValue}
 use Rattle.storage.proofs.Nodes.{valueOf-read}
 use Rattle.well_formed.specs.Tests.{nodeAt}
-use Rattle.table_filter.specs.Counted.{countsOther, countedBelow}
+use Rattle.table_filter.specs.Counted.{countsOther, countedBelow, netOf}
 
 -- how many count against the value of a key
 
@@ -145,6 +147,29 @@ value-at s at = ap valueIn (part-part s at nodeSize (keySize + 2) valueSize (ome
 pub key-at : (s : List ℕ) (at : ℕ) → nodeIn (part s at nodeSize) .key ≡ number (part s at keySize)
 unfolding nodeIn
 key-at s at = ap number (part-zero s at nodeSize keySize (omega arith))
+
+-- a value that counts has the flag and the octets, with which its bytes begin
+module _ (s : List ℕ) (at : ℕ) (v : declared.Value) where
+  abbrev other : declared.Value
+  other = readValue (part s at valueSize)
+
+  net-shared : at + 8 ≤ length s → Bytes s → counts (valueOf v) (valueOf other) ≡ true
+      → number (part s at 8) / 4294967296 ≡ netOf v
+  unfolding readValue
+  net-shared l y e =
+      let both = and-both _ _ (and-both _ _ (counts-is v other _ refl ∙ e) .0) in
+      let flags = and-both _ _ (both .0) in
+      let octets = and-both _ _ (both .1) in
+      let more = and-both _ _ (octets .1) in
+      let f : v .flag ≡ getD s at 0 = eqb-true _ _ (flags .0) ∙ sym (eqb-true _ _ (flags .1)) ∙ getD-part s at valueSize 0 (omega arith) ∙ rw add-zero in
+      let a : v .a ≡ getD s (at + 1) 0 = eqb-true _ _ (octets .0) ∙ getD-part s at valueSize 1 (omega arith) in
+      let b : v .b ≡ getD s (at + 2) 0 = eqb-true _ _ (more .0) ∙ getD-part s at valueSize 2 (omega arith) in
+      let c : v .c ≡ getD s (at + 3) 0 = eqb-true _ _ (more .1) ∙ getD-part s at valueSize 3 (omega arith) in
+      rw (number-8 s at l, f, a, b, c) (omega (arith, y (at + 4), y (at + 5), y (at + 6), y (at + 7)))
+
+  pub net-differs : at + 8 ≤ length s → Bytes s → (number (part s at 8) / 4294967296 ≡ netOf v → ⊥)
+      → counts (valueOf v) (valueOf other) ≡ false
+  net-differs l y h = split (counts (valueOf v) (valueOf other)) (λ e. absurd (h (net-shared l y e))) (λ e. e)
 
 -- a place counts, by its value and then its key
 abbrev pub valueThere : List ℕ → ℕ → Value

@@ -13,17 +13,28 @@ ghost use Rattle.model.specs.Layout.{nodeIn, bucketIn, tableOf};
 ghost use Rattle.model.specs.Formed.{bucketFormedAt};
 ghost use Rattle.key.specs.Key.{num};
 ghost use Rattle.node.specs.Node.{valueOf};
-ghost use Rattle.table_filter.specs.Counted.{countsOther, countedBelow};
+ghost use Rattle.table_filter.specs.Counted.{countsOther, countedBelow, netOf};
 ghost use Rattle.table_filter.specs.Filtered.{Walked, AskedFilter, isMalformed, hasFailed};
 use key::Key;
 use node::Value;
 use storage::Layout;
 
-// The node at `at` counts against the value of the key. The key's own does not (document 02, slip 3).
+// The address flag and the first three octets of the value, with which its bytes begin, as one number.
+fn net(value: Value) -> u64
+    ensures { λ r. ⌜ r ≡ netOf value ⌝ }
+{
+    ((value.flag as u64 * 256 + value.a as u64) * 256 + value.b as u64) * 256 + value.c as u64
+}
+
+// The node at `at` counts against the value of the key. The key's own does not (document 02, slip 3). Where flag and /24 differ, nothing
+// else is read.
 fn counts_at(s: &[u8], at: usize, key: Key, value: Value) -> bool
     requires { ⌜ at + nodeSize ≤ length (now s) ⌝ }
     ensures { λ r. ⌜ r ≡ countsOther (num key) (valueOf value) (nodeIn (part (now (s .entry)) at nodeSize)) ⌝ }
 {
+    if words::get_u64(s, at + Layout::VALUE_AT) / 0x1_0000_0000 != net(value) {
+        return false;
+    }
     let other = storage::load_value(s, at + Layout::VALUE_AT);
     if !node::filter::counts(value, other) {
         return false;
@@ -61,11 +72,18 @@ pub enum Filtered {
     Fails,
 }
 
-// Question 2 of every bucket, each before it is counted for the value of the key; then the IP filter of the table.
+// Question 2 of every bucket, each before it is counted for the value of the key; then the IP filter of the table. Against a value without
+// an address none counts.
 fn walked(s: &[u8], key: Key, value: Value) -> Filtered
     requires { ⌜ length (now s) ≡ storageSize ⌝ }
     ensures { λ r. ⌜ Walked (now (s .entry)) (num key) (valueOf value) r ⌝ }
 {
+    if value.flag != 1 {
+        if well_formed::buckets_formed(s) {
+            return Filtered::Passes;
+        }
+        return Filtered::Malformed;
+    }
     let mut n: usize = 0;
     let mut i: usize = 0;
     while i < model::NUM_BUCKETS {
@@ -74,9 +92,6 @@ fn walked(s: &[u8], key: Key, value: Value) -> Filtered
         }
         n += counted(s, Layout::HEADER + i * Layout::BUCKET, key, value);
         i += 1;
-    }
-    if value.flag != 1 {
-        return Filtered::Passes;
     }
     if node::filter::MAX_NODES_PER_SUBNET_TABLE <= n {
         return Filtered::Fails;

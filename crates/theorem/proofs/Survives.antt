@@ -1,7 +1,7 @@
 -- A table that the log tells of survives a box swap (02, slip 6): what the writer puts out of it is taken by storage just made with the same
 -- settings, and every bucket then has the same held nodes in the same places.
 use Prim.Native.Nat.{ℕ, _+_, _*_, _≤_}
-use mathlib.Core.Path.{_≡_, sym, ap, ap₂, _∙_, subst, subst⁻¹}
+use mathlib.Core.Path.{_≡_, sym, ap, ap₂, _∙_}
 use mathlib.Core.List.{List}
 use lib.ListN.{length}
 use Rattle.model.specs.Bytes.{number, part}

@@ -182,12 +182,13 @@ fn held_formed(s: &[u8], at: usize, count: usize, first: usize, local: Key, i: u
         && (allBelow count (placeFormed (ofIndex (num local) i) first (part (now (s .entry)) at bucketSize))
         && areZero (part (now (s .entry)) at bucketSize) (placeAt count) ((maxNodesPerBucket - count) * nodeSize))) ⌝ }
 {
-    let unused = words::all_zero(
+    let held = keys_differ(s, at, count) & places_formed(s, at, count, first, local, i);
+    let unused = words::all_zero_steps(
         s,
         at + (Layout::PLACES_AT + count * Layout::NODE),
         (model::MAX_NODES_PER_BUCKET - count) * Layout::NODE,
     );
-    keys_differ(s, at, count) & (places_formed(s, at, count, first, local, i) & unused)
+    held & unused
 }
 
 // The bytes of the bucket at `at` are zero: it is empty. One test of constant length, where the count is 0.
@@ -289,8 +290,8 @@ pub fn header_formed(s: &[u8]) -> bool
     settings & (padding & (records_formed(s, count) & unused))
 }
 
-// Every bucket of the storage is well formed.
-fn buckets_formed(s: &[u8]) -> bool
+// Internal: every bucket of the storage is well formed.
+pub fn buckets_formed(s: &[u8]) -> bool
     requires { ⌜ storageSize ≤ length (now s) ⌝ }
     ensures { λ r. ⌜ r ≡ allBelow numBuckets (bucketAtFormed (now (s .entry))) ⌝ }
 {

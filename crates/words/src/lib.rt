@@ -123,6 +123,25 @@ pub fn all_zero_long(s: &[u8], at: usize, n: usize) -> bool
     all_zero(s, at + i, n - i)
 }
 
+// Internal: the n bytes from `at` on are zero, for a run of some hundred bytes. 128 bytes at a time, and at the end the last 128, some of
+// them for the second time.
+pub fn all_zero_steps(s: &[u8], at: usize, n: usize) -> bool
+    requires { ⌜ at + n ≤ length (now s) ⌝ }
+    ensures { λ r. ⌜ r ≡ areZero (now (s .entry)) at n ⌝ }
+{
+    if n < 128 {
+        return all_zero(s, at, n);
+    }
+    let mut i: usize = 0;
+    while 128 <= n - i {
+        if !all_zero(s, at + i, 128) {
+            return false;
+        }
+        i += 128;
+    }
+    all_zero(s, at + (n - 128), 128)
+}
+
 // Internal: the n bytes at `at` go up by `by` bytes, the last first.
 pub fn shift_up(s: &mut [u8], at: usize, by: usize, n: usize)
     requires { ⌜ at + by + n ≤ length (now s) ⌝ }

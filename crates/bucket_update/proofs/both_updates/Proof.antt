@@ -2,10 +2,6 @@ use Rattle.bucket_update.proofs.Rules.{failed-status}
 use borrow.Author.Needs.{needs}
 use Rattle.bucket_update.proofs.both_updates.Statement.{statement}
 use Rattle.bucket_update.proofs.both_updates.Tie as tie
-use Rattle.bucket_update.proofs.with_not_modified.Reads as with-not-modified-reads
-use Rattle.bucket_update.proofs.with_pending.Reads as with-pending-reads
-use Rattle.bucket_update.proofs.with_promoted.Reads as with-promoted-reads
-use Rattle.bucket_update.proofs.with_updated.Reads as with-updated-reads
 
 enum-told : tie.Need-enum-told
 enum-told c = search needs

@@ -100,7 +100,7 @@ module _ (t : tie.After-old) where
       insertOrUpdateIn s false (a .time) n m
       ≡ (Answer.InsertOrUpdate (insertUpdates (valueResult (old .value) (new .value)) (rules.statusResult old n (putAgain s n m .0))), putAgain s n m .1))
       (ap (λ (k : ℕ). record { key = k; value = new .value; connected = new .connected; incoming = new .incoming }) same-key)
-      (insert-again s off (a .time) m old (get-at bucket (start at-position .pre .0) (at-position .position .result) lower) (new .connected) (new .incoming) (new .value))
+      (insert-again s (a .time) m old (get-at bucket (start at-position .pre .0) (at-position .position .result) lower) (new .connected) (new .incoming) (new .value) off)
 
 remove-sound-requires : tie.Need-remove-sound-requires
 remove-sound-requires c κs = search needs

@@ -1,8 +1,6 @@
 use borrow.Author.Needs.{needs}
 use Rattle.bucket_update.proofs.insert_updates.Statement.{statement}
 use Rattle.bucket_update.proofs.insert_updates.Tie as tie
-use Rattle.bucket_update.proofs.value_kept.Reads as value-kept-reads
-use Rattle.bucket_update.proofs.value_updated.Reads as value-updated-reads
 
 enum-told : tie.Need-enum-told
 enum-told c = search needs

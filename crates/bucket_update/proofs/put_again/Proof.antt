@@ -5,11 +5,11 @@ use Prim.Native.Nat.{ℕ}
 use native.Mathlib.Omega.{arith}
 use lib.Dec.{eqb}
 use Rattle.model.specs.Bucket as rules
-use Rattle.model.specs.Result.{FailureReason, UpdateResult}
+use Rattle.model.specs.Result.{FailureReason}
 use Rattle.model.specs.Node as model
 use Rattle.laws.proofs.KeepFormed.{count-takeOut-held, takeOut-without}
 use Rattle.key.specs.Key.{num}
-use Rattle.node.specs.Node.{valueOf, nodeOf}
+use Rattle.node.specs.Node.{nodeOf}
 use Rattle.bucket.specs.declared.KBucket.{KBucket}
 use Rattle.bucket.specs.Bucket.{keyAt, bucketOf, settingsOf, Becomes}
 use Rattle.bucket.proofs.Sound.{count-of, formed-of}

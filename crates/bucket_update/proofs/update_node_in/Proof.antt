@@ -1,5 +1,5 @@
-use mathlib.Core.Path.{_≡_, refl, sym, ap, _∙_}
-use mathlib.Core.Bool.{Bool, true, false, cond, not, _&&_}
+use mathlib.Core.Path.{_≡_, sym, ap, _∙_}
+use mathlib.Core.Bool.{Bool, true, false, not, _&&_}
 use mathlib.Core.Option.{Option, none, some}
 use Prim.Native.Nat.{ℕ, _≤_, _<_}
 use native.Mathlib.Omega.{arith}
@@ -20,7 +20,7 @@ use Rattle.places.specs.Places.{position}
 use Rattle.bucket.specs.declared.KBucket.{KBucket}
 use Rattle.bucket.specs.Bucket.{heldOf, bucketOf, settingsOf}
 use Rattle.bucket.specs.Calls.{updateResultOf}
-use Rattle.bucket.proofs.Steps.{done, told, then-becomes, get-at, found-at, stored-at}
+use Rattle.bucket.proofs.Steps.{filter-off, done, told, then-becomes, get-at, found-at, stored-at}
 use Rattle.bucket_update.specs.Again.{putAgain, valueResult}
 use Rattle.bucket_update.proofs.Again.{node-again}
 use Rattle.bucket_update.proofs.Rules.{not-given, is-given, node-filtered, node-failed, node-valued, node-both}
@@ -89,7 +89,7 @@ module _ (t : tie.Then2) where
       ap (λ (f : Bool). updateNodeIn s f (a .time) (num (a .key)) v (optional (a .state)) m) (at-position .before .before .if1 .left)
       ∙ ap (λ (k : ℕ). updateNodeIn s false (a .time) k v (optional (a .state)) m) (sym same-key)
       ∙ ap (λ (u : Option Bool). updateNodeIn s false (a .time) (old .key) v u m) given
-      ∙ node-again s off (a .time) m old (get-at bucket (start .pre .0) (at-position .position .result) lower) (isOne (a .state)) v
+      ∙ node-again s (a .time) m old (get-at bucket (start .pre .0) (at-position .position .result) lower) (isOne (a .state)) v (filter-off s v (rules.takeOut (old .key) m) off)
 
 -- the node that is put again
 module _ (w : tie.After-with-status) where

@@ -1,27 +1,19 @@
 use mathlib.Core.Path.{_≡_, refl, sym, ap, _∙_}
-use mathlib.Core.Bool.{true, _&&_}
-use lib.Dec.{leb}
-use Rattle.laws.proofs.Tests.{and-left, and-right}
-use Rattle.node.specs.declared.Node.{Node}
 use Rattle.node.proofs.Stored.{stored-codes}
 use Prim.Native.Nat.{ℕ}
 use native.Mathlib.Omega.{arith}
 use lib.ListN.{getD}
 use Rattle.model.specs.Bucket.{get}
 use Rattle.key.specs.Key.{num}
-use Rattle.node.specs.Node.{nodeOf, nodeCodes, zeroNode}
+use Rattle.node.specs.Node.{nodeOf, zeroNode}
 use Rattle.places.specs.Places.{position}
 use Rattle.bucket.specs.Bucket.{pendingOf, heldOf, bucketOf}
 use Rattle.bucket.proofs.Steps.{found-at, absent-at, get-at, stored-at}
 use Rattle.bucket.proofs.Answers.{pending-stored}
 use borrow.Author.Needs.{needs}
-use Rattle.entry.proofs.Kind.{kind-held, kind-none, kind-pending, kind-other}
+use Rattle.entry.proofs.Kind.{kind-held, kind-none, kind-pending, kind-other, status-codes}
 use Rattle.entry.proofs.kind_of.Statement.{statement}
 use Rattle.entry.proofs.kind_of.Tie as tie
-
-status-codes : (n : Node) → nodeCodes n ≡ true → (leb (n .status .state) 1 && leb (n .status .direction) 1) ≡ true
-status-codes n h =
-    rw (and-left (leb (n .status .state) 1) _ h) (and-left (leb (n .status .direction) 1) _ (and-right (leb (n .status .state) 1) _ h))
 
 position-requires : tie.Need-position-requires
 position-requires c κs = search needs

@@ -4,13 +4,10 @@ use mathlib.Core.Path.{_≡_, refl, sym, ap, _∙_}
 use mathlib.Core.Bool.{Bool, true, not, _&&_}
 use mathlib.Core.List.{List}
 use lib.ListN.{length}
-use mathlib.Core.Option.{none, some}
+use mathlib.Core.Option.{some}
 use lib.Dec.{leb}
 use borrow.Author.Tests.{leb-true}
-use Rattle.model.specs.Bytes.{number}
 use Rattle.model.specs.Bucket as rules
-use Rattle.model.specs.Table.{indexIn}
-use Rattle.model.specs.Layout.{tableOf}
 use Rattle.model.specs.Step.{nodeOf}
 use Rattle.model.specs.Call.{ValueArgument, KeyCall, valueOf, isOne}
 use Rattle.model.specs.Session.{Session, hoursQuestions}
@@ -19,15 +16,14 @@ use Rattle.model.specs.Explain.{explanationRoom, toldInsert, insertReason}
 use Rattle.laws.proofs.Tests.{clash, and-turned}
 use Rattle.node.specs.Node.{argumentOf}
 use Rattle.session.specs.Hours.{sessionOf}
-use Rattle.on_key.specs.Answers.{failedOfFive}
+use Rattle.on_key.specs.declared.Start.{Start}
 use Rattle.on_key.specs.Start.{AtBucket}
 use Rattle.on_key.proofs.Questions.{passed-five}
-use Rattle.on_key.proofs.OneKey.{reads-none}
 use Rattle.on_key.proofs.Ended.{own-formed}
 use Rattle.on_key.proofs.Steps.{timely, stepped}
 use Rattle.entry.proofs.Kind.{kind-self, kind-told}
 use Rattle.on_key.proofs.Endings.{stored-insert-records}
-use Rattle.explain.proofs.Ends.{opened, refused-early, ends-local, ends-at, reason-told}
+use Rattle.explain.proofs.Ends.{Opens, opened, own-ready, refused-early, ends-local, ends-at, reason-told}
 use Rattle.reasons.proofs.OfTable.{own-insert, own-told}
 use borrow.Author.Needs.{needs}
 use Rattle.explain.proofs.explain_absent_insert.Statement.{statement}
@@ -46,9 +42,6 @@ module _ (b : tie.After-begin-at) where
 
   abbrev out : List ℕ
   out = o .args .out .now
-
-  abbrev room : Bool
-  room = leb explanationRoom (length out)
 
   abbrev value : ValueArgument
   value = argumentOf (o .args .value)
@@ -92,15 +85,14 @@ module _ (e : tie.After-enum-told) where
   abbrev there : tie.After-begin-at
   there = e .before .before
 
-  local : (room there ≡ true) × ((failedOfFive (key there) (codes there) (some (time there)) (s there) ≡ none) × (indexIn (tableOf (s there)) (number (key there)) ≡ none))
-  local = opened (s there) (key there) (some (time there)) (room there) (asked there) (there .begin-at .ensures) (e .enum-told .given .1)
+  local : Opens (s there) (key there) (call there) (out there) Start.Local
+  local = opened (s there) (key there) (call there) (out there) (asked there) (there .begin-at .ensures) (e .enum-told .given .1)
 
 ended-local-requires : tie.Need-ended-local-requires
 ended-local-requires c κs =
     let e = c .before in
     let b = there e in
-    let p = passed-five (s b) (key b) (codes b) (some (time b)) (local e .1 .0) in
-    ((p .size, p .header), leb-true explanationRoom (length (out b)) (local e .0))
+    own-ready (s b) (key b) (call b) (out b) (local e)
 
 enum-known-start-2 : tie.Need-enum-known-start-2
 enum-known-start-2 c = search needs
@@ -110,8 +102,8 @@ module _ (k : tie.After-start2) where
   abbrev began : tie.After-begin-at
   began = k .before .before
 
-  opening : (room began ≡ true) × AtBucket (s began) (key began) (codes began) (some (time began)) (k .start2 .given .0 .0) (k .start2 .given .0 .1 .0)
-  opening = opened (s began) (key began) (some (time began)) (room began) (asked began) (began .begin-at .ensures) (k .start2 .given .1)
+  opening : Opens (s began) (key began) (call began) (out began) (Start.At (k .start2 .given .0 .0) (k .start2 .given .0 .1 .0))
+  opening = opened (s began) (key began) (call began) (out began) (asked began) (began .begin-at .ensures) (k .start2 .given .1)
 
   at : AtBucket (s began) (key began) (codes began) (some (time began)) (k .start2 .given .0 .0) (k .start2 .given .0 .1 .0)
   at = opening .1
@@ -164,7 +156,7 @@ ended-requires c κs =
 returns : tie.Need-returns
 returns c =
     let b = c .before .before .before in
-    refused-early (s b) (key b) (call b) (out b) (opened (s b) (key b) (some (time b)) (room b) (asked b) (b .begin-at .ensures) (c .before .start .given .1))
+    refused-early (s b) (key b) (call b) (out b) (opened (s b) (key b) (call b) (out b) (asked b) (b .begin-at .ensures) (c .before .start .given .1))
 
 same-length : tie.Need-same-length
 same-length c = search needs
@@ -174,7 +166,7 @@ returns-2 c =
     let x = c .before .before in
     let e = x .before .before in
     let b = there e in
-    ends-local (s b) (key b) (call b) (out b) (local e .0) (local e .1 .0) (reads-none (s b) (key b) (call b) (local e .1 .1)) (sym (ap isAbsent (kind-self (s b) (key b) (local e .1 .1)))) (λ f. clash f refl) (local e .1 .1) refl refl (x .ended-local .ensures)
+    ends-local (s b) (key b) (call b) (out b) (sym (ap isAbsent (kind-self (s b) (key b) (local e .1 .1)))) (λ f. clash f refl) (local e) refl refl (x .ended-local .ensures)
 
 same-length-2 : tie.Need-same-length-2
 same-length-2 c = search needs
@@ -191,8 +183,8 @@ returns-3 c =
     let b = began k in
     let z = stepped (l .load-bucket .ensures) (λ (u : rules.BucketSettings) (n : ℕ) (y : rules.Bucket). rules.insert u (time b) (record { key = n; value = valueOf (value b); connected = isOne (state b); incoming = isOne (direction b) }) y) (at k .key-is) (m .insert-sound .ensures .0) (m .insert-sound .ensures .1) in
     let found = h .is-absent .ensures ∙ sym (ap isAbsent (kind-told (at k) (l .load-bucket .ensures) (h .before .kind-of .ensures .0))) in
-    ends-at (s b) (key b) (call b) (out b) (opening k .0) (at k .passed) (own-formed (s b) (key b) (call b) (at k) refl) found
-    (λ _. sym (ap (λ (q : Bool). firstFailed (hoursQuestions (session b) (not q))) (sym found) ∙ w .before .before .asked .ensures)) (at k .index)
+    ends-at (s b) (key b) (call b) (out b) found
+    (λ _. sym (ap (λ (q : Bool). firstFailed (hoursQuestions (session b) (not q))) (sym found) ∙ w .before .before .asked .ensures)) (opening k) (own-formed (s b) (key b) (call b) (at k) refl)
     (stored-insert-records _ _ _ (m .insert-sound .result .bucket) (l .load-bucket .ensures) (at k .key-is) (r .record-of .ensures .0) (time b) (nodeOf (key b) (value b) (state b) (direction b)) refl (z .bucket))
     (w .before .told-insert .ensures ∙ ap toldInsert (z .answer)) (reason-told (l .load-bucket .ensures) (λ (bs : ℕ → rules.Bucket) (u : rules.BucketSettings) (n : ℕ) (y : rules.Bucket). insertReason u (record { key = n; value = valueOf (value b); connected = isOne (state b); incoming = isOne (direction b) }) y) (at k .key-is) (w .insert-reason .ensures) _) (x .ended .ensures)
 

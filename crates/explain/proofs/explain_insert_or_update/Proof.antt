@@ -4,13 +4,13 @@ use mathlib.Core.Path.{_≡_, refl, ap, _∙_, sym, subst}
 use mathlib.Core.Bool.{Bool, true, cond, not, _&&_}
 use mathlib.Core.List.{List}
 use lib.ListN.{length}
-use mathlib.Core.Option.{none, some}
+use mathlib.Core.Option.{some}
 use lib.Dec.{leb}
 use borrow.Author.Tests.{leb-true}
 use Rattle.model.specs.Bytes.{number}
 use Rattle.model.specs.Value.{Value}
 use Rattle.model.specs.Bucket as rules
-use Rattle.model.specs.Table.{EntryKind, Answer, failsTableFilter, insertOrUpdateIn, kindOf, indexIn}
+use Rattle.model.specs.Table.{EntryKind, Answer, failsTableFilter, insertOrUpdateIn, kindOf}
 use Rattle.model.specs.Session.{Session, hoursQuestions}
 use Rattle.model.specs.Layout.{tableOf}
 use Rattle.model.specs.Formed.{bucketsFormed, formed}
@@ -22,16 +22,17 @@ use Rattle.model.specs.Explain.{explanationRoom, told, tableFilterReason, inser
 use Rattle.laws.proofs.Tests.{and-turned}
 use Rattle.node.specs.Node.{argumentOf}
 use Rattle.session.specs.Hours.{sessionOf}
-use Rattle.on_key.specs.Answers.{refusal, failedOfFive}
+use Rattle.on_key.specs.Answers.{refusal}
 use Rattle.table_filter.specs.Filtered.{filterReads, AskedFilter, isMalformed, hasFailed}
 use Rattle.table_filter.proofs.Asked.{malformed-read, answer-told, failed-formed}
+use Rattle.on_key.specs.declared.Start.{Start}
 use Rattle.on_key.specs.Start.{AtBucket}
 use Rattle.on_key.proofs.Questions.{passed-five}
-use Rattle.on_key.proofs.OneKey.{hours, reads-none, reads-are}
+use Rattle.on_key.proofs.OneKey.{hours, reads-are}
 use Rattle.on_key.proofs.Steps.{timely, stepped}
 use Rattle.on_key.proofs.Endings.{insert-or-update-records}
 use Rattle.entry.proofs.Kind.{kind-self, kind-at}
-use Rattle.explain.proofs.Ends.{opened, refused-early, refused-read, ends-local, ends-at, reason-told}
+use Rattle.explain.proofs.Ends.{Opens, opened, own-ready, refused-early, refused-read, ends-local, ends-at, reason-told}
 use Rattle.reasons.proofs.OfTable.{own-insert-or-update, own-unless, filter-told}
 use borrow.Author.Needs.{needs}
 use Rattle.explain.proofs.explain_insert_or_update.Statement.{statement}
@@ -50,9 +51,6 @@ module _ (b : tie.After-begin-at) where
 
   abbrev out : List ℕ
   out = o .args .out .now
-
-  abbrev room : Bool
-  room = leb explanationRoom (length out)
 
   abbrev value : ValueArgument
   value = argumentOf (o .args .value)
@@ -104,8 +102,8 @@ module _ (e : tie.After-enum-told) where
   abbrev there : tie.After-begin-at
   there = e .before .before
 
-  local : (room there ≡ true) × ((failedOfFive (key there) (codes there) (some (time there)) (s there) ≡ none) × (indexIn (tableOf (s there)) (number (key there)) ≡ none))
-  local = opened (s there) (key there) (some (time there)) (room there) (asked there) (there .begin-at .ensures) (e .enum-told .given .1)
+  local : Opens (s there) (key there) (call there) (out there) Start.Local
+  local = opened (s there) (key there) (call there) (out there) (asked there) (there .begin-at .ensures) (e .enum-told .given .1)
 
 session-asked-requires : tie.Need-asked-requires
 session-asked-requires c κs = search needs
@@ -120,8 +118,7 @@ ended-local-requires : tie.Need-ended-local-requires
 ended-local-requires c κs =
     let e = c .before .before in
     let b = there e in
-    let p = passed-five (s b) (key b) (codes b) (some (time b)) (local e .1 .0) in
-    ((p .size, p .header), leb-true explanationRoom (length (out b)) (local e .0))
+    own-ready (s b) (key b) (call b) (out b) (local e)
 
 enum-known-start-2 : tie.Need-enum-known-start-2
 enum-known-start-2 c = search needs
@@ -131,8 +128,8 @@ module _ (k : tie.After-start2) where
   abbrev began : tie.After-begin-at
   began = k .before .before
 
-  opening : (room began ≡ true) × AtBucket (s began) (key began) (codes began) (some (time began)) (k .start2 .given .0 .0) (k .start2 .given .0 .1 .0)
-  opening = opened (s began) (key began) (some (time began)) (room began) (asked began) (began .begin-at .ensures) (k .start2 .given .1)
+  opening : Opens (s began) (key began) (call began) (out began) (Start.At (k .start2 .given .0 .0) (k .start2 .given .0 .1 .0))
+  opening = opened (s began) (key began) (call began) (out began) (asked began) (began .begin-at .ensures) (k .start2 .given .1)
 
   at : AtBucket (s began) (key began) (codes began) (some (time began)) (k .start2 .given .0 .0) (k .start2 .given .0 .1 .0)
   at = opening .1
@@ -173,7 +170,7 @@ returns c =
     let k = for-key m in
     let b = began k in
     let d = malformed-read (s b) (index m) (number (key b)) (v m) (filter m .asked-filter .result) (told-filter m) (is-bad m ∙ c .if1 .taken) in
-    refused-read (s b) (key b) (call b) (out b) (opening k .0) (at k .passed) (reads-are (s b) (key b) (call b) (at k .index) d)
+    refused-read (s b) (key b) (call b) (out b) (opening k) (reads-are (s b) (key b) (call b) (at k .index) d)
 
 has-failed-requires : tie.Need-has-failed-requires
 has-failed-requires c κs = search needs
@@ -252,7 +249,7 @@ ended-requires c κs =
 returns-2 : tie.Need-returns-2
 returns-2 c =
     let b = c .before .before .before in
-    refused-early (s b) (key b) (call b) (out b) (opened (s b) (key b) (some (time b)) (room b) (asked b) (b .begin-at .ensures) (c .before .start .given .1))
+    refused-early (s b) (key b) (call b) (out b) (opened (s b) (key b) (call b) (out b) (asked b) (b .begin-at .ensures) (c .before .start .given .1))
 
 same-length : tie.Need-same-length
 same-length c = search needs
@@ -263,7 +260,7 @@ returns-3 c =
     let q = x .before .before in
     let e = q .before in
     let b = there e in
-    ends-local (s b) (key b) (call b) (out b) (local e .0) (local e .1 .0) (reads-none (s b) (key b) (call b) (local e .1 .1)) refl (λ _. sym (own-hours q)) (local e .1 .1) refl refl (x .ended-local .ensures)
+    ends-local (s b) (key b) (call b) (out b) refl (λ _. sym (own-hours q)) (local e) refl refl (x .ended-local .ensures)
 
 same-length-2 : tie.Need-same-length-2
 same-length-2 c = search needs
@@ -284,7 +281,7 @@ returns-4 c =
     let y = rules.applyPending u (time b) (t .buckets i) .0 in
     let f = g .has-failed .ensures ∙ read g .1 in
     let z = stepped (a .apply-at .ensures .bucket) (does b (g .has-failed .result)) (at k .key-is) (m .insert-or-update-in .ensures .0) (m .insert-or-update-in .ensures .1) in
-    ends-at (s b) (key b) (call b) (out b) (opening k .0) (at k .passed) (reads-are (s b) (key b) (call b) (at k .index) (read g .0)) refl (λ _. sym (asked-hours (w .before .before))) (at k .index)
+    ends-at (s b) (key b) (call b) (out b) refl (λ _. sym (asked-hours (w .before .before))) (opening k) (reads-are (s b) (key b) (call b) (at k .index) (read g .0))
     (insert-or-update-records _ (time b) _ _ (m .insert-or-update-in .result .bucket) (a .apply-at .ensures .bucket) (a .apply-at .ensures .records) (at k .key-is) (r .record-of .ensures .0) (failsTableFilter t i (number (key b)) (valueOf (value b))) (nodeOf (key b) (value b) (state b) (direction b)) refl (z .bucket ∙ ap (λ (q : Bool). does b q u (number (key b)) y .1) f))
     (w .before .told-insert-or-update .ensures ∙ ap told (z .answer ∙ ap (λ (q : Bool). does b q u (number (key b)) y .0) f))
     (reason-told (a .apply-at .ensures .bucket) (why b (g .has-failed .result)) (at k .key-is) (w .insert-or-update-why .ensures) _ ∙ ap (λ (q : Bool). why b q (t .buckets) u (number (key b)) y) f) (x .ended .ensures)

@@ -1,25 +1,19 @@
 use Prim.Native.Nat.{ℕ}
-use mathlib.Core.Path.{_≡_, refl, sym, ap, _∙_}
-use mathlib.Core.Bool.{Bool, true, _&&_}
+use mathlib.Core.Path.{refl, sym, ap, _∙_}
+use mathlib.Core.Bool.{Bool, _&&_}
 use mathlib.Core.List.{List}
 use lib.ListN.{length}
 use mathlib.Core.Option.{none}
 use lib.Dec.{leb}
 use borrow.Author.Tests.{leb-true}
-use Rattle.model.specs.Bytes.{number}
-use Rattle.model.specs.Bucket as rules
-use Rattle.model.specs.Table.{indexIn}
-use Rattle.model.specs.Layout.{tableOf}
 use Rattle.model.specs.Call.{KeyCall}
 use Rattle.model.specs.Question.{isPending}
 use Rattle.model.specs.Explain.{explanationRoom}
-use Rattle.on_key.specs.Answers.{failedOfFive}
+use Rattle.on_key.specs.declared.Start.{Start}
 use Rattle.on_key.specs.Start.{AtBucket}
-use Rattle.on_key.proofs.Questions.{passed-five}
-use Rattle.on_key.proofs.OneKey.{reads-none}
 use Rattle.on_key.proofs.Ended.{own-formed}
 use Rattle.entry.proofs.Kind.{kind-self, kind-told}
-use Rattle.explain.proofs.Ends.{opened, refused-early, ends-local, ends-at}
+use Rattle.explain.proofs.Ends.{Opens, opened, own-ready, refused-early, ends-local, ends-at}
 use Rattle.reasons.proofs.OfTable.{own-told}
 use borrow.Author.Needs.{needs}
 use Rattle.explain.proofs.explain_pending_update.Statement.{statement}
@@ -38,9 +32,6 @@ module _ (b : tie.After-begin) where
 
   abbrev out : List ℕ
   out = o .args .out .now
-
-  abbrev room : Bool
-  room = leb explanationRoom (length out)
 
   abbrev state : ℕ
   state = o .args .state
@@ -68,15 +59,14 @@ module _ (e : tie.After-enum-told) where
   abbrev there : tie.After-begin
   there = e .before .before
 
-  local : (room there ≡ true) × ((failedOfFive (key there) (codes there) none (s there) ≡ none) × (indexIn (tableOf (s there)) (number (key there)) ≡ none))
-  local = opened (s there) (key there) none (room there) refl (there .begin .ensures) (e .enum-told .given .1)
+  local : Opens (s there) (key there) (call there) (out there) Start.Local
+  local = opened (s there) (key there) (call there) (out there) refl (there .begin .ensures) (e .enum-told .given .1)
 
 ended-local-requires : tie.Need-ended-local-requires
 ended-local-requires c κs =
     let e = c .before in
     let b = there e in
-    let p = passed-five (s b) (key b) (codes b) none (local e .1 .0) in
-    ((p .size, p .header), leb-true explanationRoom (length (out b)) (local e .0))
+    own-ready (s b) (key b) (call b) (out b) (local e)
 
 enum-known-start-2 : tie.Need-enum-known-start-2
 enum-known-start-2 c = search needs
@@ -86,14 +76,11 @@ module _ (k : tie.After-start2) where
   abbrev began : tie.After-begin
   began = k .before .before
 
-  opening : (room began ≡ true) × AtBucket (s began) (key began) (codes began) none (k .start2 .given .0 .0) (k .start2 .given .0 .1 .0)
-  opening = opened (s began) (key began) none (room began) refl (began .begin .ensures) (k .start2 .given .1)
+  opening : Opens (s began) (key began) (call began) (out began) (Start.At (k .start2 .given .0 .0) (k .start2 .given .0 .1 .0))
+  opening = opened (s began) (key began) (call began) (out began) refl (began .begin .ensures) (k .start2 .given .1)
 
   at : AtBucket (s began) (key began) (codes began) none (k .start2 .given .0 .0) (k .start2 .given .0 .1 .0)
   at = opening .1
-
-  in-range : codes began ≡ true
-  in-range = passed-five (s began) (key began) (codes began) none (at .passed) .in-range
 
 load-bucket-requires : tie.Need-load-bucket-requires
 load-bucket-requires c κs =
@@ -121,7 +108,7 @@ ended-requires c κs =
 returns : tie.Need-returns
 returns c =
     let b = c .before .before .before in
-    refused-early (s b) (key b) (call b) (out b) (opened (s b) (key b) none (room b) refl (b .begin .ensures) (c .before .start .given .1))
+    refused-early (s b) (key b) (call b) (out b) (opened (s b) (key b) (call b) (out b) refl (b .begin .ensures) (c .before .start .given .1))
 
 same-length : tie.Need-same-length
 same-length c = search needs
@@ -131,7 +118,7 @@ returns-2 c =
     let x = c .before .before in
     let e = x .before .before in
     let b = there e in
-    ends-local (s b) (key b) (call b) (out b) (local e .0) (local e .1 .0) (reads-none (s b) (key b) (call b) (local e .1 .1)) (sym (ap isPending (kind-self (s b) (key b) (local e .1 .1)))) (λ _. refl) (local e .1 .1) refl refl (x .ended-local .ensures)
+    ends-local (s b) (key b) (call b) (out b) (sym (ap isPending (kind-self (s b) (key b) (local e .1 .1)))) (λ _. refl) (local e) refl refl (x .ended-local .ensures)
 
 same-length-2 : tie.Need-same-length-2
 same-length-2 c = search needs
@@ -144,7 +131,7 @@ returns-3 c =
     let l = h .before .before in
     let k = l .before .before in
     let b = began k in
-    ends-at (s b) (key b) (call b) (out b) (opening k .0) (at k .passed) (own-formed (s b) (key b) (call b) (at k) refl) (h .is-pending .ensures ∙ sym (ap isPending (kind-told (at k) (l .load-bucket .ensures) (h .before .kind-of .ensures .0)))) (λ _. refl) (at k .index) refl
+    ends-at (s b) (key b) (call b) (out b) (h .is-pending .ensures ∙ sym (ap isPending (kind-told (at k) (l .load-bucket .ensures) (h .before .kind-of .ensures .0)))) (λ _. refl) (opening k) (own-formed (s b) (key b) (call b) (at k) refl) refl
     refl (w .no-reason .ensures .reason _) (x .ended .ensures)
 
 pub explain-pending-update-spec : {M : Type 1} → statement M

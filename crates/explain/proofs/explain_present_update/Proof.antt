@@ -7,23 +7,19 @@ use lib.ListN.{length}
 use mathlib.Core.Option.{none}
 use lib.Dec.{leb}
 use borrow.Author.Tests.{leb-true}
-use Rattle.model.specs.Bytes.{number}
 use Rattle.model.specs.Bucket as rules
-use Rattle.model.specs.Table.{indexIn}
-use Rattle.model.specs.Layout.{tableOf}
 use Rattle.model.specs.Call.{KeyCall, isOne, optional}
 use Rattle.model.specs.Question.{isPresent}
 use Rattle.model.specs.Explain.{explanationRoom, toldUpdate, statusReason}
 use Rattle.laws.proofs.Tests.{and-left, and-right}
-use Rattle.on_key.specs.Answers.{failedOfFive}
+use Rattle.on_key.specs.declared.Start.{Start}
 use Rattle.on_key.specs.Start.{AtBucket}
 use Rattle.on_key.proofs.Questions.{passed-five}
-use Rattle.on_key.proofs.OneKey.{reads-none}
 use Rattle.on_key.proofs.Ended.{own-formed}
 use Rattle.on_key.proofs.Steps.{stepped}
 use Rattle.entry.proofs.Kind.{kind-self, kind-told}
 use Rattle.on_key.proofs.Endings.{stored-status-records}
-use Rattle.explain.proofs.Ends.{opened, refused-early, ends-local, ends-at, reason-told}
+use Rattle.explain.proofs.Ends.{Opens, opened, own-ready, refused-early, ends-local, ends-at, reason-told}
 use Rattle.reasons.proofs.OfTable.{own-status, own-told}
 use borrow.Author.Needs.{needs}
 use Rattle.explain.proofs.explain_present_update.Statement.{statement}
@@ -42,9 +38,6 @@ module _ (b : tie.After-begin) where
 
   abbrev out : List ℕ
   out = o .args .out .now
-
-  abbrev room : Bool
-  room = leb explanationRoom (length out)
 
   abbrev state : ℕ
   state = o .args .state
@@ -72,15 +65,14 @@ module _ (e : tie.After-enum-told) where
   abbrev there : tie.After-begin
   there = e .before .before
 
-  local : (room there ≡ true) × ((failedOfFive (key there) (codes there) none (s there) ≡ none) × (indexIn (tableOf (s there)) (number (key there)) ≡ none))
-  local = opened (s there) (key there) none (room there) refl (there .begin .ensures) (e .enum-told .given .1)
+  local : Opens (s there) (key there) (call there) (out there) Start.Local
+  local = opened (s there) (key there) (call there) (out there) refl (there .begin .ensures) (e .enum-told .given .1)
 
 ended-local-requires : tie.Need-ended-local-requires
 ended-local-requires c κs =
     let e = c .before in
     let b = there e in
-    let p = passed-five (s b) (key b) (codes b) none (local e .1 .0) in
-    ((p .size, p .header), leb-true explanationRoom (length (out b)) (local e .0))
+    own-ready (s b) (key b) (call b) (out b) (local e)
 
 enum-known-start-2 : tie.Need-enum-known-start-2
 enum-known-start-2 c = search needs
@@ -90,8 +82,8 @@ module _ (k : tie.After-start2) where
   abbrev began : tie.After-begin
   began = k .before .before
 
-  opening : (room began ≡ true) × AtBucket (s began) (key began) (codes began) none (k .start2 .given .0 .0) (k .start2 .given .0 .1 .0)
-  opening = opened (s began) (key began) none (room began) refl (began .begin .ensures) (k .start2 .given .1)
+  opening : Opens (s began) (key began) (call began) (out began) (Start.At (k .start2 .given .0 .0) (k .start2 .given .0 .1 .0))
+  opening = opened (s began) (key began) (call began) (out began) refl (began .begin .ensures) (k .start2 .given .1)
 
   at : AtBucket (s began) (key began) (codes began) none (k .start2 .given .0 .0) (k .start2 .given .0 .1 .0)
   at = opening .1
@@ -150,7 +142,7 @@ ended-requires c κs =
 returns : tie.Need-returns
 returns c =
     let b = c .before .before .before in
-    refused-early (s b) (key b) (call b) (out b) (opened (s b) (key b) none (room b) refl (b .begin .ensures) (c .before .start .given .1))
+    refused-early (s b) (key b) (call b) (out b) (opened (s b) (key b) (call b) (out b) refl (b .begin .ensures) (c .before .start .given .1))
 
 same-length : tie.Need-same-length
 same-length c = search needs
@@ -160,7 +152,7 @@ returns-2 c =
     let x = c .before .before in
     let e = x .before .before in
     let b = there e in
-    ends-local (s b) (key b) (call b) (out b) (local e .0) (local e .1 .0) (reads-none (s b) (key b) (call b) (local e .1 .1)) (sym (ap isPresent (kind-self (s b) (key b) (local e .1 .1)))) (λ _. refl) (local e .1 .1) refl refl (x .ended-local .ensures)
+    ends-local (s b) (key b) (call b) (out b) (sym (ap isPresent (kind-self (s b) (key b) (local e .1 .1)))) (λ _. refl) (local e) refl refl (x .ended-local .ensures)
 
 same-length-2 : tie.Need-same-length-2
 same-length-2 c = search needs
@@ -176,7 +168,7 @@ returns-3 c =
     let k = l .before .before in
     let b = began k in
     let z = stepped (l .load-bucket .ensures) (λ (u : rules.BucketSettings) (n : ℕ) (y : rules.Bucket). rules.updateStatus u n (isOne (state b)) (optional (direction b)) y) (at k .key-is) (m .update-status-sound .ensures .0) (m .update-status-sound .ensures .1) in
-    ends-at (s b) (key b) (call b) (out b) (opening k .0) (at k .passed) (own-formed (s b) (key b) (call b) (at k) refl) (h .is-present .ensures ∙ sym (ap isPresent (kind-told (at k) (l .load-bucket .ensures) (h .before .kind-of .ensures .0)))) (λ _. refl) (at k .index)
+    ends-at (s b) (key b) (call b) (out b) (h .is-present .ensures ∙ sym (ap isPresent (kind-told (at k) (l .load-bucket .ensures) (h .before .kind-of .ensures .0)))) (λ _. refl) (opening k) (own-formed (s b) (key b) (call b) (at k) refl)
     (stored-status-records _ _ _ (m .update-status-sound .result .bucket) (l .load-bucket .ensures) (at k .key-is) (r .record-of .ensures .0) (isOne (state b)) (optional (direction b)) (z .bucket))
     (w .before .told-update .ensures ∙ ap toldUpdate (z .answer)) (reason-told (l .load-bucket .ensures) (λ (bs : ℕ → rules.Bucket) (u : rules.BucketSettings) (n : ℕ) (y : rules.Bucket). statusReason u n (isOne (state b)) (optional (direction b)) y) (at k .key-is) (w .status-reason .ensures) _) (x .ended .ensures)
 

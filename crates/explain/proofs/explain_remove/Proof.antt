@@ -1,27 +1,21 @@
 use Prim.Native.Nat.{ℕ}
 use native.Mathlib.Omega.{arith}
-use mathlib.Core.Path.{_≡_, refl, ap}
+use mathlib.Core.Path.{refl, ap}
 use mathlib.Core.Bool.{Bool, true}
 use mathlib.Core.List.{List}
 use lib.ListN.{length}
-use lib.Dec.{leb}
 use borrow.Author.Tests.{leb-true}
-use mathlib.Core.Option.{none, some}
-use Rattle.model.specs.Bytes.{number}
+use mathlib.Core.Option.{some}
 use Rattle.model.specs.Bucket as rules
-use Rattle.model.specs.Table.{indexIn}
-use Rattle.model.specs.Layout.{tableOf}
 use Rattle.model.specs.Call.{KeyCall}
 use Rattle.model.specs.Explain as model
 use Rattle.model.specs.Explain.{explanationRoom, removeReason}
-use Rattle.on_key.specs.Answers.{failedOfFive}
+use Rattle.on_key.specs.declared.Start.{Start}
 use Rattle.on_key.specs.Start.{AtBucket}
-use Rattle.on_key.proofs.Questions.{passed-five}
-use Rattle.on_key.proofs.OneKey.{reads-none}
 use Rattle.on_key.proofs.Ended.{own-formed}
 use Rattle.on_key.proofs.Steps.{timely, stepped}
 use Rattle.on_key.proofs.Endings.{no-own}
-use Rattle.explain.proofs.Ends.{opened, refused-early, ends-local, ends-at, reason-told}
+use Rattle.explain.proofs.Ends.{Opens, opened, own-ready, refused-early, ends-local, ends-at, reason-told}
 use Rattle.reasons.proofs.OfTable.{own-remove, own-told}
 use borrow.Author.Needs.{needs}
 use Rattle.explain.proofs.explain_remove.Statement.{statement}
@@ -40,9 +34,6 @@ module _ (b : tie.After-begin-at) where
 
   abbrev out : List ℕ
   out = o .args .out .now
-
-  abbrev room : Bool
-  room = leb explanationRoom (length out)
 
   abbrev time : ℕ
   time = o .args .time
@@ -67,15 +58,14 @@ module _ (e : tie.After-enum-told) where
   abbrev there : tie.After-begin-at
   there = e .before .before
 
-  local : (room there ≡ true) × ((failedOfFive (key there) (codes there) (some (time there)) (s there) ≡ none) × (indexIn (tableOf (s there)) (number (key there)) ≡ none))
-  local = opened (s there) (key there) (some (time there)) (room there) refl (there .begin-at .ensures) (e .enum-told .given .1)
+  local : Opens (s there) (key there) (call there) (out there) Start.Local
+  local = opened (s there) (key there) (call there) (out there) refl (there .begin-at .ensures) (e .enum-told .given .1)
 
 ended-local-requires : tie.Need-ended-local-requires
 ended-local-requires c κs =
     let e = c .before in
     let b = there e in
-    let p = passed-five (s b) (key b) (codes b) (some (time b)) (local e .1 .0) in
-    ((p .size, p .header), leb-true explanationRoom (length (out b)) (local e .0))
+    own-ready (s b) (key b) (call b) (out b) (local e)
 
 enum-known-start-2 : tie.Need-enum-known-start-2
 enum-known-start-2 c = search needs
@@ -85,8 +75,8 @@ module _ (k : tie.After-start2) where
   abbrev began : tie.After-begin-at
   began = k .before .before
 
-  opening : (room began ≡ true) × AtBucket (s began) (key began) (codes began) (some (time began)) (k .start2 .given .0 .0) (k .start2 .given .0 .1 .0)
-  opening = opened (s began) (key began) (some (time began)) (room began) refl (began .begin-at .ensures) (k .start2 .given .1)
+  opening : Opens (s began) (key began) (call began) (out began) (Start.At (k .start2 .given .0 .0) (k .start2 .given .0 .1 .0))
+  opening = opened (s began) (key began) (call began) (out began) refl (began .begin-at .ensures) (k .start2 .given .1)
 
   at : AtBucket (s began) (key began) (codes began) (some (time began)) (k .start2 .given .0 .0) (k .start2 .given .0 .1 .0)
   at = opening .1
@@ -119,7 +109,7 @@ ended-requires c κs =
 returns : tie.Need-returns
 returns c =
     let b = c .before .before .before in
-    refused-early (s b) (key b) (call b) (out b) (opened (s b) (key b) (some (time b)) (room b) refl (b .begin-at .ensures) (c .before .start .given .1))
+    refused-early (s b) (key b) (call b) (out b) (opened (s b) (key b) (call b) (out b) refl (b .begin-at .ensures) (c .before .start .given .1))
 
 same-length : tie.Need-same-length
 same-length c = search needs
@@ -129,7 +119,7 @@ returns-2 c =
     let x = c .before .before in
     let e = x .before .before in
     let b = there e in
-    ends-local (s b) (key b) (call b) (out b) (local e .0) (local e .1 .0) (reads-none (s b) (key b) (call b) (local e .1 .1)) refl (λ _. refl) (local e .1 .1) refl refl (x .ended-local .ensures)
+    ends-local (s b) (key b) (call b) (out b) refl (λ _. refl) (local e) refl refl (x .ended-local .ensures)
 
 same-length-2 : tie.Need-same-length-2
 same-length-2 c = search needs
@@ -143,7 +133,7 @@ returns-3 c =
     let b = began k in
     let m = w .before in
     let z = stepped (a .apply-at .ensures .bucket) (λ (u : rules.BucketSettings) (n : ℕ) (y : rules.Bucket). rules.remove u (time b) n y) (at k .key-is) (m .remove-sound .ensures .0) (m .remove-sound .ensures .1) in
-    ends-at (s b) (key b) (call b) (out b) (opening k .0) (at k .passed) (own-formed (s b) (key b) (call b) (at k) refl) refl (λ _. refl) (at k .index) (no-own (a .apply-at .ensures .records))
+    ends-at (s b) (key b) (call b) (out b) refl (λ _. refl) (opening k) (own-formed (s b) (key b) (call b) (at k) refl) (no-own (a .apply-at .ensures .records))
     (ap model.Told.Removed (z .answer)) (reason-told (a .apply-at .ensures .bucket) (λ (bs : ℕ → rules.Bucket) (u : rules.BucketSettings) (n : ℕ) (y : rules.Bucket). removeReason n y) (at k .key-is) (w .remove-reason .ensures) _) (x .ended .ensures)
 
 pub explain-remove-spec : {M : Type 1} → statement M

@@ -4,13 +4,13 @@ use mathlib.Core.Path.{_≡_, refl, ap, _∙_, sym, subst}
 use mathlib.Core.Bool.{Bool, true, cond, _&&_}
 use mathlib.Core.List.{List}
 use lib.ListN.{length}
-use mathlib.Core.Option.{none, some}
+use mathlib.Core.Option.{some}
 use lib.Dec.{leb}
 use borrow.Author.Tests.{leb-true}
 use Rattle.model.specs.Bytes.{number}
 use Rattle.model.specs.Value.{Value}
 use Rattle.model.specs.Bucket as rules
-use Rattle.model.specs.Table.{Answer, failsTableFilter, updateNodeIn, indexIn}
+use Rattle.model.specs.Table.{Answer, failsTableFilter, updateNodeIn}
 use Rattle.model.specs.Layout.{tableOf}
 use Rattle.model.specs.Formed.{bucketsFormed, formed}
 use Rattle.model.specs.Call.{ValueArgument, KeyCall, valueOf, optional}
@@ -19,15 +19,15 @@ use Rattle.model.specs.Explain as model
 use Rattle.model.specs.Explain.{explanationRoom, told, tableFilterReason, updateNodeReason}
 use Rattle.laws.proofs.Tests.{and-left, and-right}
 use Rattle.node.specs.Node.{argumentOf}
-use Rattle.on_key.specs.Answers.{failedOfFive}
 use Rattle.table_filter.specs.Filtered.{filterReads, AskedFilter, isMalformed, hasFailed}
 use Rattle.table_filter.proofs.Asked.{malformed-read, answer-told, failed-formed}
+use Rattle.on_key.specs.declared.Start.{Start}
 use Rattle.on_key.specs.Start.{AtBucket}
 use Rattle.on_key.proofs.Questions.{passed-five}
-use Rattle.on_key.proofs.OneKey.{reads-none, reads-are}
+use Rattle.on_key.proofs.OneKey.{reads-are}
 use Rattle.on_key.proofs.Steps.{timely, stepped}
 use Rattle.on_key.proofs.Endings.{update-records}
-use Rattle.explain.proofs.Ends.{opened, refused-early, refused-read, ends-local, ends-at, reason-told}
+use Rattle.explain.proofs.Ends.{Opens, opened, own-ready, refused-early, refused-read, ends-local, ends-at, reason-told}
 use Rattle.reasons.proofs.OfTable.{own-update-node, own-unless, filter-told}
 use borrow.Author.Needs.{needs}
 use Rattle.explain.proofs.explain_update_node.Statement.{statement}
@@ -46,9 +46,6 @@ module _ (b : tie.After-begin-at) where
 
   abbrev out : List ℕ
   out = o .args .out .now
-
-  abbrev room : Bool
-  room = leb explanationRoom (length out)
 
   abbrev value : ValueArgument
   value = argumentOf (o .args .value)
@@ -93,15 +90,14 @@ module _ (e : tie.After-enum-told) where
   abbrev there : tie.After-begin-at
   there = e .before .before
 
-  local : (room there ≡ true) × ((failedOfFive (key there) (codes there) (some (time there)) (s there) ≡ none) × (indexIn (tableOf (s there)) (number (key there)) ≡ none))
-  local = opened (s there) (key there) (some (time there)) (room there) (asked there) (there .begin-at .ensures) (e .enum-told .given .1)
+  local : Opens (s there) (key there) (call there) (out there) Start.Local
+  local = opened (s there) (key there) (call there) (out there) (asked there) (there .begin-at .ensures) (e .enum-told .given .1)
 
 ended-local-requires : tie.Need-ended-local-requires
 ended-local-requires c κs =
     let e = c .before in
     let b = there e in
-    let p = passed-five (s b) (key b) (codes b) (some (time b)) (local e .1 .0) in
-    ((p .size, p .header), leb-true explanationRoom (length (out b)) (local e .0))
+    own-ready (s b) (key b) (call b) (out b) (local e)
 
 enum-known-start-2 : tie.Need-enum-known-start-2
 enum-known-start-2 c = search needs
@@ -111,8 +107,8 @@ module _ (k : tie.After-start2) where
   abbrev began : tie.After-begin-at
   began = k .before .before
 
-  opening : (room began ≡ true) × AtBucket (s began) (key began) (codes began) (some (time began)) (k .start2 .given .0 .0) (k .start2 .given .0 .1 .0)
-  opening = opened (s began) (key began) (some (time began)) (room began) (asked began) (began .begin-at .ensures) (k .start2 .given .1)
+  opening : Opens (s began) (key began) (call began) (out began) (Start.At (k .start2 .given .0 .0) (k .start2 .given .0 .1 .0))
+  opening = opened (s began) (key began) (call began) (out began) (asked began) (began .begin-at .ensures) (k .start2 .given .1)
 
   at : AtBucket (s began) (key began) (codes began) (some (time began)) (k .start2 .given .0 .0) (k .start2 .given .0 .1 .0)
   at = opening .1
@@ -153,7 +149,7 @@ returns c =
     let k = for-key m in
     let b = began k in
     let d = malformed-read (s b) (index m) (number (key b)) (v m) (filter m .asked-filter .result) (told-filter m) (is-bad m ∙ c .if1 .taken) in
-    refused-read (s b) (key b) (call b) (out b) (opening k .0) (at k .passed) (reads-are (s b) (key b) (call b) (at k .index) d)
+    refused-read (s b) (key b) (call b) (out b) (opening k) (reads-are (s b) (key b) (call b) (at k .index) d)
 
 has-failed-requires : tie.Need-has-failed-requires
 has-failed-requires c κs = search needs
@@ -216,7 +212,7 @@ ended-requires c κs =
 returns-2 : tie.Need-returns-2
 returns-2 c =
     let b = c .before .before .before in
-    refused-early (s b) (key b) (call b) (out b) (opened (s b) (key b) (some (time b)) (room b) (asked b) (b .begin-at .ensures) (c .before .start .given .1))
+    refused-early (s b) (key b) (call b) (out b) (opened (s b) (key b) (call b) (out b) (asked b) (b .begin-at .ensures) (c .before .start .given .1))
 
 same-length : tie.Need-same-length
 same-length c = search needs
@@ -226,7 +222,7 @@ returns-3 c =
     let x = c .before .before in
     let e = x .before .before in
     let b = there e in
-    ends-local (s b) (key b) (call b) (out b) (local e .0) (local e .1 .0) (reads-none (s b) (key b) (call b) (local e .1 .1)) refl (λ _. refl) (local e .1 .1) refl refl (x .ended-local .ensures)
+    ends-local (s b) (key b) (call b) (out b) refl (λ _. refl) (local e) refl refl (x .ended-local .ensures)
 
 same-length-2 : tie.Need-same-length-2
 same-length-2 c = search needs
@@ -247,7 +243,7 @@ returns-4 c =
     let y = rules.applyPending u (time b) (t .buckets i) .0 in
     let f = g .has-failed .ensures ∙ read g .1 in
     let z = stepped (a .apply-at .ensures .bucket) (does b (g .has-failed .result)) (at k .key-is) (m .update-node-in .ensures .0) (m .update-node-in .ensures .1) in
-    ends-at (s b) (key b) (call b) (out b) (opening k .0) (at k .passed) (reads-are (s b) (key b) (call b) (at k .index) (read g .0)) refl (λ _. refl) (at k .index)
+    ends-at (s b) (key b) (call b) (out b) refl (λ _. refl) (opening k) (reads-are (s b) (key b) (call b) (at k .index) (read g .0))
     (update-records _ (time b) _ _ (m .update-node-in .result .bucket) (a .apply-at .ensures .bucket) (a .apply-at .ensures .records) (at k .key-is) (r .record-of .ensures .0) (failsTableFilter t i (number (key b)) (valueOf (value b))) (valueOf (value b)) (optional (state b)) (z .bucket ∙ ap (λ (q : Bool). does b q u (number (key b)) y .1) f))
     (w .before .told-update .ensures ∙ ap told (z .answer ∙ ap (λ (q : Bool). does b q u (number (key b)) y .0) f))
     (reason-told (a .apply-at .ensures .bucket) (why b (g .has-failed .result)) (at k .key-is) (w .update-node-why .ensures) _ ∙ ap (λ (q : Bool). why b q (t .buckets) u (number (key b)) y) f) (x .ended .ensures)

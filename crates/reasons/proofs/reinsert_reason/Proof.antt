@@ -1,7 +1,4 @@
-use mathlib.Core.Path.{_≡_, sym, _∙_}
-use mathlib.Core.Bool.{Bool}
-use Rattle.model.specs.Bucket as rules
-use Rattle.model.specs.Node as model
+use mathlib.Core.Path.{sym, _∙_}
 use Rattle.node.specs.Node.{nodeOf}
 use Rattle.bucket.specs.Bucket.{bucketOf, settingsOf}
 use Rattle.reasons.proofs.Rules.{tells, reinsert-filter, reinsert-many, reinsert-placed}

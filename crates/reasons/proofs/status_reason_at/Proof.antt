@@ -1,4 +1,4 @@
-use mathlib.Core.Path.{sym, ap, _∙_}
+use mathlib.Core.Path.{ap, _∙_}
 use lib.ListN.{getD}
 use Rattle.model.specs.Node as model
 use Rattle.model.specs.Bucket as rules

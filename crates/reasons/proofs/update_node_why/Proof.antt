@@ -1,4 +1,3 @@
-use mathlib.Core.Path.{sym, _∙_}
 use Rattle.reasons.proofs.Rules.{tells}
 use borrow.Author.Needs.{needs}
 use Rattle.reasons.proofs.update_node_why.Statement.{statement}

@@ -26,7 +26,6 @@ use Rattle.table_filter.specs.Filtered.{filterReads, AskedFilter, isMalformed, 
 use Rattle.table_filter.proofs.Asked.{malformed-read, answer-told}
 use Rattle.held.specs.Held.{Quiet, Does, bucketHere, settingsHere}
 use Rattle.held.proofs.Quiet.{count-few}
-use Rattle.held_update.proofs.Laws.{stands}
 use Rattle.session.specs.Hours.{sessionOf}
 use Rattle.on_key.specs.Answers.{refusal, failedOfFive, Timely}
 use Rattle.on_key.specs.Start.{AtBucket}
@@ -285,7 +284,7 @@ insert-or-update-requires : tie.Need-insert-or-update-requires
 insert-or-update-requires c κs =
     let q = c .before .before in
     let n = still q in (
-      stands (s (b n)) (bucketAt (i n)) (inside n) (omega arith) (all-bytes n) _ (at (here n) .ready .bucket) (is-still q),
+      (inside n, is-still q),
       ((known-codes (here n), time-fits (s (b n)) (time (b n)) (in-time n)), (refl, placed q .position .ensures)),
     )
 

@@ -23,7 +23,6 @@ use Rattle.bucket.specs.Calls.{recordsOf, updateResultOf}
 use Rattle.table_filter.specs.Filtered.{filterReads, AskedFilter, isMalformed, hasFailed}
 use Rattle.table_filter.proofs.Asked.{malformed-read, answer-told}
 use Rattle.held.specs.Held.{Quiet, Does, bucketHere, settingsHere}
-use Rattle.held_update.proofs.Laws.{stands}
 use Rattle.on_key.specs.Start.{AtBucket}
 use Rattle.on_key.proofs.Questions.{passed-five}
 use Rattle.on_key.proofs.OneKey.{ReadFormed, reads-are, refused-early, refused-read, answers-self}
@@ -201,7 +200,7 @@ update-node-requires : tie.Need-update-node-requires
 update-node-requires c κs =
     let n = c .before .before in
     let y = at (here n) .ready in
-    (stands (s (b n)) (bucketAt (i n)) (omega (arith, y .size, y .below)) (omega arith) (bytes n) _ (y .bucket) (quiet n (c .before .if2 .taken)), (known-value (here n), known-state (here n)))
+    ((omega (arith, y .size, y .below), quiet n (c .before .if2 .taken)), (known-value (here n), known-state (here n)))
 
 same-length-2 : tie.Need-same-length-2
 same-length-2 c = search needs

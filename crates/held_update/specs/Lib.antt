@@ -1,2 +1,0 @@
--- What the contracts of `held_update` cite beside the model.
-pub mod Stands
