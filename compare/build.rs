@@ -132,7 +132,7 @@ fn proved_library() {
     println!("cargo::rerun-if-changed={}", library.display());
     let Ok(archive) = fs::read(&library) else {
         println!(
-            "cargo::warning=no {LIBRARY} in {}: speed is built without it; run 'rt staticlib kbuckets', or set KBUCKETS_LIB to its folder",
+            "cargo::warning=no {LIBRARY} in {}: speed is built without it; run 'tools/library', or set KBUCKETS_LIB to its folder",
             folder.display()
         );
         return;

@@ -1,4 +1,4 @@
-//! Links the proved library. Its folder is `KBUCKETS_LIB`, by default ../target/staticlib, where `rt staticlib kbuckets` writes it.
+//! Links the proved library. Its folder is `KBUCKETS_LIB`, by default ../target/staticlib, where `tools/library` writes it.
 
 use std::env;
 use std::path::PathBuf;
@@ -16,7 +16,7 @@ fn main() {
     println!("cargo::rerun-if-changed={}", library.display());
     if !library.is_file() {
         println!(
-            "cargo::error=no {LIBRARY} in {}: run 'rt staticlib kbuckets' in the repository first, or set KBUCKETS_LIB to its folder",
+            "cargo::error=no {LIBRARY} in {}: run 'tools/library' in the repository first, or set KBUCKETS_LIB to its folder",
             folder.display()
         );
         return;

@@ -1,7 +1,9 @@
 """The must-fail edits and the functions that they change, as tools/refused and tools/claims read them.
 
 A file of crates/CRATE/must-fail may hold edits of several functions, each a block that begins with 'edit: NAME'; a file without such a line is
-one edit, of the file's name. No two edits of a file change one function."""
+one edit, of the file's name. No two edits of a file change one function. The lines of an edit of code that
+begin with 'with ' are pairs of files of proofs/, which rt does not read: they give a proof the names that its steps have in the edited code, and
+change nothing else, so that tools/refused sees a fact fail and not a name."""
 
 import re
 from functools import lru_cache
@@ -10,6 +12,8 @@ from pathlib import Path
 ROOT = Path(__file__).resolve().parent.parent
 ITEM = re.compile(r'^impl (\w+)|^( *)((?:pub(?:\(crate\))? )?)(?:extern "C" )?fn (\w+)', re.M)
 CONSTANT = re.compile(r"^(?:pub(?:\(crate\))? )?const (\w+)\b.*?;$", re.M | re.S)
+# the name of a step of a function, in its proof, is of several words with dashes; a test's fact may have another form
+STEP = re.compile(r"\w+(?:-\w+)+(?:\.(?:true|false)(?:-raw)?)?")
 TOKEN = re.compile(r"//[^\n]*|--[^\n]*|(?P<string>\"[^\"\n]*\")|(0x[0-9A-Fa-f_]+|[0-9][0-9_]*)|(\w+|[^\w\s])")
 
 
@@ -70,7 +74,7 @@ class Edit:
         return f"{self.crate} {self.name}"
 
     def of(self, part):
-        return all(file.startswith(part + "/") for file, _, _ in self.pairs)
+        return all(file.startswith(part + "/") for file, _, _ in self.pairs if not file.startswith("proofs/"))
 
     def text(self, file):
         path = ROOT / "crates" / self.crate / file
@@ -79,7 +83,7 @@ class Edit:
     def changed(self, body=False):
         """the functions that an edit of code changes, by their text or by their body alone; of a constant: those that name it"""
         names = set()
-        for file, old, _ in self.pairs:
+        for file, old, _ in self.of_code():
             at = self.text(file).find(old)
             for f in functions_of(self.crate, file) if at >= 0 else []:
                 if (f.body if body else f.start) <= at and at + len(old) <= f.end:
@@ -93,15 +97,22 @@ class Edit:
         """is it an edit of the bodies of functions alone, so that all contracts stay?"""
         return self.of("src") and all(
             any(f.body <= at and at + len(old) <= f.end for f in functions_of(self.crate, file))
-            for file, old, _ in self.pairs
+            for file, old, _ in self.of_code()
             for at in [self.text(file).find(old)]
         )
+
+    def of_code(self):
+        """its pairs but those that only give a proof the names that the steps of the edited code have"""
+        return [pair for pair in self.pairs if not pair[0].startswith("proofs/")]
 
     def faults(self):
         """what is wrong with the edit, as far as its text tells. That two programs are the same it tells only where they have the same words:
         the same text but for comments, spaces, the way a number is written, and a comma before a closing bracket."""
-        if not (self.of("src") or self.of("specs")):
+        if not self.of_code() or not (self.of("src") or self.of("specs")):
             yield "an edit is of files of src/ or of files of specs/"
+        for file, old, new in self.pairs:
+            if file.startswith("proofs/") and not (self.of("src") and STEP.sub("", old) == STEP.sub("", new)):
+                yield f"in {file} it changes more than names of steps: {new.strip()!r}"
         for file in sorted({file for file, _, _ in self.pairs}):
             before = after = self.text(file)
             for _, old, new in [pair for pair in self.pairs if pair[0] == file]:
@@ -135,7 +146,7 @@ def all_edits():
         crate, file, old = path.parts[-3], "", ""
         mine = []
         for line in path.read_text().splitlines():
-            word, _, rest = line.partition(" ")
+            word, _, rest = line.removeprefix("with ").partition(" ")
             if word == "edit:":
                 mine.append(Edit(crate, path.stem, rest))
             elif word == "file:":

@@ -63,7 +63,7 @@ impl fmt::Display for OtherLibrary {
     fn fmt(&self, f: &mut fmt::Formatter<'_>) -> fmt::Result {
         write!(
             f,
-            "the linked libkbuckets.a is version {}, and version {VERSION} is needed: build it again ('rt staticlib kbuckets')",
+            "the linked libkbuckets.a is version {}, and version {VERSION} is needed: build it again ('tools/library')",
             self.0
         )
     }

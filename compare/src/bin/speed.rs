@@ -12,7 +12,7 @@ fn main() -> ExitCode {
     }
     if cfg!(not(proved_library)) {
         eprintln!(
-            "speed: built without libkbuckets.a; run 'rt staticlib kbuckets' in the repository, or set KBUCKETS_LIB to its folder, and build again"
+            "speed: built without libkbuckets.a; run 'tools/library' in the repository, or set KBUCKETS_LIB to its folder, and build again"
         );
     }
     ExitCode::from(2)

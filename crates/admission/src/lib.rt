@@ -1,4 +1,6 @@
 // Questions 10 and 11 of a call on a key of bucket i (document 02, slip 8).
+#![tactic(auto)]
+
 ghost use Rattle.std.specs.Prelude.{◌≡◌, not};
 ghost use Rattle.model.specs.Table.{kind_of};
 ghost use Rattle.model.specs.Session.{hours_questions};

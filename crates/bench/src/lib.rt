@@ -1,4 +1,6 @@
 // What a benchmark calls: rounds of one operation each, on numbers alone. The driver is tools/bench.
+#![tactic(auto)]
+
 ghost use Rattle.std.specs.Prelude.{◌≡◌, true, ◌≤◌};
 ghost use Rattle.node.specs.Node.{node_codes};
 

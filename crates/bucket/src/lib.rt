@@ -1,5 +1,7 @@
 // A bucket of at most sixteen nodes, by value (bucket.rs). The nodes are ordered from least-recently to most-recently connected: first
 // the disconnected ones, then the connected ones.
+#![tactic(auto)]
+
 ghost use Rattle.std.specs.Prelude.{◌≡◌, true, false, cond, ℕ, ◌+◌, ◌≤◌, ◌<◌, ◌^◌, leb, eqb, length, take, get_or, [], ◌∷◌};
 ghost use Rattle.std.proofs.Math.Option.{Option, none, some};
 ghost use Rattle.model.specs.Base.{is_some};
@@ -20,13 +22,13 @@ use key::Key;
 use node::{Node, NodeStatus, Value};
 
 // A node that is pending insertion into a full bucket, and the time from which on it is due.
-#[derive(Drop)]
+#[derive(Clone, Copy)]
 pub enum Pending {
     Nothing,
     Waiting(Node, u64),
 }
 
-#[derive(Drop)]
+#[derive(Clone, Copy)]
 pub struct KBucket {
     // The nodes, in the first count places; the others are zero.
     pub nodes: [Node; KBucket::MAX_NODES_PER_BUCKET],
@@ -43,7 +45,7 @@ pub struct KBucket {
 }
 
 // The result of inserting a node.
-#[derive(Drop)]
+#[derive(Clone, Copy)]
 pub enum InsertResult {
     Inserted,
     // The node waits in a full bucket. It names the node at place 0, which is to be asked for.
@@ -55,7 +57,7 @@ pub enum InsertResult {
 }
 
 // A reason for failing to update or insert a node.
-#[derive(Drop)]
+#[derive(Clone, Copy)]
 pub enum FailureReason {
     TooManyIncoming,
     BucketFilter,
@@ -66,7 +68,7 @@ pub enum FailureReason {
 }
 
 // The result of an update.
-#[derive(Drop)]
+#[derive(Clone, Copy)]
 pub enum UpdateResult {
     Updated,
     UpdatedAndPromoted,
@@ -77,7 +79,7 @@ pub enum UpdateResult {
 
 // How a pending ended that was not placed: dropped because 16 are held and place 0 is connected, by the bucket filter, by the incoming
 // limit; cleared by a direct insert of its key, or because place 0 was confirmed.
-#[derive(Drop)]
+#[derive(Clone, Copy)]
 pub enum Ending {
     FirstConnected,
     BucketFilter,
@@ -87,7 +89,7 @@ pub enum Ending {
 }
 
 // The record of an ended pending: none; placed, its key; placed, its key and the node that it evicted; not placed, its key and ending.
-#[derive(Drop)]
+#[derive(Clone, Copy)]
 pub enum EndedPending {
     Nothing,
     Placed(Key),
@@ -95,98 +97,98 @@ pub enum EndedPending {
     Dropped(Key, Ending),
 }
 
-#[derive(Drop)]
+#[derive(Clone, Copy)]
 pub struct Inserted {
     pub bucket: KBucket,
     pub result: InsertResult,
 }
 
-#[derive(Drop)]
+#[derive(Clone, Copy)]
 pub struct Applied {
     pub bucket: KBucket,
     pub applied: EndedPending,
 }
 
-#[derive(Drop)]
+#[derive(Clone, Copy)]
 pub struct Updated {
     pub bucket: KBucket,
     pub result: UpdateResult,
 }
 
-#[derive(Drop)]
+#[derive(Clone, Copy)]
 pub struct Removed {
     pub bucket: KBucket,
     pub found: bool,
 }
 
 // What a call answers: the number of the question that failed, or its result.
-#[derive(Drop)]
+#[derive(Clone, Copy)]
 pub enum InsertAnswer {
     Refused(u8),
     Answered(InsertResult),
 }
 
-#[derive(Drop)]
+#[derive(Clone, Copy)]
 pub enum ApplyAnswer {
     Refused(u8),
     Answered(EndedPending),
 }
 
-#[derive(Drop)]
+#[derive(Clone, Copy)]
 pub enum UpdateAnswer {
     Refused(u8),
     Answered(UpdateResult),
 }
 
-#[derive(Drop)]
+#[derive(Clone, Copy)]
 pub enum PendingAnswer {
     Refused(u8),
     Done,
 }
 
-#[derive(Drop)]
+#[derive(Clone, Copy)]
 pub enum RemoveAnswer {
     Refused(u8),
     Answered(bool),
 }
 
-#[derive(Drop)]
+#[derive(Clone, Copy)]
 pub enum NewAnswer {
     Refused(u8),
     Created,
 }
 
-#[derive(Drop)]
+#[derive(Clone, Copy)]
 pub struct InsertReply {
     pub bucket: KBucket,
     pub answer: InsertAnswer,
 }
 
-#[derive(Drop)]
+#[derive(Clone, Copy)]
 pub struct ApplyReply {
     pub bucket: KBucket,
     pub answer: ApplyAnswer,
 }
 
-#[derive(Drop)]
+#[derive(Clone, Copy)]
 pub struct UpdateReply {
     pub bucket: KBucket,
     pub answer: UpdateAnswer,
 }
 
-#[derive(Drop)]
+#[derive(Clone, Copy)]
 pub struct PendingReply {
     pub bucket: KBucket,
     pub answer: PendingAnswer,
 }
 
-#[derive(Drop)]
+#[derive(Clone, Copy)]
 pub struct RemoveReply {
     pub bucket: KBucket,
     pub answer: RemoveAnswer,
 }
 
-#[derive(Drop)]
+#[derive(Clone, Copy)]
 pub struct NewReply {
     pub bucket: KBucket,
     pub answer: NewAnswer,

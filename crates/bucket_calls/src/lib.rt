@@ -1,5 +1,7 @@
 // The calls on a bucket by itself, lent as bytes (bucket.rs): each asks its questions, loads the bucket by value, runs its method and stores
 // it. Each returns its answer's number; a key or a record that the answer carries stands at the front of `answer`.
+#![tactic(auto)]
+
 ghost use Rattle.std.specs.Prelude.{[]};
 ghost use Rattle.node.specs.Node.{argument_of};
 ghost use Rattle.codes.specs.Exported.{Leaves, Writes};

@@ -18,7 +18,7 @@ use node::Node;
 use storage::Layout;
 
 // Where the settings stand, behind the bucket.
-#[derive(Drop)]
+#[derive(Clone, Copy)]
 pub struct Lent {}
 
 impl Lent {

@@ -1,4 +1,6 @@
 // Internal: what update_node and insert_or_update (kbucket.rs) do to the bucket of their key, by value.
+#![tactic(auto)]
+
 ghost use Rattle.std.specs.Prelude.{◌≡◌, true, false, ◌+◌, ◌≤◌, ◌<◌, ◌^◌};
 ghost use Rattle.model.specs.Result as model;
 ghost use Rattle.model.specs.Result.{is_failed};
@@ -17,7 +19,7 @@ use key::Key;
 use node::{Node, Value};
 
 // What insert_or_update answers.
-#[derive(Drop)]
+#[derive(Clone, Copy)]
 pub enum InsertResult {
     // The key was not held, and is now.
     Inserted,
@@ -32,7 +34,7 @@ pub enum InsertResult {
     Failed(FailureReason),
 }
 
-#[derive(Drop)]
+#[derive(Clone, Copy)]
 pub struct InsertedOrUpdated {
     pub bucket: KBucket,
     pub result: InsertResult,

@@ -1,4 +1,6 @@
 // Internal: a bucket of the lent storage, loaded by value and stored back. Its bytes may stand at any offset.
+#![tactic(auto)]
+
 ghost use Rattle.std.specs.Prelude.{◌≡◌, true, ◌+◌, ◌≤◌, ◌<◌, length};
 ghost use Rattle.model.specs.Bytes.{part, splice};
 ghost use Rattle.model.specs.Bucket.{max_nodes_per_bucket};

@@ -9,7 +9,7 @@ use mathlib.Core.Logic.{◌⊎◌, inl, inr}
 use mathlib.Core.Option.{Option}
 use lib.ListN.{length}
 use lib.Seq.{drop-length}
-use Rattle.model.specs.Base.{given}
+use Rattle.model.specs.Base.{given, same}
 use Rattle.model.specs.Bytes.{splice}
 use Rattle.model.specs.Table.{Table, Answer, num_buckets}
 use Rattle.model.specs.Call.{Call}
@@ -22,8 +22,8 @@ use Rattle.laws.proofs.Lists.{lt_or_le}
 use Rattle.laws.proofs.TableBytes.{length_bytes_of, bytes_bytes_of, formed_there, table_back, fits_back}
 use Rattle.laws.proofs.ReadsOnly.{SameReply}
 use Rattle.laws.proofs.Elsewhere as Elsewhere
-use Rattle.log.specs.Log.{Entry}
-use Rattle.log.specs.Pending.{lists}
+use Rattle.table_log.specs.Log.{Entry}
+use Rattle.table_log.specs.Pending.{lists}
 use Rattle.codes.specs.Codes.{refused_code, answer_code, answer_bytes, answer_size}
 use Rattle.codes.specs.Exported.{Writes, exported, exported_with}
 use Rattle.codes.proofs.Thin
@@ -113,7 +113,9 @@ elsewhere_stays {c} {s} run i m u = ap (λ (y : List ℕ). bucket_part y i) (equ
 -- of every call but `new`, which is handed no table, one that it does not read
 pub unread_stays : {c : Call} {s : List ℕ} {a : Answer} {s' out' : List ℕ} → Ran c s a s' out' → (arguments c).table ≡ true → (i : ℕ) → i < num_buckets
     → Unread c s i → bucket_part s' i ≡ bucket_part s i
-unread_stays {c} {s} run n i m u = ap (λ (y : List ℕ). bucket_part y i) (equation run).storage ∙ Elsewhere.unread_stays c s n i m u
+unread_stays {c} {s} run n i m u =
+    let none_is_i : All (λ (j : ℕ). same i j ≡ false) (reads c (table_of s)) = u in
+    ap (λ (y : List ℕ). bucket_part y i) (equation run).storage ∙ Elsewhere.unread_stays c s n i m none_is_i
 
 -- the same of the exports
 

@@ -9,7 +9,7 @@ use Rattle.model.specs.Result.{FailureReason, BucketInsertResult, UpdateResult, 
 use Rattle.model.specs.Table.{EntryKind, Answer}
 use Rattle.model.specs.Question.{max_count}
 use Rattle.model.specs.Layout.{flag_byte}
-use Rattle.log.specs.Log.{is_refused}
+use Rattle.table_log.specs.Log.{is_refused}
 use Rattle.laws.proofs.Tests.{clash}
 use Rattle.codes.specs.Codes.{refused_code, failed_code, update_code, insert_code, bucket_insert_code, entry_code, applied_code, answer_code}
 use Rattle.codes.proofs.Apart.{found_apart}

@@ -15,8 +15,8 @@ use Rattle.model.specs.Fits.{All, Fits, FitsCall}
 use Rattle.laws.proofs.KeepStep.{step_fits, new_fits}
 use Rattle.laws.proofs.TableBytes.{table_there, formed_there}
 use Rattle.laws.proofs.TableStep.{step_bytes_lem, new_bytes}
-use Rattle.log.specs.Log.{Entry}
-use Rattle.log.specs.Claim.{Claim, StorageClaim, table_after, entries}
+use Rattle.table_log.specs.Log.{Entry}
+use Rattle.table_log.specs.Claim.{Claim, StorageClaim, table_after, entries}
 use Rattle.items.specs.Lists.{Lists}
 use Rattle.theorem.proofs.Theorem.{theorem}
 use Rattle.claims.specs.Ran.{Ran}

@@ -3,7 +3,7 @@ use Prim.Native.Nat.{ℕ, ◌-◌, ◌≤◌, ◌<◌}
 use native.Mathlib.Omega.{arith}
 use mathlib.Core.Path.{◌≡◌, refl, sym, ap, ◌∙◌, subst⁻¹}
 use mathlib.Core.Bool.{Bool, true, false, cond}
-use mathlib.Core.List.{List, [], ◌∷◌}
+use mathlib.Core.List.{List, []}
 use mathlib.Core.Option.{Option, none, some}
 use lib.ListN.{length}
 use lib.Dec.{leb}
@@ -19,8 +19,8 @@ use Rattle.model.specs.Formed.{formed}
 use Rattle.model.specs.Step.{act}
 use Rattle.model.specs.StepBytes
 use Rattle.model.specs.StepBytes.{all_questions, output_of, step_bytes}
-use Rattle.log.specs.Log.{is_refused}
-use Rattle.log.specs.Closest.{target, ClosestClaim}
+use Rattle.table_log.specs.Log.{is_refused}
+use Rattle.table_log.specs.Closest.{target, ClosestClaim}
 use Rattle.laws.proofs.Tests.{clash}
 use Rattle.laws.proofs.Questions.{without_room}
 use Rattle.laws.proofs.SavedSteps.{read_few}
@@ -33,7 +33,7 @@ use Rattle.codes.proofs.Thin.{few}
 use Rattle.claims.specs.Listed.{can_answer}
 use Rattle.claims.specs.Runs.{ClosestList}
 use Rattle.claims.specs.Exports.{Called, carries, seen, host_questions, HostRefusal, accepted_answer_of, answer_of}
-use Rattle.log.specs.Pending.{lists}
+use Rattle.table_log.specs.Pending.{lists}
 use Rattle.claims.proofs.Ran.{no_output}
 use Rattle.claims.proofs.Listed.{step_listed}
 use Rattle.claims.proofs.Refusals.{accepted_answer}
@@ -43,7 +43,7 @@ quiet : (c : Call) (s : List ℕ) {code : ℕ} {s' : List ℕ} → lists c ≡ f
 unfolding exported
 quiet c s h p = record { code = p.code; storage = p.storage; output = no_output c s h }
 
--- each contract is the equation with `exported` or `exportedWith`
+-- each contract is the equation with `exported` or `exported_with`
 pub sees : {c : Call} {answer s : List ℕ} {code : ℕ} {s' out' : List ℕ} → Called c answer s code s' out' → Writes code s' out' (seen c answer s)
 sees (Called.new _ _ _ _ _ _ _ _ _ _ p) = quiet _ _ refl p
 sees (Called.update_node_status _ _ _ _ _ _ _ _ _ p) = quiet _ _ refl p

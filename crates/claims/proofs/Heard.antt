@@ -5,8 +5,8 @@ use mathlib.Core.Bool.{Bool, cond, not}
 use mathlib.Core.List.{List, [], ◌∷◌, reverse, reverse_aux}
 use Rattle.model.specs.Base.{select}
 use Rattle.laws.proofs.Tests.{split}
-use Rattle.log.specs.Log.{Entry, Log, role, is_refused}
-use Rattle.log.specs.Pending.{since_made, count_of}
+use Rattle.table_log.specs.Log.{Entry, Log, role, is_refused}
+use Rattle.table_log.specs.Pending.{since_made, count_of}
 use Rattle.theorem.proofs.Fold.{enter_records, enter_role, enter, read_from}
 
 abbrev pub heard : List Entry → List Entry

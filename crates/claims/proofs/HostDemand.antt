@@ -26,8 +26,8 @@ use Rattle.laws.proofs.Parts.{part_splice_same}
 use Rattle.laws.proofs.KeepStep.{step_fits, new_fits}
 use Rattle.laws.proofs.TableBytes.{table_there, formed_there}
 use Rattle.laws.proofs.TableStep.{step_bytes_lem, new_bytes}
-use Rattle.log.specs.Log.{Entry, Log, log_of, log_bucket, no_settings}
-use Rattle.log.specs.Claim.{Claim, StorageClaim, table_after, entries}
+use Rattle.table_log.specs.Log.{Entry, Log, log_of, log_bucket, no_settings}
+use Rattle.table_log.specs.Claim.{Claim, StorageClaim, table_after, entries}
 use Rattle.theorem.proofs.Fold.{fresh}
 use Rattle.theorem.proofs.Literal.{fold_literal}
 use Rattle.theorem.proofs.Theorem.{theorem}

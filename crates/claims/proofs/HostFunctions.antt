@@ -1,4 +1,5 @@
--- The code of each of the table's exports meets its contract, and the contract requires nothing: every call returns so (specs/HostFunctions).
+-- The code of each of the table's functions that a C host calls, by kbuckets_c, meets its contract, and the contract requires nothing: every
+-- call returns so (specs/HostFunctions).
 use Rattle.kbuckets.proofs.kbuckets_new.Kinds as NewKinds
 use Rattle.kbuckets.proofs.kbuckets_new.Reads as New
 use Rattle.kbuckets.proofs.kbuckets_new.Symbol as NewSymbol
@@ -73,21 +74,21 @@ use Rattle.claims.proofs.Returns.{plain}
 pub host_functions : HostFunctions
 host_functions =
     record {
-      new = plain 2 NewKinds.ps NewKinds.r New.Post NewSymbol.routine (λ M. NewMet.met);
-      update_node_status = plain 2 UpdateNodeStatusKinds.ps UpdateNodeStatusKinds.r UpdateNodeStatus.Post UpdateNodeStatusSymbol.routine (λ M. UpdateNodeStatusMet.met);
-      update_node = plain 2 UpdateNodeKinds.ps UpdateNodeKinds.r UpdateNode.Post UpdateNodeSymbol.routine (λ M. UpdateNodeMet.met);
-      insert_or_update = plain 5 InsertOrUpdateKinds.ps InsertOrUpdateKinds.r InsertOrUpdate.Post InsertOrUpdateSymbol.routine (λ M. InsertOrUpdateMet.met);
-      remove = plain 2 RemoveKinds.ps RemoveKinds.r Remove.Post RemoveSymbol.routine (λ M. RemoveMet.met);
-      entry = plain 2 EntryKinds.ps EntryKinds.r Entry.Post EntrySymbol.routine (λ M. EntryMet.met);
-      present_update = plain 2 PresentUpdateKinds.ps PresentUpdateKinds.r PresentUpdate.Post PresentUpdateSymbol.routine (λ M. PresentUpdateMet.met);
-      pending_update = plain 2 PendingUpdateKinds.ps PendingUpdateKinds.r PendingUpdate.Post PendingUpdateSymbol.routine (λ M. PendingUpdateMet.met);
-      absent_insert = plain 5 AbsentInsertKinds.ps AbsentInsertKinds.r AbsentInsert.Post AbsentInsertSymbol.routine (λ M. AbsentInsertMet.met);
-      iter = plain 2 IterKinds.ps IterKinds.r Iter.Post IterSymbol.routine (λ M. IterMet.met);
-      nodes_by_distances = plain 3 NodesByDistancesKinds.ps NodesByDistancesKinds.r NodesByDistances.Post NodesByDistancesSymbol.routine (λ M. NodesByDistancesMet.met);
-      closest_keys = plain 3 ClosestKeysKinds.ps ClosestKeysKinds.r ClosestKeys.Post ClosestKeysSymbol.routine (λ M. ClosestKeysMet.met);
-      closest_values = plain 3 ClosestValuesKinds.ps ClosestValuesKinds.r ClosestValues.Post ClosestValuesSymbol.routine (λ M. ClosestValuesMet.met);
-      closest_values_predicate = plain 3 ClosestValuesPredicateKinds.ps ClosestValuesPredicateKinds.r ClosestValuesPredicate.Post ClosestValuesPredicateSymbol.routine (λ M. ClosestValuesPredicateMet.met);
-      take_applied_pending = plain 2 TakeAppliedPendingKinds.ps TakeAppliedPendingKinds.r TakeAppliedPending.Post TakeAppliedPendingSymbol.routine (λ M. TakeAppliedPendingMet.met);
-      read = plain 2 ReadKinds.ps ReadKinds.r Read.Post ReadSymbol.routine (λ M. ReadMet.met);
-      write = plain 2 WriteKinds.ps WriteKinds.r Write.Post WriteSymbol.routine (λ M. WriteMet.met);
+      new = plain 2 NewKinds.ps NewKinds.r New.Post NewSymbol.code NewSymbol.name (λ M. NewMet.met);
+      update_node_status = plain 2 UpdateNodeStatusKinds.ps UpdateNodeStatusKinds.r UpdateNodeStatus.Post UpdateNodeStatusSymbol.code UpdateNodeStatusSymbol.name (λ M. UpdateNodeStatusMet.met);
+      update_node = plain 2 UpdateNodeKinds.ps UpdateNodeKinds.r UpdateNode.Post UpdateNodeSymbol.code UpdateNodeSymbol.name (λ M. UpdateNodeMet.met);
+      insert_or_update = plain 5 InsertOrUpdateKinds.ps InsertOrUpdateKinds.r InsertOrUpdate.Post InsertOrUpdateSymbol.code InsertOrUpdateSymbol.name (λ M. InsertOrUpdateMet.met);
+      remove = plain 2 RemoveKinds.ps RemoveKinds.r Remove.Post RemoveSymbol.code RemoveSymbol.name (λ M. RemoveMet.met);
+      entry = plain 2 EntryKinds.ps EntryKinds.r Entry.Post EntrySymbol.code EntrySymbol.name (λ M. EntryMet.met);
+      present_update = plain 2 PresentUpdateKinds.ps PresentUpdateKinds.r PresentUpdate.Post PresentUpdateSymbol.code PresentUpdateSymbol.name (λ M. PresentUpdateMet.met);
+      pending_update = plain 2 PendingUpdateKinds.ps PendingUpdateKinds.r PendingUpdate.Post PendingUpdateSymbol.code PendingUpdateSymbol.name (λ M. PendingUpdateMet.met);
+      absent_insert = plain 5 AbsentInsertKinds.ps AbsentInsertKinds.r AbsentInsert.Post AbsentInsertSymbol.code AbsentInsertSymbol.name (λ M. AbsentInsertMet.met);
+      iter = plain 2 IterKinds.ps IterKinds.r Iter.Post IterSymbol.code IterSymbol.name (λ M. IterMet.met);
+      nodes_by_distances = plain 3 NodesByDistancesKinds.ps NodesByDistancesKinds.r NodesByDistances.Post NodesByDistancesSymbol.code NodesByDistancesSymbol.name (λ M. NodesByDistancesMet.met);
+      closest_keys = plain 3 ClosestKeysKinds.ps ClosestKeysKinds.r ClosestKeys.Post ClosestKeysSymbol.code ClosestKeysSymbol.name (λ M. ClosestKeysMet.met);
+      closest_values = plain 3 ClosestValuesKinds.ps ClosestValuesKinds.r ClosestValues.Post ClosestValuesSymbol.code ClosestValuesSymbol.name (λ M. ClosestValuesMet.met);
+      closest_values_predicate = plain 3 ClosestValuesPredicateKinds.ps ClosestValuesPredicateKinds.r ClosestValuesPredicate.Post ClosestValuesPredicateSymbol.code ClosestValuesPredicateSymbol.name (λ M. ClosestValuesPredicateMet.met);
+      take_applied_pending = plain 2 TakeAppliedPendingKinds.ps TakeAppliedPendingKinds.r TakeAppliedPending.Post TakeAppliedPendingSymbol.code TakeAppliedPendingSymbol.name (λ M. TakeAppliedPendingMet.met);
+      read = plain 2 ReadKinds.ps ReadKinds.r Read.Post ReadSymbol.code ReadSymbol.name (λ M. ReadMet.met);
+      write = plain 2 WriteKinds.ps WriteKinds.r Write.Post WriteSymbol.code WriteSymbol.name (λ M. WriteMet.met);
     }

@@ -15,9 +15,9 @@ use Rattle.model.specs.StepBytes.{all_questions, step_bytes}
 use Rattle.model.specs.Fits.{All, FitsCall}
 use Rattle.laws.proofs.Tests.{clash}
 use Rattle.laws.proofs.TableBytes.{table_there}
-use Rattle.log.specs.Log.{Entry, is_refused}
-use Rattle.log.specs.Claim.{table_after, entries}
-use Rattle.log.specs.Pending.{pending_answer, still_waiting, Conserved, due_ended, one_record}
+use Rattle.table_log.specs.Log.{Entry, is_refused}
+use Rattle.table_log.specs.Claim.{table_after, entries}
+use Rattle.table_log.specs.Pending.{pending_answer, still_waiting, Conserved, due_ended, one_record}
 use Rattle.theorem.proofs.Theorem.{theorem_conserved}
 use Rattle.codes.specs.Codes.{answer_code}
 use Rattle.claims.specs.Runs.{fed, PendingClaim}

@@ -5,7 +5,7 @@ use Prim.Native.Nat.{ℕ}
 use mathlib.Core.Path.{◌≡◌, sym, ap, ◌∙◌}
 use mathlib.Core.Bool.{false, cond}
 use mathlib.Core.List.{List, []}
-use mathlib.Core.Option.{Option, none, some}
+use mathlib.Core.Option.{none, some}
 use Rattle.model.specs.Base.{is_some}
 use Rattle.model.specs.Table.{Answer}
 use Rattle.model.specs.Session.{Session, has_windows, hours_fit, hours_questions}

@@ -15,10 +15,10 @@ use Rattle.model.specs.Sizes.{storage_size}
 use Rattle.model.specs.Call.{Call}
 use Rattle.model.specs.Listing.{applies}
 use Rattle.model.specs.Question.{first_failed, clock_fits}
-use Rattle.model.specs.Step.{Outcome, on_key, take_oldest, act, bytes_fit, step}
+use Rattle.model.specs.Step.{Outcome, on_key, own_answer, effect, take_oldest, act, bytes_fit, step}
 use Rattle.model.specs.Layout.{table_of}
 use Rattle.model.specs.Formed.{formed, header_formed}
-use Rattle.model.specs.StepBytes.{every_bucket, reads, holds_header, touched, all_questions, unless_refused_bytes, step_bytes}
+use Rattle.model.specs.StepBytes.{reads, holds_header, touched, all_questions, unless_refused_bytes, step_bytes}
 use Rattle.model.specs.Fits.{All, FitsRecord, FitsSettings, Fits, FitsCall}
 use Rattle.laws.proofs.Tests.{clash}
 use Rattle.laws.proofs.Questions.{AcceptedBytes, accepted_bytes}
@@ -72,7 +72,7 @@ stepped_records c s z =
 act_settings : (c : Call) (t : Table) → touches_all c ≡ false → (act c t).table.settings ≡ t.settings
 unfolding act
 act_settings (Call.new k timeout m tf bf) t n = clash refl n
-act_settings (Call.on_key k c) t n = on_key_lem _ _ (index_in t (number k))
+act_settings (Call.on_key k c) t n = on_key_lem (own_answer c) (effect c k t) (index_in t (number k))
   where
     on_key_lem : (self : Answer) (f : ℕ → Bucket → Effect) (o : Option ℕ) → (on_key t self f o).table.settings ≡ t.settings
     on_key_lem self f none = refl

@@ -2,6 +2,7 @@
 -- Every call of the code is such a run: EntryPoints, HostFunctions. The promise of a member's own old record, that a table survives a box
 -- swap, and that buckets elsewhere stop no call, for both. What session hours admit.
 pub mod Returns
+pub mod Linked
 pub mod EntryPoints
 pub mod HostFunctions
 pub mod Ran

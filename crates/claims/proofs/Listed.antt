@@ -16,7 +16,7 @@ use Rattle.model.specs.Question.{first_failed, key_arguments, kind_fits}
 use Rattle.model.specs.Layout.{table_of}
 use Rattle.model.specs.Step.{on_key, node_of, own_answer, effect, take_oldest, act}
 use Rattle.model.specs.StepBytes.{all_questions, unless_refused_bytes, step_bytes}
-use Rattle.log.specs.Log.{is_refused}
+use Rattle.table_log.specs.Log.{is_refused}
 use Rattle.laws.proofs.Tests.{clash, cases, or_second}
 use Rattle.laws.proofs.Questions.{accepted_bytes}
 use Rattle.laws.proofs.Unreachable.{absent_not_held, absent_not_exists, present_held, present_stays}

@@ -8,8 +8,8 @@ use Rattle.model.specs.Bytes.{Bytes}
 use Rattle.model.specs.Table.{Answer}
 use Rattle.model.specs.Call.{Listing, Call}
 use Rattle.model.specs.Formed.{formed}
-use Rattle.log.specs.Log.{is_refused}
-use Rattle.log.specs.Closest.{target, ClosestClaim}
+use Rattle.table_log.specs.Log.{is_refused}
+use Rattle.table_log.specs.Closest.{target, ClosestClaim}
 use Rattle.theorem.proofs.Theorem.{theorem_closest}
 use Rattle.claims.specs.Ran.{Ran}
 use Rattle.claims.specs.Runs.{ClosestList}

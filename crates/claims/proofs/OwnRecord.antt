@@ -3,7 +3,7 @@
 -- storage, of the functions that a C host calls on the bytes of a table that fits. With eleven held it can: model/specs/Cases.
 use Prim.Native.Nat.{ℕ}
 use mathlib.Core.Path.{◌≡◌, refl, sym, ap, ◌∙◌}
-use mathlib.Core.Bool.{Bool, true, false, not}
+use mathlib.Core.Bool.{Bool, false, not}
 use mathlib.Core.List.{List}
 use mathlib.Core.Logic.{◌⊎◌, inl, inr}
 use mathlib.Core.Option.{Option, none, some, some-injective}
@@ -13,7 +13,7 @@ use Rattle.model.specs.Bytes.{number}
 use Rattle.model.specs.Value.{Value}
 use Rattle.model.specs.Bucket.{Bucket}
 use Rattle.model.specs.Table.{Table, Answer, fails_table_filter, index_in}
-use Rattle.model.specs.Call.{ValueArgument, Call, KeyCall, value_of, optional}
+use Rattle.model.specs.Call.{Call, KeyCall, value_of, optional}
 use Rattle.model.specs.Question.{first_failed}
 use Rattle.model.specs.Step.{node_of, on_key, own_answer, effect, act, questions, unless_refused, step}
 use Rattle.model.specs.Layout.{bytes_of, table_of}

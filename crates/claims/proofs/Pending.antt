@@ -20,9 +20,9 @@ use Rattle.laws.proofs.Tests.{clash, or_second}
 use Rattle.laws.proofs.Questions.{accepted_bytes}
 use Rattle.laws.proofs.KeepStep.{step_accepted}
 use Rattle.laws.proofs.TableBytes.{table_there}
-use Rattle.log.specs.Log.{Entry, is_refused}
-use Rattle.log.specs.Claim.{table_after, entries}
-use Rattle.log.specs.Pending.{Conserved, due_ended, lists, one_record}
+use Rattle.table_log.specs.Log.{Entry, is_refused}
+use Rattle.table_log.specs.Claim.{table_after, entries}
+use Rattle.table_log.specs.Pending.{Conserved, due_ended, lists, one_record}
 use Rattle.theorem.proofs.Theorem.{theorem_conserved, theorem_due, theorem_one}
 use Rattle.claims.specs.Ran.{Ran}
 use Rattle.claims.specs.Runs.{behind, fed, Runs, PendingClaim}

@@ -1,4 +1,4 @@
--- Each contract is the equation with `stepBytes`: what a call of the code answers and leaves is what the model says.
+-- Each contract is the equation with `step_bytes`: what a call of the code answers and leaves is what the model says.
 use Prim.Native.Nat.{ℕ}
 use mathlib.Core.Path.{◌≡◌, refl, sym, ap₂}
 use mathlib.Core.Bool.{false}
@@ -12,11 +12,11 @@ use Rattle.model.specs.Table.{Table, Answer, Effect, index_in}
 use Rattle.model.specs.Call.{Call}
 use Rattle.model.specs.Listing.{Item}
 use Rattle.model.specs.Question.{first_failed}
-use Rattle.model.specs.Step.{on_key, take_oldest, act}
+use Rattle.model.specs.Step.{on_key, own_answer, effect, take_oldest, act}
 use Rattle.model.specs.Layout.{table_of}
 use Rattle.model.specs.StepBytes.{all_questions, output_of, written, unless_refused_bytes, step_bytes}
 use Rattle.laws.proofs.Tests.{clash}
-use Rattle.log.specs.Pending.{lists}
+use Rattle.table_log.specs.Pending.{lists}
 use Rattle.on_key.specs.Answers.{Answers}
 use Rattle.items.specs.Lists.{Lists}
 use Rattle.claims.specs.Ran.{Ran}
@@ -26,7 +26,7 @@ use Rattle.claims.specs.Ran.{Ran}
 no_items : (c : Call) (t : Table) → lists c ≡ false → ((act c t).items ≡ []) × (output_of c ≡ [])
 unfolding act
 no_items (Call.new k timeout m tf bf) t h = (refl, refl)
-no_items (Call.on_key k c) t h = (on_key_lem _ _ (index_in t (number k)), refl)
+no_items (Call.on_key k c) t h = (on_key_lem (own_answer c) (effect c k t) (index_in t (number k)), refl)
   where
     on_key_lem : (self : Answer) (f : ℕ → Bucket → Effect) (o : Option ℕ) → (on_key t self f o).items ≡ []
     on_key_lem self f none = refl

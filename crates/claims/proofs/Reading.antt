@@ -12,7 +12,7 @@ use Rattle.model.specs.Bytes.{number, bytes, part}
 use Rattle.model.specs.Node.{Node, PendingNode, EndedPending}
 use Rattle.model.specs.Result.{FailureReason, BucketInsertResult, UpdateResult, InsertResult, is_failed}
 use Rattle.model.specs.Bucket.{Bucket, BucketSettings, holds, fails_bucket_filter, is_max_incoming, is_full, insert_full, insert, update_status, update_value}
-use Rattle.model.specs.Table.{Table, EntryKind, Answer, fails_table_filter, insert_updates, inserts, insert_or_update_in, kind_of}
+use Rattle.model.specs.Table.{Table, EntryKind, Answer, fails_table_filter, insert_updates, inserts, insert_or_update_in}
 use Rattle.model.specs.Sizes.{key_size, record_size}
 use Rattle.model.specs.Call.{Call, KeyCall, is_one, optional, value_of}
 use Rattle.model.specs.Layout.{record_bytes, record_in}
@@ -198,7 +198,7 @@ take_read t bs (a ∷ q) h f =
     ap (λ (x : EndedPending). Answer.TakeAppliedPending (some x))
     (ap record_in (front_at bs (record_bytes a) record_size (length_record a) f) ∙ record_there a h.0)
 
--- the bytes that an answer carries have room in `answerSize`
+-- the bytes that an answer carries have room in `answer_size`
 insert_short : (r : InsertResult) → length (insert_bytes r) ≤ answer_size
 insert_short InsertResult.Inserted = omega arith
 insert_short (InsertResult.Pending k) = let e = length_bytes key_size k in omega arith

@@ -11,7 +11,7 @@ use Rattle.model.specs.Table.{Table, Answer, Effect, index_in}
 use Rattle.model.specs.Call.{Call}
 use Rattle.model.specs.Listing.{apply_all, applies}
 use Rattle.model.specs.Question.{first_failed}
-use Rattle.model.specs.Step.{on_key, take_oldest, act, questions, unless_refused, step}
+use Rattle.model.specs.Step.{on_key, own_answer, effect, take_oldest, act, questions, unless_refused, step}
 use Rattle.laws.proofs.Applied.{apply_all_queue}
 use Rattle.claims.specs.Runs.{behind}
 
@@ -35,7 +35,7 @@ taken t (a ∷ q) e = one_less a q
 pub of_act : (c : Call) (t : Table) → behind t.queue (act c t).table.queue ≡ (act c t).records
 unfolding act
 of_act (Call.new k timeout m tf bf) t = nothing_behind t.queue
-of_act (Call.on_key k c) t = on_key_lem t _ _ (index_in t (number k))
+of_act (Call.on_key k c) t = on_key_lem t (own_answer c) (effect c k t) (index_in t (number k))
 of_act (Call.list l n now out) t =
     ap (behind t.queue) (apply_all_queue now (applies l n now t) t) ∙ drop-append_seam t.queue (apply_all now (applies l n now t) t).1
 of_act Call.take_applied_pending t = taken t t.queue refl

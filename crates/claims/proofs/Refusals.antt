@@ -10,7 +10,7 @@ use Rattle.model.specs.Question.{first_failed}
 use Rattle.model.specs.Layout.{table_of}
 use Rattle.model.specs.Step.{act}
 use Rattle.model.specs.StepBytes.{all_questions, unless_refused_bytes, step_bytes}
-use Rattle.log.specs.Log.{is_refused}
+use Rattle.table_log.specs.Log.{is_refused}
 use Rattle.laws.proofs.Tests.{clash}
 use Rattle.laws.proofs.Questions.{accepted_bytes}
 use Rattle.claims.specs.Listed.{Kinds, among, kinds_of}

@@ -4,9 +4,9 @@
 use Prim.Native.Nat.{ℕ, ◌-◌, ◌≤◌}
 use native.Mathlib.Omega.{arith}
 use mathlib.Core.Path.{◌≡◌, refl, sym, ap, ap₂, ◌∙◌, subst⁻¹}
-use mathlib.Core.Bool.{Bool, true, false, cond}
-use mathlib.Core.List.{List, [], ◌∷◌}
-use mathlib.Core.Option.{Option, none, some}
+use mathlib.Core.Bool.{Bool, cond}
+use mathlib.Core.List.{List, ◌∷◌}
+use mathlib.Core.Option.{Option, some}
 use lib.ListN.{length}
 use borrow.Author.Tests.{le-leb, lt-leb}
 use Rattle.model.specs.Bytes.{Bytes}
@@ -21,8 +21,8 @@ use Rattle.model.specs.StepBytes.{Replied, BytesOutcome, write_questions, tell_u
 use Rattle.model.specs.Fits.{All, Fits, FitsCall}
 use Rattle.laws.proofs.TableBytes.{table_there}
 use Rattle.laws.proofs.SavedSteps.{write_few, read_back}
-use Rattle.log.specs.Log.{Entry}
-use Rattle.log.specs.Claim.{StorageClaim}
+use Rattle.table_log.specs.Log.{Entry}
+use Rattle.table_log.specs.Claim.{StorageClaim}
 use Rattle.theorem.proofs.Survives.{theorem_survives}
 use Rattle.on_key.specs.Answers.{Replies}
 use Rattle.codes.specs.Codes.{refused_code}
@@ -36,7 +36,7 @@ use Rattle.claims.proofs.Demand.{made, demand_3}
 use Rattle.claims.proofs.Exports.{sees, load_read}
 use Rattle.claims.proofs.HostDemand.{new_accepted, host_made, export_demand_3}
 
--- each contract is the equation with `writeBytes`
+-- each contract is the equation with `write_bytes`
 abbrev pub Puts : (s out : List ℕ) (a : Reply ℕ) (out' : List ℕ) → Type 0
 Puts s out a out' = Replies a out' (write_bytes out s)
 
@@ -127,10 +127,10 @@ pub survives : (k : List ℕ) (timeout m tf bf : ℕ) (cs : List Call) (s r none
     → Ran (Call.new k₁ timeout₁ m₁ tf₁ bf₁) z Answer.New y none₁ → (table_of y).settings ≡ (table_of s').settings
     → {a : Answer} {s'' none₂ : List ℕ} → Ran (Call.read (put_out (held_count s') out')) y a s'' none₂
     → Survives s' w a s''
-survives k timeout m tf bf cs s r none₀ es s' h run runs {out} wrote room k₁ timeout₁ m₁ tf₁ bf₁ z y none₁ g new same {a} {s''} read =
+survives k timeout m tf bf cs s r none₀ es s' h run runs {out} wrote room k₁ timeout₁ m₁ tf₁ bf₁ z y none₁ g made_new same {a} {s''} taken =
     let x = (made k timeout m tf bf cs s r none₀ es s' h run runs).0 in
-    let n = equation new in
-    let q = equation read in
+    let n = equation made_new in
+    let q = equation taken in
     moved _ s' (demand_3 k timeout m tf bf cs s r none₀ es s' h run runs) _ x.storage x.fits out (puts wrote) room k₁ timeout₁ m₁ tf₁ bf₁ z y g (sym n.answer) n.storage
     same a s'' q.answer q.storage
 
@@ -144,10 +144,10 @@ pub export_survives : (k : List ℕ) (timeout m tf bf : ℕ) (cs : List Call) (a
     → {answer₂ : List ℕ} {code₂ : ℕ} {s'' none₂ : List ℕ} → Called (Call.read (put_out (held_count s') out')) answer₂ y code₂ s'' none₂
     → Survives s' (reply_of code) (answer_of (Call.read (put_out (held_count s') out')) code₂ none₂) s''
 unfolding exported
-export_survives k timeout m tf bf cs answer s r none₀ es s' h run runs {out} {out' = out'} wrote room k₁ timeout₁ m₁ tf₁ bf₁ answer₁ z y none₁ g new same {code₂ = code₂} {s''} {none₂} read =
+export_survives k timeout m tf bf cs answer s r none₀ es s' h run runs {out} {out' = out'} wrote room k₁ timeout₁ m₁ tf₁ bf₁ answer₁ z y none₁ g made_new same {code₂ = code₂} {s''} {none₂} taken =
     let x = host_made k timeout m tf bf cs answer s r none₀ es s' h run runs in
-    let n = sees new in
-    let q = sees read in
+    let n = sees made_new in
+    let q = sees taken in
     let bs : List ℕ = put_out (held_count s') out' in
     moved _ s' (export_demand_3 k timeout m tf bf cs answer s r none₀ es s' h run runs) _ x.storage x.fits out (host_puts wrote) room k₁ timeout₁ m₁ tf₁ bf₁ z y g
     (new_accepted k₁ timeout₁ m₁ tf₁ bf₁ z n.code) n.storage same (answer_of (Call.read bs) code₂ none₂) s''

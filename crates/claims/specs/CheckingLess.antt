@@ -10,7 +10,7 @@ use Rattle.model.specs.Layout.{bytes_of, bucket_part, table_of}
 use Rattle.model.specs.Formed.{formed}
 use Rattle.model.specs.StepBytes.{reads, output_of, written, touched}
 use Rattle.model.specs.Fits.{All}
-use Rattle.log.specs.Pending.{lists}
+use Rattle.table_log.specs.Pending.{lists}
 use Rattle.claims.specs.Runs.{behind}
 
 -- two storages with the settings and the queue, and with the buckets named, in common

@@ -13,7 +13,7 @@ use Rattle.session.specs.Hours.{session_of}
 use Rattle.codes.specs.Codes.{refused_code, answer_size}
 use Rattle.model.specs.Question.{with_room}
 use Rattle.codes.specs.Exported.{Exported, exported, exported_with}
-use Rattle.log.specs.Log.{Entry}
+use Rattle.table_log.specs.Log.{Entry}
 use Rattle.kbuckets.proofs.kbuckets_new.Reads as New
 use Rattle.kbuckets.proofs.kbuckets_update_node_status.Reads as UpdateNodeStatus
 use Rattle.kbuckets.proofs.kbuckets_update_node.Reads as UpdateNode
@@ -30,67 +30,67 @@ use Rattle.kbuckets.proofs.kbuckets_closest_values.Reads as ClosestValues
 use Rattle.kbuckets.proofs.kbuckets_closest_values_predicate.Reads as ClosestValuesPredicate
 use Rattle.kbuckets.proofs.kbuckets_take_applied_pending.Reads as TakeAppliedPending
 use Rattle.kbuckets.proofs.kbuckets_read.Reads as Read
-use Rattle.claims.specs.Ran.{◌&◌, Slice}
+use Rattle.claims.specs.Ran.{◌&◌, Slice, Lent}
 use Rattle.claims.specs.Runs.{fed}
 
--- A call of an export: code is the number that it returned, s and s' the storage before and after, answer the bytes lent for what the answer
--- carries, empty where it carries nothing, out' what stands in them after the call, or in the output of a listing. The export's contract
--- holds of what it was given, in the order of its parameters, of the code, and of what is left.
+-- A call of a function that a C host calls, by kbuckets_c: code is the number that it returned, s and s' the storage before and after, answer
+-- the bytes lent for what the answer carries, empty where it carries nothing, out' what stands in them after the call, or in the output of a
+-- listing. The function's contract holds of what it was given, in the order of its parameters, of the code, and of what is left.
 pub data Called : (c : Call) (answer s : List ℕ) (code : ℕ) (s' out' : List ℕ) → Type 0 where
-  new : (κs : Lfts 2) (s key s' : Slice) (timeout m tf bf : ℕ) (code : ℕ) (others : _)
+  new : (κs : Lfts 2) (s : Lent) (key : Slice) (s' : Lent) (timeout m tf bf : ℕ) (code : ℕ) (others : _)
       → New.Post κs (s & key & timeout & m & tf & bf & tt) code (s' & others)
       → Called (Call.new key.now timeout m tf bf) [] s.now code s'.now []
-  update_node_status : (κs : Lfts 2) (s key s' : Slice) (state direction time : ℕ) (code : ℕ) (others : _)
+  update_node_status : (κs : Lfts 2) (s : Lent) (key : Slice) (s' : Lent) (state direction time : ℕ) (code : ℕ) (others : _)
       → UpdateNodeStatus.Post κs (s & key & state & direction & time & tt) code (s' & others)
       → Called (Call.on_key key.now (KeyCall.update_node_status state direction time)) [] s.now code s'.now []
-  update_node : (κs : Lfts 2) (s key s' : Slice) (flag a b c d slot state time : ℕ) (code : ℕ) (others : _)
+  update_node : (κs : Lfts 2) (s : Lent) (key : Slice) (s' : Lent) (flag a b c d slot state time : ℕ) (code : ℕ) (others : _)
       → UpdateNode.Post κs (s & key & flag & a & b & c & d & slot & state & time & tt) code (s' & others)
       → Called (Call.on_key key.now (KeyCall.update_node (record { flag = flag; a = a; b = b; c = c; d = d; slot = slot }) state time)) [] s.now code s'.now []
-  insert_or_update : (κs : Lfts 5) (s key windows closed answer s' key' windows' closed' answer' : Slice) (flag a b c d slot state direction time year month day minute : ℕ)
+  insert_or_update : (κs : Lfts 5) (s : Lent) (key windows closed : Slice) (answer s' : Lent) (key' windows' closed' : Slice) (answer' : Lent) (flag a b c d slot state direction time year month day minute : ℕ)
       (flag' a' b' c' d' slot' state' direction' time' year' month' day' minute' : ℕ) (code : ℕ)
       → InsertOrUpdate.Post κs (s & key & flag & a & b & c & d & slot & state & direction & time & windows & closed & year & month & day & minute & answer & tt) code
       (s' & key' & flag' & a' & b' & c' & d' & slot' & state' & direction' & time' & windows' & closed' & year' & month' & day' & minute' & answer' & tt)
       → Called (Call.on_key key.now (KeyCall.insert_or_update (record { flag = flag; a = a; b = b; c = c; d = d; slot = slot }) state direction time
       (session_of windows.now closed.now (record { year = year; month = month; day = day; minute = minute })))) answer.now s.now code s'.now answer'.now
-  remove : (κs : Lfts 2) (s key s' : Slice) (time : ℕ) (code : ℕ) (others : _)
+  remove : (κs : Lfts 2) (s : Lent) (key : Slice) (s' : Lent) (time : ℕ) (code : ℕ) (others : _)
       → Remove.Post κs (s & key & time & tt) code (s' & others)
       → Called (Call.on_key key.now (KeyCall.remove time)) [] s.now code s'.now []
-  entry : (κs : Lfts 2) (s key s' : Slice) (time : ℕ) (code : ℕ) (others : _)
+  entry : (κs : Lfts 2) (s : Lent) (key : Slice) (s' : Lent) (time : ℕ) (code : ℕ) (others : _)
       → EntryOf.Post κs (s & key & time & tt) code (s' & others)
       → Called (Call.on_key key.now (KeyCall.entry time)) [] s.now code s'.now []
-  present_update : (κs : Lfts 2) (s key s' : Slice) (state direction : ℕ) (code : ℕ) (others : _)
+  present_update : (κs : Lfts 2) (s : Lent) (key : Slice) (s' : Lent) (state direction : ℕ) (code : ℕ) (others : _)
       → PresentUpdate.Post κs (s & key & state & direction & tt) code (s' & others)
       → Called (Call.on_key key.now (KeyCall.present_update state direction)) [] s.now code s'.now []
-  pending_update : (κs : Lfts 2) (s key s' : Slice) (state direction : ℕ) (code : ℕ) (others : _)
+  pending_update : (κs : Lfts 2) (s : Lent) (key : Slice) (s' : Lent) (state direction : ℕ) (code : ℕ) (others : _)
       → PendingUpdate.Post κs (s & key & state & direction & tt) code (s' & others)
       → Called (Call.on_key key.now (KeyCall.pending_update state direction)) [] s.now code s'.now []
-  absent_insert : (κs : Lfts 5) (s key windows closed answer s' key' windows' closed' answer' : Slice) (flag a b c d slot state direction time year month day minute : ℕ)
+  absent_insert : (κs : Lfts 5) (s : Lent) (key windows closed : Slice) (answer s' : Lent) (key' windows' closed' : Slice) (answer' : Lent) (flag a b c d slot state direction time year month day minute : ℕ)
       (flag' a' b' c' d' slot' state' direction' time' year' month' day' minute' : ℕ) (code : ℕ)
       → AbsentInsert.Post κs (s & key & flag & a & b & c & d & slot & state & direction & time & windows & closed & year & month & day & minute & answer & tt) code
       (s' & key' & flag' & a' & b' & c' & d' & slot' & state' & direction' & time' & windows' & closed' & year' & month' & day' & minute' & answer' & tt)
       → Called (Call.on_key key.now (KeyCall.absent_insert (record { flag = flag; a = a; b = b; c = c; d = d; slot = slot }) state direction time
       (session_of windows.now closed.now (record { year = year; month = month; day = day; minute = minute })))) answer.now s.now code s'.now answer'.now
-  iter : (κs : Lfts 2) (s out s' out' : Slice) (n time n' time' : ℕ) (code : ℕ)
+  iter : (κs : Lfts 2) (s out s' out' : Lent) (n time n' time' : ℕ) (code : ℕ)
       → Iter.Post κs (s & n & time & out & tt) code (s' & n' & time' & out' & tt)
       → Called (Call.list Listing.iter n time out.now) [] s.now code s'.now out'.now
-  nodes_by_distances : (κs : Lfts 3) (s distances out s' distances' out' : Slice) (n time n' time' : ℕ) (code : ℕ)
+  nodes_by_distances : (κs : Lfts 3) (s : Lent) (distances : Slice) (out s' : Lent) (distances' : Slice) (out' : Lent) (n time n' time' : ℕ) (code : ℕ)
       → NodesByDistances.Post κs (s & distances & n & time & out & tt) code (s' & distances' & n' & time' & out' & tt)
       → Called (Call.list (Listing.nodes_by_distances distances.now) n time out.now) [] s.now code s'.now out'.now
-  closest_keys : (κs : Lfts 3) (s target out s' target' out' : Slice) (n time n' time' : ℕ) (code : ℕ)
+  closest_keys : (κs : Lfts 3) (s : Lent) (target : Slice) (out s' : Lent) (target' : Slice) (out' : Lent) (n time n' time' : ℕ) (code : ℕ)
       → ClosestKeys.Post κs (s & target & n & time & out & tt) code (s' & target' & n' & time' & out' & tt)
       → Called (Call.list (Listing.closest_keys target.now) n time out.now) [] s.now code s'.now out'.now
-  closest_values : (κs : Lfts 3) (s target out s' target' out' : Slice) (n time n' time' : ℕ) (code : ℕ)
+  closest_values : (κs : Lfts 3) (s : Lent) (target : Slice) (out s' : Lent) (target' : Slice) (out' : Lent) (n time n' time' : ℕ) (code : ℕ)
       → ClosestValues.Post κs (s & target & n & time & out & tt) code (s' & target' & n' & time' & out' & tt)
       → Called (Call.list (Listing.closest_values target.now) n time out.now) [] s.now code s'.now out'.now
-  closest_values_predicate : (κs : Lfts 3) (s target out s' target' out' : Slice) (predicate a b c slot n time : ℕ) (predicate' a' b' c' slot' n' time' : ℕ) (code : ℕ)
+  closest_values_predicate : (κs : Lfts 3) (s : Lent) (target : Slice) (out s' : Lent) (target' : Slice) (out' : Lent) (predicate a b c slot n time : ℕ) (predicate' a' b' c' slot' n' time' : ℕ) (code : ℕ)
       → ClosestValuesPredicate.Post κs (s & target & predicate & a & b & c & slot & n & time & out & tt) code
       (s' & target' & predicate' & a' & b' & c' & slot' & n' & time' & out' & tt)
       → Called (Call.list (Listing.closest_values_predicate target.now (record { predicate = predicate; a = a; b = b; c = c; slot = slot })) n time out.now) []
       s.now code s'.now out'.now
-  take_applied_pending : (κs : Lfts 2) (s answer s' answer' : Slice) (code : ℕ)
+  take_applied_pending : (κs : Lfts 2) (s answer s' answer' : Lent) (code : ℕ)
       → TakeAppliedPending.Post κs (s & answer & tt) code (s' & answer' & tt)
       → Called Call.take_applied_pending answer.now s.now code s'.now answer'.now
-  read : (κs : Lfts 2) (s bytes s' : Slice) (code : ℕ) (others : _)
+  read : (κs : Lfts 2) (s : Lent) (bytes : Slice) (s' : Lent) (code : ℕ) (others : _)
       → Read.Post κs (s & bytes & tt) code (s' & others)
       → Called (Call.read bytes.now) [] s.now code s'.now []
 

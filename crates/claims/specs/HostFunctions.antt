@@ -1,5 +1,5 @@
--- Every call of one of the table's exports returns, and its contract holds of what it was given, returned and left: what `Called`
--- (specs/Exports) takes.
+-- Every call of one of the table's functions that a C host calls, by kbuckets_c, returns, and its contract holds of what it was given,
+-- returned and left: what `Called` (specs/Exports) takes.
 use Rattle.kbuckets.proofs.kbuckets_new.Kinds as NewKinds
 use Rattle.kbuckets.proofs.kbuckets_new.Reads as New
 use Rattle.kbuckets.proofs.kbuckets_new.Symbol as NewSymbol
@@ -54,20 +54,20 @@ use Rattle.kbuckets.proofs.kbuckets_write.Symbol as WriteSymbol
 use Rattle.claims.specs.Returns.{Returns}
 
 pub record HostFunctions : Type 2 where
-  pub new : Returns 2 NewKinds.ps NewKinds.r New.Post NewSymbol.routine
-  pub update_node_status : Returns 2 UpdateNodeStatusKinds.ps UpdateNodeStatusKinds.r UpdateNodeStatus.Post UpdateNodeStatusSymbol.routine
-  pub update_node : Returns 2 UpdateNodeKinds.ps UpdateNodeKinds.r UpdateNode.Post UpdateNodeSymbol.routine
-  pub insert_or_update : Returns 5 InsertOrUpdateKinds.ps InsertOrUpdateKinds.r InsertOrUpdate.Post InsertOrUpdateSymbol.routine
-  pub remove : Returns 2 RemoveKinds.ps RemoveKinds.r Remove.Post RemoveSymbol.routine
-  pub entry : Returns 2 EntryKinds.ps EntryKinds.r Entry.Post EntrySymbol.routine
-  pub present_update : Returns 2 PresentUpdateKinds.ps PresentUpdateKinds.r PresentUpdate.Post PresentUpdateSymbol.routine
-  pub pending_update : Returns 2 PendingUpdateKinds.ps PendingUpdateKinds.r PendingUpdate.Post PendingUpdateSymbol.routine
-  pub absent_insert : Returns 5 AbsentInsertKinds.ps AbsentInsertKinds.r AbsentInsert.Post AbsentInsertSymbol.routine
-  pub iter : Returns 2 IterKinds.ps IterKinds.r Iter.Post IterSymbol.routine
-  pub nodes_by_distances : Returns 3 NodesByDistancesKinds.ps NodesByDistancesKinds.r NodesByDistances.Post NodesByDistancesSymbol.routine
-  pub closest_keys : Returns 3 ClosestKeysKinds.ps ClosestKeysKinds.r ClosestKeys.Post ClosestKeysSymbol.routine
-  pub closest_values : Returns 3 ClosestValuesKinds.ps ClosestValuesKinds.r ClosestValues.Post ClosestValuesSymbol.routine
-  pub closest_values_predicate : Returns 3 ClosestValuesPredicateKinds.ps ClosestValuesPredicateKinds.r ClosestValuesPredicate.Post ClosestValuesPredicateSymbol.routine
-  pub take_applied_pending : Returns 2 TakeAppliedPendingKinds.ps TakeAppliedPendingKinds.r TakeAppliedPending.Post TakeAppliedPendingSymbol.routine
-  pub read : Returns 2 ReadKinds.ps ReadKinds.r Read.Post ReadSymbol.routine
-  pub write : Returns 2 WriteKinds.ps WriteKinds.r Write.Post WriteSymbol.routine
+  pub new : Returns 2 NewKinds.ps NewKinds.r New.Post NewSymbol.code NewSymbol.name
+  pub update_node_status : Returns 2 UpdateNodeStatusKinds.ps UpdateNodeStatusKinds.r UpdateNodeStatus.Post UpdateNodeStatusSymbol.code UpdateNodeStatusSymbol.name
+  pub update_node : Returns 2 UpdateNodeKinds.ps UpdateNodeKinds.r UpdateNode.Post UpdateNodeSymbol.code UpdateNodeSymbol.name
+  pub insert_or_update : Returns 5 InsertOrUpdateKinds.ps InsertOrUpdateKinds.r InsertOrUpdate.Post InsertOrUpdateSymbol.code InsertOrUpdateSymbol.name
+  pub remove : Returns 2 RemoveKinds.ps RemoveKinds.r Remove.Post RemoveSymbol.code RemoveSymbol.name
+  pub entry : Returns 2 EntryKinds.ps EntryKinds.r Entry.Post EntrySymbol.code EntrySymbol.name
+  pub present_update : Returns 2 PresentUpdateKinds.ps PresentUpdateKinds.r PresentUpdate.Post PresentUpdateSymbol.code PresentUpdateSymbol.name
+  pub pending_update : Returns 2 PendingUpdateKinds.ps PendingUpdateKinds.r PendingUpdate.Post PendingUpdateSymbol.code PendingUpdateSymbol.name
+  pub absent_insert : Returns 5 AbsentInsertKinds.ps AbsentInsertKinds.r AbsentInsert.Post AbsentInsertSymbol.code AbsentInsertSymbol.name
+  pub iter : Returns 2 IterKinds.ps IterKinds.r Iter.Post IterSymbol.code IterSymbol.name
+  pub nodes_by_distances : Returns 3 NodesByDistancesKinds.ps NodesByDistancesKinds.r NodesByDistances.Post NodesByDistancesSymbol.code NodesByDistancesSymbol.name
+  pub closest_keys : Returns 3 ClosestKeysKinds.ps ClosestKeysKinds.r ClosestKeys.Post ClosestKeysSymbol.code ClosestKeysSymbol.name
+  pub closest_values : Returns 3 ClosestValuesKinds.ps ClosestValuesKinds.r ClosestValues.Post ClosestValuesSymbol.code ClosestValuesSymbol.name
+  pub closest_values_predicate : Returns 3 ClosestValuesPredicateKinds.ps ClosestValuesPredicateKinds.r ClosestValuesPredicate.Post ClosestValuesPredicateSymbol.code ClosestValuesPredicateSymbol.name
+  pub take_applied_pending : Returns 2 TakeAppliedPendingKinds.ps TakeAppliedPendingKinds.r TakeAppliedPending.Post TakeAppliedPendingSymbol.code TakeAppliedPendingSymbol.name
+  pub read : Returns 2 ReadKinds.ps ReadKinds.r Read.Post ReadSymbol.code ReadSymbol.name
+  pub write : Returns 2 WriteKinds.ps WriteKinds.r Write.Post WriteSymbol.code WriteSymbol.name

@@ -1,6 +1,6 @@
 -- Admission in session hours (02, slip 8): what is promised of a call that is given hours, for every storage.
 use Rattle.std.specs.Prelude.{ℕ, ◌≡◌, Bool, true, false, not, ◌||◌, List}
-use Rattle.std.proofs.Math.Option.{Option, none}
+use Rattle.std.proofs.Math.Option.{none}
 use Rattle.model.specs.Base.{is_some}
 use Rattle.model.specs.Table.{Answer}
 use Rattle.model.specs.Session.{Session, has_windows, hours_fit, is_open}

@@ -4,6 +4,7 @@ pub mod Listed
 pub mod Ran
 pub mod Runs
 pub mod Returns
+pub mod Linked
 pub mod EntryPoints
 pub mod Exports
 pub mod HostFunctions

@@ -3,7 +3,7 @@ use Rattle.std.specs.Prelude.{Bool, true, false, ◌||◌}
 use Rattle.model.specs.Result.{FailureReason, BucketInsertResult, UpdateResult, InsertResult}
 use Rattle.model.specs.Table.{Answer}
 use Rattle.model.specs.Call.{Call, KeyCall}
-use Rattle.log.specs.Log.{is_refused}
+use Rattle.table_log.specs.Log.{is_refused}
 
 -- Tests of answers. In each list a Bool says whether the answer is one that the call can give.
 

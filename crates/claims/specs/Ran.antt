@@ -1,7 +1,7 @@
 -- One call of the code: beside each constructor of `Call` its entry point, by the contract that the code is proved to meet.
 use Rattle.std.specs.Prelude.{ℕ, List, []}
 use contract.Lifetimes.{Lfts}
-use Rattle.std.specs.Borrow.{Bor}
+use Rattle.std.specs.Borrow.{Bor, MutBor}
 use Rattle.model.specs.Table.{Answer}
 use Rattle.model.specs.Call.{Listing, Call, KeyCall}
 use Rattle.node.specs.Node.{argument_of}
@@ -34,60 +34,63 @@ abbrev pub ◌&◌ : {A B : Type 0} → A → B → A × B
 a & b = (a, b)
 
 infixr 20 ◌&◌
--- a slice that is lent, at a call's entry or exit; `now` is what it holds then
+-- a slice that is lent to be read, at a call's entry or exit, and one that is lent to be changed; `now` is what it holds then
 abbrev pub Slice : Type 0
 Slice = Bor (List ℕ)
+
+abbrev pub Lent : Type 0
+Lent = MutBor (List ℕ)
 
 -- A call that was carried out: a is what it answered, s and s' the storage before and after, out' the output after, empty where the call has
 -- none. Its entry point's contract (`Post`) holds of what it was given, in the order of its parameters, of what it answered, and of what is
 -- left of what it was given: the storage s', and behind it the others. Every call of the code is such a run: specs/EntryPoints.
 pub data Ran : (c : Call) (s : List ℕ) (a : Answer) (s' out' : List ℕ) → Type 0 where
-  new : (κs : Lfts 2) (s key s' : Slice) (timeout m tf bf : ℕ) (a : _) (others : _)
+  new : (κs : Lfts 2) (s : Lent) (key : Slice) (s' : Lent) (timeout m tf bf : ℕ) (a : _) (others : _)
       → New.Post κs (s & key & timeout & m & tf & bf & tt) a (s' & others)
       → Ran (Call.new key.now timeout m tf bf) s.now (new_answer a) s'.now []
-  update_node_status : (κs : Lfts 2) (s key s' : Slice) (state direction time : ℕ) (a : _) (others : _)
+  update_node_status : (κs : Lfts 2) (s : Lent) (key : Slice) (s' : Lent) (state direction time : ℕ) (a : _) (others : _)
       → UpdateNodeStatus.Post κs (s & key & state & direction & time & tt) a (s' & others)
       → Ran (Call.on_key key.now (KeyCall.update_node_status state direction time)) s.now (update_answer a) s'.now []
-  update_node : (κs : Lfts 2) (s key s' : Slice) (value : _) (state time : ℕ) (a : _) (others : _)
+  update_node : (κs : Lfts 2) (s : Lent) (key : Slice) (s' : Lent) (value : _) (state time : ℕ) (a : _) (others : _)
       → UpdateNode.Post κs (s & key & value & state & time & tt) a (s' & others)
       → Ran (Call.on_key key.now (KeyCall.update_node (argument_of value) state time)) s.now (update_answer a) s'.now []
-  insert_or_update : (κs : Lfts 4) (s key windows closed s' : Slice) (value : _) (state direction time : ℕ) (moment : _) (a : _) (others : _)
+  insert_or_update : (κs : Lfts 4) (s : Lent) (key windows closed : Slice) (s' : Lent) (value : _) (state direction time : ℕ) (moment : _) (a : _) (others : _)
       → InsertOrUpdate.Post κs (s & key & value & state & direction & time & windows & closed & moment & tt) a (s' & others)
       → Ran (Call.on_key key.now (KeyCall.insert_or_update (argument_of value) state direction time (session_of windows.now closed.now moment))) s.now (insert_or_update_answer a) s'.now []
-  remove : (κs : Lfts 2) (s key s' : Slice) (time : ℕ) (a : _) (others : _)
+  remove : (κs : Lfts 2) (s : Lent) (key : Slice) (s' : Lent) (time : ℕ) (a : _) (others : _)
       → Remove.Post κs (s & key & time & tt) a (s' & others)
       → Ran (Call.on_key key.now (KeyCall.remove time)) s.now (remove_answer a) s'.now []
-  entry : (κs : Lfts 2) (s key s' : Slice) (time : ℕ) (a : _) (others : _)
+  entry : (κs : Lfts 2) (s : Lent) (key : Slice) (s' : Lent) (time : ℕ) (a : _) (others : _)
       → Entry.Post κs (s & key & time & tt) a (s' & others)
       → Ran (Call.on_key key.now (KeyCall.entry time)) s.now (entry_answer a) s'.now []
-  present_update : (κs : Lfts 2) (s key s' : Slice) (state direction : ℕ) (a : _) (others : _)
+  present_update : (κs : Lfts 2) (s : Lent) (key : Slice) (s' : Lent) (state direction : ℕ) (a : _) (others : _)
       → PresentUpdate.Post κs (s & key & state & direction & tt) a (s' & others)
       → Ran (Call.on_key key.now (KeyCall.present_update state direction)) s.now (update_answer a) s'.now []
-  pending_update : (κs : Lfts 2) (s key s' : Slice) (state direction : ℕ) (a : _) (others : _)
+  pending_update : (κs : Lfts 2) (s : Lent) (key : Slice) (s' : Lent) (state direction : ℕ) (a : _) (others : _)
       → PendingUpdate.Post κs (s & key & state & direction & tt) a (s' & others)
       → Ran (Call.on_key key.now (KeyCall.pending_update state direction)) s.now (update_answer a) s'.now []
-  absent_insert : (κs : Lfts 4) (s key windows closed s' : Slice) (value : _) (state direction time : ℕ) (moment : _) (a : _) (others : _)
+  absent_insert : (κs : Lfts 4) (s : Lent) (key windows closed : Slice) (s' : Lent) (value : _) (state direction time : ℕ) (moment : _) (a : _) (others : _)
       → AbsentInsert.Post κs (s & key & value & state & direction & time & windows & closed & moment & tt) a (s' & others)
       → Ran (Call.on_key key.now (KeyCall.absent_insert (argument_of value) state direction time (session_of windows.now closed.now moment))) s.now (insert_answer a) s'.now []
-  iter : (κs : Lfts 2) (s out s' out' : Slice) (n time n' time' : ℕ) (a : _)
+  iter : (κs : Lfts 2) (s out s' out' : Lent) (n time n' time' : ℕ) (a : _)
       → Iter.Post κs (s & n & time & out & tt) a (s' & n' & time' & out' & tt)
       → Ran (Call.list Listing.iter n time out.now) s.now (list_answer a) s'.now out'.now
-  nodes_by_distances : (κs : Lfts 3) (s distances out s' distances' out' : Slice) (n time n' time' : ℕ) (a : _)
+  nodes_by_distances : (κs : Lfts 3) (s : Lent) (distances : Slice) (out s' : Lent) (distances' : Slice) (out' : Lent) (n time n' time' : ℕ) (a : _)
       → NodesByDistances.Post κs (s & distances & n & time & out & tt) a (s' & distances' & n' & time' & out' & tt)
       → Ran (Call.list (Listing.nodes_by_distances distances.now) n time out.now) s.now (list_answer a) s'.now out'.now
-  closest_keys : (κs : Lfts 3) (s target out s' target' out' : Slice) (n time n' time' : ℕ) (a : _)
+  closest_keys : (κs : Lfts 3) (s : Lent) (target : Slice) (out s' : Lent) (target' : Slice) (out' : Lent) (n time n' time' : ℕ) (a : _)
       → ClosestKeys.Post κs (s & target & n & time & out & tt) a (s' & target' & n' & time' & out' & tt)
       → Ran (Call.list (Listing.closest_keys target.now) n time out.now) s.now (list_answer a) s'.now out'.now
-  closest_values : (κs : Lfts 3) (s target out s' target' out' : Slice) (n time n' time' : ℕ) (a : _)
+  closest_values : (κs : Lfts 3) (s : Lent) (target : Slice) (out s' : Lent) (target' : Slice) (out' : Lent) (n time n' time' : ℕ) (a : _)
       → ClosestValues.Post κs (s & target & n & time & out & tt) a (s' & target' & n' & time' & out' & tt)
       → Ran (Call.list (Listing.closest_values target.now) n time out.now) s.now (list_answer a) s'.now out'.now
-  closest_values_predicate : (κs : Lfts 3) (s target out s' target' out' : Slice) (predicate a b c slot n time : ℕ) (predicate' a' b' c' slot' n' time' : ℕ) (r : _)
+  closest_values_predicate : (κs : Lfts 3) (s : Lent) (target : Slice) (out s' : Lent) (target' : Slice) (out' : Lent) (predicate a b c slot n time : ℕ) (predicate' a' b' c' slot' n' time' : ℕ) (r : _)
       → ClosestValuesPredicate.Post κs (s & target & predicate & a & b & c & slot & n & time & out & tt) r (s' & target' & predicate' & a' & b' & c' & slot' & n' & time' & out' & tt)
       → Ran (Call.list (Listing.closest_values_predicate target.now (record { predicate = predicate; a = a; b = b; c = c; slot = slot })) n time out.now)
       s.now (list_answer r) s'.now out'.now
-  take_applied_pending : (κs : Lfts 1) (s s' : Slice) (a : _) (others : _)
+  take_applied_pending : (κs : Lfts 1) (s s' : Lent) (a : _) (others : _)
       → TakeAppliedPending.Post κs (s & tt) a (s' & others)
       → Ran Call.take_applied_pending s.now (take_answer a) s'.now []
-  read : (κs : Lfts 2) (s bytes s' : Slice) (a : _) (others : _)
+  read : (κs : Lfts 2) (s : Lent) (bytes : Slice) (s' : Lent) (a : _) (others : _)
       → Read.Post κs (s & bytes & tt) a (s' & others)
       → Ran (Call.read bytes.now) s.now (read_answer a) s'.now []

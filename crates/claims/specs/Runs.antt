@@ -10,9 +10,9 @@ use Rattle.model.specs.Call.{Listing, Call}
 use Rattle.model.specs.Listing.{item, distance_to}
 use Rattle.model.specs.Layout.{table_of}
 use Rattle.model.specs.StepBytes.{output_of, written}
-use Rattle.log.specs.Log.{Entry, is_refused}
-use Rattle.log.specs.Closest.{Ascending, all_held, closest_nodes}
-use Rattle.log.specs.Pending.{due_ended, one_record}
+use Rattle.table_log.specs.Log.{Entry, is_refused}
+use Rattle.table_log.specs.Closest.{Ascending, all_held, closest_nodes}
+use Rattle.table_log.specs.Pending.{due_ended, one_record}
 use Rattle.claims.specs.Ran.{Ran}
 
 -- what stands in the queue q' behind the length of the queue q

@@ -13,18 +13,18 @@ use Rattle.saved.specs.Fields.{write_answer_of}
 use Rattle.saved.proofs.write.Reads as Write
 use Rattle.codes.specs.Codes.{refused_code}
 use Rattle.kbuckets.proofs.kbuckets_write.Reads as HostWrite
-use Rattle.claims.specs.Ran.{◌&◌, Slice}
+use Rattle.claims.specs.Ran.{◌&◌, Slice, Lent}
 
 -- A call of the writer: a is what it answered, out and out' the output before and after. Its contract holds of what it was given, of what it
 -- answered, and of what is left. It writes no storage.
 pub data Wrote : (s out : List ℕ) (a : Reply ℕ) (out' : List ℕ) → Type 0 where
-  write : (κs : Lfts 2) (s out s' out' : Slice) (a : _)
+  write : (κs : Lfts 2) (s : Slice) (out : Lent) (s' : Slice) (out' : Lent) (a : _)
       → Write.Post κs (s & out & tt) a (s' & out' & tt)
       → Wrote s.now out.now (write_answer_of a) out'.now
 
 -- A call of its export: code is the number that it returned.
 pub data HostWrote : (s out : List ℕ) (code : ℕ) (out' : List ℕ) → Type 0 where
-  write : (κs : Lfts 2) (s out s' out' : Slice) (code : ℕ)
+  write : (κs : Lfts 2) (s : Slice) (out : Lent) (s' : Slice) (out' : Lent) (code : ℕ)
       → HostWrite.Post κs (s & out & tt) code (s' & out' & tt)
       → HostWrote s.now out.now code out'.now
 

@@ -1,4 +1,6 @@
 // Internal: the numbers that the exports return, and the bytes that an answer carries, put at the front of a lent answer.
+#![tactic(auto)]
+
 ghost use Rattle.std.specs.Prelude.{◌≡◌, true, ◌≤◌, length};
 ghost use Rattle.model.specs.Base.{first};
 ghost use Rattle.model.specs.Bytes.{splice};
@@ -13,7 +15,7 @@ use key::Key;
 use storage::Layout;
 
 // What an answer's bytes have room for at the least: a record.
-#[derive(Drop)]
+#[derive(Clone, Copy)]
 pub struct Answer {}
 
 impl Answer {

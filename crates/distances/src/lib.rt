@@ -1,4 +1,6 @@
 // nodes_by_distances (kbucket.rs): the nodes of the buckets at the distances given.
+#![tactic(auto)]
+
 ghost use Rattle.std.specs.Prelude.{◌≡◌};
 ghost use Rattle.model.specs.Call.{Call, Listing};
 ghost use Rattle.model.specs.Listing.{at_least_one};

@@ -24,7 +24,7 @@ const MAX_DISTANCE: u64 = 256;
 
 // What the survey tells: every bucket of the applying pass passes question 2, and if so how many records they give and how many distances the
 // pass takes.
-#[derive(Drop)]
+#[derive(Clone, Copy)]
 pub struct Tally {
     pub formed: bool,
     pub records: usize,

@@ -1,4 +1,6 @@
 // The entry of a key (entry.rs): its kind and status, and the actions on it, which name the key again and apply no pending.
+#![tactic(auto)]
+
 ghost use Rattle.std.specs.Prelude.{◌≡◌, true, ◌+◌, ◌≤◌, length};
 ghost use Rattle.model.specs.Bytes.{part};
 ghost use Rattle.model.specs.Table.{kind_of};
@@ -22,7 +24,7 @@ use session::Moment;
 use storage::Layout;
 
 // The kind of a key's entry, with its status.
-#[derive(Drop)]
+#[derive(Clone, Copy)]
 pub enum EntryKind {
     Present(NodeStatus),
     Pending(NodeStatus),
@@ -30,7 +32,7 @@ pub enum EntryKind {
     SelfEntry,
 }
 
-#[derive(Drop)]
+#[derive(Clone, Copy)]
 pub enum EntryAnswer {
     Refused(u8),
     Answered(EntryKind),

@@ -1,5 +1,7 @@
 // What a call that inserts, updates or removes a peer would answer, the true reason and the keys behind it, in one line (document 02, slip 1).
 // A query: it is asked what the call is asked, and nothing but the lent output is written.
+#![tactic(auto)]
+
 ghost use Rattle.std.specs.Prelude.{◌≡◌, true, [], ◌≤◌, length};
 ghost use Rattle.std.proofs.Math.Option.{none, some};
 ghost use Rattle.model.specs.Sizes.{storage_size};
@@ -24,7 +26,7 @@ use on_key::Start;
 use session::Moment;
 
 // A call on a peer's key, with its arguments: value, state, direction, time.
-#[derive(Drop)]
+#[derive(Clone, Copy)]
 pub enum PeerCall {
     InsertOrUpdate(Value, u8, u8, u64),
     UpdateNodeStatus(u8, u8, u64),
@@ -36,7 +38,7 @@ pub enum PeerCall {
 }
 
 // The number of the question that failed, or the length of the line.
-#[derive(Drop)]
+#[derive(Clone, Copy)]
 pub enum ExplainAnswer {
     Refused(u8),
     Answered(usize),

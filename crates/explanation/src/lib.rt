@@ -1,4 +1,6 @@
 // Internal: what is told of a call before it runs (document 02, slip 1): the answer, the reason, and the line that says both.
+#![tactic(auto)]
+
 ghost use Rattle.std.specs.Prelude.{◌≡◌, true, [], ◌∷◌, map, ◌+◌, ◌*◌, ◌≤◌, ◌<◌, length, get_or, take};
 ghost use Rattle.model.specs.Base.{select};
 ghost use Rattle.model.specs.Bytes.{part, splice};
@@ -23,7 +25,7 @@ use node::{Node, Value};
 use storage::Layout;
 
 // What is told of the answer.
-#[derive(Drop)]
+#[derive(Clone, Copy)]
 pub enum Told {
     Inserted,
     // It names the node at place 0.
@@ -46,7 +48,7 @@ pub enum Told {
 }
 
 // The reason, without the keys behind it but for the pending's. The table filter's key is the call's: its own node is not counted.
-#[derive(Drop)]
+#[derive(Clone, Copy)]
 pub enum Reason {
     None,
     TableFilter(Key),
@@ -60,7 +62,7 @@ pub enum Reason {
 }
 
 // A reason, the bucket that the failing test looked at, and the value that a filter counted against.
-#[derive(Drop)]
+#[derive(Clone, Copy)]
 pub struct Why {
     pub reason: Reason,
     pub bucket: KBucket,
@@ -68,7 +70,7 @@ pub struct Why {
 }
 
 // The nodes that a reason names: those that count against a value, the same but for a key's own, or those connected incoming.
-#[derive(Drop)]
+#[derive(Clone, Copy)]
 enum Test {
     Counts(Value),
     CountsOther(Key, Value),
@@ -76,7 +78,7 @@ enum Test {
 }
 
 // Where the next key is put in the output, and how many more may be put.
-#[derive(Drop)]
+#[derive(Clone, Copy)]
 struct Room {
     at: usize,
     left: usize,

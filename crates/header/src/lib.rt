@@ -1,4 +1,6 @@
 // Internal: the front of the lent storage: the settings, and the queue of 64 records, oldest first.
+#![tactic(auto)]
+
 ghost use Rattle.std.specs.Prelude.{◌≡◌, true, [], ◌∷◌, ◌++◌, ◌+◌, ◌≤◌, ◌<◌, leb, length, take, drop};
 ghost use Rattle.model.specs.Base.{joined};
 ghost use Rattle.model.specs.Bytes.{bytes, part, splice, zeros};

@@ -1,5 +1,7 @@
 // Internal: a bucket of the lent storage that has no pending, changed in place: its nodes are found, moved and written as bytes. What is
 // left are the bytes of the bucket that the model's step leaves. `count` is the bucket's count, read by the caller.
+#![tactic(auto)]
+
 ghost use Rattle.std.specs.Prelude.{◌≡◌, Bool, true, cond, ◌&&◌, [], ◌∷◌, ◌++◌, ℕ, ◌+◌, ◌-◌, ◌^◌, ◌≤◌, ◌<◌, eqb, leb, length, get_or};
 ghost use Rattle.std.proofs.Math.Option.{some};
 ghost use Rattle.model.specs.Bytes.{number, part, splice, zeros};

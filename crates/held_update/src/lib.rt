@@ -1,5 +1,7 @@
 // Internal: update_node and insert_or_update (kbucket.rs) on a bucket without a pending, in place. What is left are the bytes of the bucket that the
 // model's step leaves.
+#![tactic(auto)]
+
 ghost use Rattle.std.specs.Prelude.{◌≡◌, true, false, ℕ, ◌+◌, ◌^◌, ◌≤◌, ◌<◌, length, get_or};
 ghost use Rattle.model.specs.Bytes.{number, part};
 ghost use Rattle.model.specs.Sizes.{time_size, bucket_size, timeout_at};

@@ -1,4 +1,6 @@
-// The static library: every entry point under a C name, on numbers and lent bytes. include/kbuckets.h declares them.
+// Every entry point under its C name, on numbers and lent bytes: a library. crates/kbuckets_c exports each by the same name.
+#![tactic(auto)]
+
 ghost use Rattle.std.specs.Prelude.{◌≡◌, []};
 ghost use Rattle.model.specs.Call.{Listing, Call, KeyCall};
 ghost use Rattle.model.specs.Explain.{explain_bytes};
@@ -14,8 +16,7 @@ use node::{NodeStatus, Slot, Value};
 use session::Moment;
 
 // 0x00MMmmpp: major, minor, patch.
-#[unsafe(no_mangle)]
-pub extern "C" fn kbuckets_version() -> u32
+pub fn kbuckets_version() -> u32
     ensures { result ≡ version }
 {
     0x0000_0700
@@ -23,8 +24,7 @@ pub extern "C" fn kbuckets_version() -> u32
 
 // The table.
 
-#[unsafe(no_mangle)]
-pub extern "C" fn kbuckets_new(
+pub fn kbuckets_new(
     storage: &mut [u8],
     local_key: &[u8],
     pending_timeout: u64,
@@ -45,8 +45,7 @@ pub extern "C" fn kbuckets_new(
     codes::answers::new_code(answer)
 }
 
-#[unsafe(no_mangle)]
-pub extern "C" fn kbuckets_update_node_status(
+pub fn kbuckets_update_node_status(
     storage: &mut [u8],
     key: &[u8],
     state: u8,
@@ -59,8 +58,7 @@ pub extern "C" fn kbuckets_update_node_status(
     codes::answers::update_code(answer)
 }
 
-#[unsafe(no_mangle)]
-pub extern "C" fn kbuckets_update_node(
+pub fn kbuckets_update_node(
     storage: &mut [u8],
     key: &[u8],
     flag: u8,
@@ -86,8 +84,7 @@ pub extern "C" fn kbuckets_update_node(
     codes::answers::update_code(answer)
 }
 
-#[unsafe(no_mangle)]
-pub extern "C" fn kbuckets_insert_or_update(
+pub fn kbuckets_insert_or_update(
     storage: &mut [u8],
     key: &[u8],
     flag: u8,
@@ -132,50 +129,35 @@ pub extern "C" fn kbuckets_insert_or_update(
     codes::answers::put_updated(answer, updated)
 }
 
-#[unsafe(no_mangle)]
-pub extern "C" fn kbuckets_remove(storage: &mut [u8], key: &[u8], time: u64) -> u32
+pub fn kbuckets_remove(storage: &mut [u8], key: &[u8], time: u64) -> u32
     ensures { Leaves result storage.new (exported (Call.on_key key.now (KeyCall.remove time)) storage.old) }
 {
     let answer = table::remove(storage, key, time);
     codes::answers::remove_code(answer)
 }
 
-#[unsafe(no_mangle)]
-pub extern "C" fn kbuckets_entry(storage: &mut [u8], key: &[u8], time: u64) -> u32
+pub fn kbuckets_entry(storage: &mut [u8], key: &[u8], time: u64) -> u32
     ensures { Leaves result storage.new (exported (Call.on_key key.now (KeyCall.entry time)) storage.old) }
 {
     let answer = entry::entry(storage, key, time);
     codes::answers::entry_code(answer)
 }
 
-#[unsafe(no_mangle)]
-pub extern "C" fn kbuckets_present_update(
-    storage: &mut [u8],
-    key: &[u8],
-    state: u8,
-    direction: u8,
-) -> u32
+pub fn kbuckets_present_update(storage: &mut [u8], key: &[u8], state: u8, direction: u8) -> u32
     ensures { Leaves result storage.new (exported (Call.on_key key.now (KeyCall.present_update state direction)) storage.old) }
 {
     let answer = entry::present_update(storage, key, state, direction);
     codes::answers::update_code(answer)
 }
 
-#[unsafe(no_mangle)]
-pub extern "C" fn kbuckets_pending_update(
-    storage: &mut [u8],
-    key: &[u8],
-    state: u8,
-    direction: u8,
-) -> u32
+pub fn kbuckets_pending_update(storage: &mut [u8], key: &[u8], state: u8, direction: u8) -> u32
     ensures { Leaves result storage.new (exported (Call.on_key key.now (KeyCall.pending_update state direction)) storage.old) }
 {
     let answer = entry::pending_update(storage, key, state, direction);
     codes::answers::update_code(answer)
 }
 
-#[unsafe(no_mangle)]
-pub extern "C" fn kbuckets_absent_insert(
+pub fn kbuckets_absent_insert(
     storage: &mut [u8],
     key: &[u8],
     flag: u8,
@@ -220,16 +202,14 @@ pub extern "C" fn kbuckets_absent_insert(
     codes::answers::put_inserted(answer, inserted)
 }
 
-#[unsafe(no_mangle)]
-pub extern "C" fn kbuckets_iter(storage: &mut [u8], n: usize, time: u64, output: &mut [u8]) -> u32
+pub fn kbuckets_iter(storage: &mut [u8], n: usize, time: u64, output: &mut [u8]) -> u32
     ensures { Writes result storage.new output.new (exported (Call.list Listing.iter n time output.old) storage.old) }
 {
     let answer = listing::iter(storage, n, time, output);
     codes::answers::list_code(answer)
 }
 
-#[unsafe(no_mangle)]
-pub extern "C" fn kbuckets_nodes_by_distances(
+pub fn kbuckets_nodes_by_distances(
     storage: &mut [u8],
     distances: &[u64],
     n: usize,
@@ -242,8 +222,7 @@ pub extern "C" fn kbuckets_nodes_by_distances(
     codes::answers::list_code(answer)
 }
 
-#[unsafe(no_mangle)]
-pub extern "C" fn kbuckets_closest_keys(
+pub fn kbuckets_closest_keys(
     storage: &mut [u8],
     target: &[u8],
     n: usize,
@@ -256,8 +235,7 @@ pub extern "C" fn kbuckets_closest_keys(
     codes::answers::list_code(answer)
 }
 
-#[unsafe(no_mangle)]
-pub extern "C" fn kbuckets_closest_values(
+pub fn kbuckets_closest_values(
     storage: &mut [u8],
     target: &[u8],
     n: usize,
@@ -270,8 +248,7 @@ pub extern "C" fn kbuckets_closest_values(
     codes::answers::list_code(answer)
 }
 
-#[unsafe(no_mangle)]
-pub extern "C" fn kbuckets_closest_values_predicate(
+pub fn kbuckets_closest_values_predicate(
     storage: &mut [u8],
     target: &[u8],
     predicate: u8,
@@ -291,8 +268,7 @@ pub extern "C" fn kbuckets_closest_values_predicate(
     codes::answers::list_code(answer)
 }
 
-#[unsafe(no_mangle)]
-pub extern "C" fn kbuckets_take_applied_pending(storage: &mut [u8], answer: &mut [u8]) -> u32
+pub fn kbuckets_take_applied_pending(storage: &mut [u8], answer: &mut [u8]) -> u32
     ensures { Writes result storage.new answer.new (exported_with (Call.take_applied_pending) answer.old storage.old) }
 {
     if answer.len() < Answer::BYTES {
@@ -304,8 +280,7 @@ pub extern "C" fn kbuckets_take_applied_pending(storage: &mut [u8], answer: &mut
 
 // Why the peer is missing: the line of a call that was not made.
 
-#[unsafe(no_mangle)]
-pub extern "C" fn kbuckets_explain_update_node_status(
+pub fn kbuckets_explain_update_node_status(
     storage: &[u8],
     key: &[u8],
     state: u8,
@@ -319,8 +294,7 @@ pub extern "C" fn kbuckets_explain_update_node_status(
     codes::answers::explain_code(answer)
 }
 
-#[unsafe(no_mangle)]
-pub extern "C" fn kbuckets_explain_update_node(
+pub fn kbuckets_explain_update_node(
     storage: &[u8],
     key: &[u8],
     flag: u8,
@@ -347,8 +321,7 @@ pub extern "C" fn kbuckets_explain_update_node(
     codes::answers::explain_code(answer)
 }
 
-#[unsafe(no_mangle)]
-pub extern "C" fn kbuckets_explain_insert_or_update(
+pub fn kbuckets_explain_insert_or_update(
     storage: &[u8],
     key: &[u8],
     flag: u8,
@@ -390,21 +363,14 @@ pub extern "C" fn kbuckets_explain_insert_or_update(
     codes::answers::explain_code(answer)
 }
 
-#[unsafe(no_mangle)]
-pub extern "C" fn kbuckets_explain_remove(
-    storage: &[u8],
-    key: &[u8],
-    time: u64,
-    output: &mut [u8],
-) -> u32
+pub fn kbuckets_explain_remove(storage: &[u8], key: &[u8], time: u64, output: &mut [u8]) -> u32
     ensures { Tells result output.new (explain_bytes key.now (KeyCall.remove time) output.old storage.now) }
 {
     let answer = explain::explain_remove(storage, key, time, output);
     codes::answers::explain_code(answer)
 }
 
-#[unsafe(no_mangle)]
-pub extern "C" fn kbuckets_explain_present_update(
+pub fn kbuckets_explain_present_update(
     storage: &[u8],
     key: &[u8],
     state: u8,
@@ -417,8 +383,7 @@ pub extern "C" fn kbuckets_explain_present_update(
     codes::answers::explain_code(answer)
 }
 
-#[unsafe(no_mangle)]
-pub extern "C" fn kbuckets_explain_pending_update(
+pub fn kbuckets_explain_pending_update(
     storage: &[u8],
     key: &[u8],
     state: u8,
@@ -431,8 +396,7 @@ pub extern "C" fn kbuckets_explain_pending_update(
     codes::answers::explain_code(answer)
 }
 
-#[unsafe(no_mangle)]
-pub extern "C" fn kbuckets_explain_absent_insert(
+pub fn kbuckets_explain_absent_insert(
     storage: &[u8],
     key: &[u8],
     flag: u8,
@@ -476,16 +440,14 @@ pub extern "C" fn kbuckets_explain_absent_insert(
 
 // A table that survives a box swap: its held nodes as bytes, and a new table loaded with them.
 
-#[unsafe(no_mangle)]
-pub extern "C" fn kbuckets_write(storage: &[u8], output: &mut [u8]) -> u32
+pub fn kbuckets_write(storage: &[u8], output: &mut [u8]) -> u32
     ensures { Tells result output.new (write_bytes output.old storage.now) }
 {
     let answer = saved::write(storage, output);
     codes::answers::write_code(answer)
 }
 
-#[unsafe(no_mangle)]
-pub extern "C" fn kbuckets_read(storage: &mut [u8], bytes: &[u8]) -> u32
+pub fn kbuckets_read(storage: &mut [u8], bytes: &[u8]) -> u32
     ensures { Leaves result storage.new (exported (Call.read bytes.now) storage.old) }
 {
     let answer = loaded::read(storage, bytes);
@@ -494,20 +456,13 @@ pub extern "C" fn kbuckets_read(storage: &mut [u8], bytes: &[u8]) -> u32
 
 // A bucket by itself.
 
-#[unsafe(no_mangle)]
-pub extern "C" fn kbuckets_b_new(
-    bucket: &mut [u8],
-    pending_timeout: u64,
-    max_incoming: u8,
-    filter: u8,
-) -> u32
+pub fn kbuckets_b_new(bucket: &mut [u8], pending_timeout: u64, max_incoming: u8, filter: u8) -> u32
     ensures { Leaves result bucket.new (bucket_new pending_timeout max_incoming filter bucket.old) }
 {
     bucket_calls::new(bucket, pending_timeout, max_incoming, filter)
 }
 
-#[unsafe(no_mangle)]
-pub extern "C" fn kbuckets_b_insert(
+pub fn kbuckets_b_insert(
     bucket: &mut [u8],
     key: &[u8],
     flag: u8,
@@ -535,27 +490,19 @@ pub extern "C" fn kbuckets_b_insert(
     bucket_calls::insert(bucket, key, value, status, time, answer)
 }
 
-#[unsafe(no_mangle)]
-pub extern "C" fn kbuckets_b_apply_pending(bucket: &mut [u8], time: u64, answer: &mut [u8]) -> u32
+pub fn kbuckets_b_apply_pending(bucket: &mut [u8], time: u64, answer: &mut [u8]) -> u32
     ensures { Writes result bucket.new answer.new (bucket_step (BucketCall.apply_pending time) answer.old bucket.old) }
 {
     bucket_calls::apply_pending(bucket, time, answer)
 }
 
-#[unsafe(no_mangle)]
-pub extern "C" fn kbuckets_b_update_status(
-    bucket: &mut [u8],
-    key: &[u8],
-    state: u8,
-    direction: u8,
-) -> u32
+pub fn kbuckets_b_update_status(bucket: &mut [u8], key: &[u8], state: u8, direction: u8) -> u32
     ensures { Leaves result bucket.new (bucket_step (BucketCall.update_status key.now state direction) [] bucket.old) }
 {
     bucket_calls::update_status(bucket, key, state, direction)
 }
 
-#[unsafe(no_mangle)]
-pub extern "C" fn kbuckets_b_update_value(
+pub fn kbuckets_b_update_value(
     bucket: &mut [u8],
     key: &[u8],
     flag: u8,
@@ -578,15 +525,13 @@ pub extern "C" fn kbuckets_b_update_value(
     bucket_calls::update_value(bucket, key, value)
 }
 
-#[unsafe(no_mangle)]
-pub extern "C" fn kbuckets_b_update_pending(bucket: &mut [u8], state: u8, direction: u8) -> u32
+pub fn kbuckets_b_update_pending(bucket: &mut [u8], state: u8, direction: u8) -> u32
     ensures { Leaves result bucket.new (bucket_step (BucketCall.update_pending state direction) [] bucket.old) }
 {
     bucket_calls::update_pending(bucket, state, direction)
 }
 
-#[unsafe(no_mangle)]
-pub extern "C" fn kbuckets_b_remove(bucket: &mut [u8], key: &[u8], time: u64) -> u32
+pub fn kbuckets_b_remove(bucket: &mut [u8], key: &[u8], time: u64) -> u32
     ensures { Leaves result bucket.new (bucket_step (BucketCall.remove key.now time) [] bucket.old) }
 {
     bucket_calls::remove(bucket, key, time)

@@ -1,5 +1,7 @@
 // Keys, their XOR distance and bucket index (key.rs), and the order in which a closest call visits the buckets (ClosestBucketsIter of
 // kbucket.rs).
+#![tactic(auto)]
+
 ghost use Rattle.std.specs.Prelude.{◌≡◌, suc, ◌+◌, ◌-◌, ◌*◌, ◌≤◌, ◌<◌, ltb, length};
 ghost use Rattle.std.specs.Int.Count.{count_leading_zeros};
 ghost use Rattle.model.specs.Base.{same, first};
@@ -12,7 +14,7 @@ ghost use Rattle.key.specs.Answers.{bucket_index_of, log2_distance_of};
 ghost use Rattle.key.specs.Visits.{remaining, Stepped, BitsFrom};
 
 // A key of 256 bits, or the distance of two: four words, w0 the most significant.
-#[derive(Drop)]
+#[derive(Clone, Copy)]
 pub struct Key {
     pub w0: u64,
     pub w1: u64,
@@ -21,14 +23,14 @@ pub struct Key {
 }
 
 // The log2 distance of two keys, 1 to 256; nothing where they are equal.
-#[derive(Drop)]
+#[derive(Clone, Copy)]
 pub enum Log2Distance {
     At(usize),
     Nothing,
 }
 
 // The index of a bucket, 0 to 255; nothing for distance 0.
-#[derive(Drop)]
+#[derive(Clone, Copy)]
 pub enum BucketIndex {
     At(usize),
     Nothing,
@@ -243,7 +245,7 @@ impl BucketIndex {
 }
 
 // Where an iterator over the buckets stands.
-#[derive(Drop)]
+#[derive(Clone, Copy)]
 pub enum ClosestBucketsIterState {
     // Nothing is visited yet; the bucket visited first.
     Start(usize),
@@ -256,7 +258,7 @@ pub enum ClosestBucketsIterState {
 }
 
 // The buckets in the order in which a closest call visits them.
-#[derive(Drop)]
+#[derive(Clone, Copy)]
 pub struct ClosestBucketsIter {
     // The distance from the local key to the target.
     pub distance: Key,
@@ -264,7 +266,7 @@ pub struct ClosestBucketsIter {
 }
 
 // The bucket to visit next, if there is one, and the iterator after it.
-#[derive(Drop)]
+#[derive(Clone, Copy)]
 pub struct ClosestBucketsNext {
     pub index: BucketIndex,
     pub iter: ClosestBucketsIter,

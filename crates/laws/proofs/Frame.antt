@@ -11,7 +11,7 @@ use Rattle.model.specs.Bucket.{Bucket, apply_pending}
 use Rattle.model.specs.Table.{Table, Answer, Effect, write, index_in}
 use Rattle.model.specs.Call.{Call}
 use Rattle.model.specs.Listing.{indices, apply_all, applies}
-use Rattle.model.specs.Step.{on_key, take_oldest, act}
+use Rattle.model.specs.Step.{on_key, own_answer, effect, take_oldest, act}
 use Rattle.model.specs.StepBytes.{touched}
 use Rattle.model.specs.Fits.{All}
 use Rattle.laws.proofs.Tests.{clash}
@@ -52,7 +52,7 @@ take_oldest_buckets t (a ∷ q) = refl
 pub act_frame : (c : Call) (t : Table) (i : ℕ) → touches_all c ≡ false → Untouched i (touched c t) → (act c t).table.buckets i ≡ t.buckets i
 unfolding act
 act_frame (Call.new k timeout m tf bf) t i n h = clash refl n
-act_frame (Call.on_key k c) t i n h = on_key_other t _ _ (index_in t (number k)) i h
+act_frame (Call.on_key k c) t i n h = on_key_other t (own_answer c) (effect c k t) (index_in t (number k)) i h
 act_frame (Call.list l n now out) t i m h = apply_all_other now i (applies l n now t) t h
 act_frame (Call.read bs) t i n h = clash refl n
 act_frame Call.take_applied_pending t i n h = ap (λ (bs : ℕ → Bucket). bs i) (take_oldest_buckets t t.queue)

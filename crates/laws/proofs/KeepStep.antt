@@ -22,7 +22,7 @@ use Rattle.model.specs.Sizes.{key_size, time_size}
 use Rattle.model.specs.Call.{ValueArgument, Call, KeyCall, is_one, optional, value_of}
 use Rattle.model.specs.Listing.{apply_all, applies}
 use Rattle.model.specs.Question.{first_failed, keys_fit, codes_in_range, clock_fits}
-use Rattle.model.specs.Step.{Outcome, unchanged, on_key, node_of, effect, settings_of, take_oldest, act, queue_fits, bytes_fit, questions, unless_refused, step}
+use Rattle.model.specs.Step.{Outcome, unchanged, on_key, own_answer, node_of, effect, settings_of, take_oldest, act, queue_fits, bytes_fit, questions, unless_refused, step}
 use Rattle.model.specs.Fits.{All, Opt, WellFormed, FitsAddress, FitsValue, FitsNode, FitsDeadline, FitsRecord, FitsBucket, FitsSettings, Fits, FitsArgument, FitsCall}
 use Rattle.laws.proofs.Tests.{same_true, clash, cases, and_left}
 use Rattle.laws.proofs.Questions.{accepted}
@@ -249,7 +249,7 @@ pub act_fits : (c : Call) (t : Table) → FitsCall c → keys_fit c ≡ true →
 unfolding act
 act_fits (Call.new k timeout m tf bf) t c e r d b h = new_endless (settings_of (number k) timeout m tf bf) (new_settings_fit k timeout m tf bf c e r)
 act_fits (Call.on_key k x) t c e r d b h =
-    on_key_fits t _ _ (index_in t (number k)) (bucket_index_below t.settings.local_key (number k)) h
+    on_key_fits t (own_answer x) (effect x k t) (index_in t (number k)) (bucket_index_below t.settings.local_key (number k)) h
     (λ i q. effect_fits x k t i (t.buckets i) c e d q (record { fits = h.buckets i; formed = h.well_formed i }))
 act_fits (Call.list l n now out) t c e r d b h = apply_all_fits now (applies l n now t) t h
 act_fits Call.take_applied_pending t c e r d b h = take_oldest_fits t t.queue h.records h

@@ -1,7 +1,7 @@
 -- One law for every function of the form
 --     fn F_by(b: KBucket, p: P, …) -> Reply { let mut c = b; let answer = F(&mut c, p, …); Reply { bucket: c, answer: answer } }
 -- with any number of parameters of plain data (Params) behind b: a bucket of the function's own is lent to F. If F's contract says `Says before arguments answer after`, then F_by gives a reply of such an answer and bucket.
---     own-function ps R g    the MIR of F_by, where g is F's name
+--     own_function ps R g    the MIR of F_by, where g is F's name
 --     Lent, own              F's contract, and F_by's signature
 --     own_meets              F_by's MIR meets the clauses oc, where they follow from `Says`
 -- The walk: the local bucket is lent for a lifetime that is made for the call, and is taken back at the last value that F says.
@@ -9,9 +9,9 @@ use mathlib.Core.Path.{◌≡◌, refl, ap, subst}
 use Prim.Native.Nat.{ℕ, suc}
 use mathlib.Core.List.{[], ◌∷◌, List}
 use seplogic.Ra.Ura.{Ura}
-use seplogic.Ra.TreeShare.{full_share}
+use base.Fraction.{full_share}
 use lib.Dec.{T as Holds}
-use mir.Syntax.{Ty, Name, Fn, named, erased, mut, ty_ref, place, copy, local, value_local, memory_slot, seq, assign, call, return, rv_opd, addr_of, aggregate}
+use mir.Syntax.{Ty, Callee, Fn, named, erased, mut, ty_ref, place, copy, local, value_local, memory_slot, seq, assign, call, return, rv_opd, addr_of, aggregate}
 use mir.Val.{Val, vptr, vstruct, vcons, vnil, WT, has_ty}
 use base.Logic.{SProp, ent, sep, emp, guard, via, fst∗, id⊢}
 use base.Fml.{GName, ftrue, fsep, fat, flft, flent}
@@ -52,10 +52,12 @@ abbrev borrow_ty : Ty
 borrow_ty = ty_ref erased mut (pointee (K.the_row).written)
 
 -- the MIR: the locals are the reply, b, the parameters, the bucket that is lent, the answer, the borrow, and a copy of the bucket
-abbrev pub own_function : List Plain → Reply → Name → Fn
+abbrev pub own_function : List Plain → Reply → Callee → Fn
 own_function ps R g = record {
   lifetimes = 0;
   outlives = [];
+  ty_params = [];
+  givens = 0;
   params = behind 1 ps;
   locals = local (reply_ty R) value_local ∷ local K'.mir value_local ∷ locals ps (local K'.mir memory_slot ∷ local R.ty value_local ∷ local borrow_ty value_local ∷ local K'.mir value_local ∷ []);
   body = seq (assign (place (behind 2 ps) []) (rv_opd (copy (place 1 []))))
@@ -135,7 +137,7 @@ module _ (ps : List Plain) (R : Reply) (Says : KBucket → Denots (rows 0 tt ps)
           use0 𝓛 (‵ (owns (rows 1 (ν ∷ [], tt) ps) (args ν) (vals 1 (ν ∷ [], tt) ps (args ν)))) (made 1 (ν ∷ [], tt) 𝓛 ps (args ν) (moved_known 0 tt 1 (ν ∷ [], tt) ps a are.1)) $
           move ! (1 ∷ 0 ∷ []) $ fjoin ! $ nothing ! $ move ! (2 ∷ 0 ∷ []) $ join ! $ join ! $ frame ! $ done !
 
-      module _ (C : Calls 𝓤 H) (Λ : Loops 𝓤 H) (fm : FmC 𝓤 H 𝓛.laws C) (g : Name) (known : Triple 𝓤 (C g) (Lent 𝓛)) where
+      module _ (C : Calls 𝓤 H) (Λ : Loops 𝓤 H) (fm : FmC 𝓤 H 𝓛.laws C) (g : Callee) (known : Triple 𝓤 (C g) (Lent 𝓛)) where
         walk : ent 𝓤 (on_entry 𝓛 (own ps R).signature tt tt (h, a) (vals 0 tt (bucket ∷ ps) (h, a))) (WpFn 𝓤 H C Λ (own_function ps R g) (passed 0 tt (bucket ∷ ps) (h, a)) Post)
         walk =
             qed 𝓛 (raw (on_entry 𝓛 (own ps R).signature tt tt (h, a) (vals 0 tt (bucket ∷ ps) (h, a))) ∷ []) ∵ drop ! $ enter ! C Λ (own_function ps R g) (passed 0 tt (bucket ∷ ps) (h, a)) _ $
@@ -166,10 +168,10 @@ module _ (ps : List Plain) (R : Reply) (Says : KBucket → Denots (rows 0 tt ps)
             split ! $ move ! (1 ∷ []) $ use1 𝓛 (some (λ (zs : Lasts (lent ps R) (ν ∷ [], tt) (loan l₂ γ, args ν)). ‵ (lastsAt (lent ps R) (ν ∷ [], tt) (loan l₂ γ, args ν) zs) ⊛ raw (fact 𝓤 (Says h (moved 1 (ν ∷ [], tt) 0 tt ps (args ν)) r zs.0)))) (id⊢ 𝓤 _) $ pick ! (λ zs.
             split ! $ move ! (1 ∷ []) $ heard ! (Says h (moved 1 (ν ∷ [], tt) 0 tt ps (args ν)) r zs.0) (λ e. fsplit ! $ move ! (2 ∷ []) $ split ! $ move ! (1 ∷ []) $ peeks ! R.answers (Is R.answers) (shows 𝓛 R.answers) r (v ∷ []) (λ is.
             -- [the answer; the token; what is said of the last value; …; the lender's part; the parameters; the copy; …; the borrow; …; room for the answer; …]
-            land ! (found 𝓛 at_answer (stop !)) (init ! 10 refl (R.Answer-typed 𝓛 r v is)) $
+            land ! (found 𝓛 at_answer (stop !)) (init ! 10 refl (R.answer_typed 𝓛 r v is)) $
             rewrite ! 10 (λ (u : Val). ‵ (fat full_share R.ty l₃ 0 u)) (ap only (R.answer_tells r _ is)) refl $
             -- the lifetime is ended, and the bucket is the function's own again
-            drop ! $ split ! $ lft_end ! tt $ move ! (0 ∷ 4 ∷ 2 ∷ []) $ use3 𝓛 (later (‵ ((mem K.the_row).own_at zs.0 l₂ 0))) (ref_back 𝓛 K.the_row (ν ∷ []) γ zs.0 l₂ 0) $ await ! tt $
+            drop ! $ split ! $ lft_end ! tt $ move ! (2 ∷ []) $ fsplit ! $ move ! (1 ∷ []) $ drop ! $ move ! (1 ∷ 4 ∷ 0 ∷ []) $ use3 𝓛 (later (‵ ((mem K.the_row).own_at zs.0 l₂ 0))) (ref_back 𝓛 K.the_row (ν ∷ []) γ zs.0 l₂ 0) $ await ! tt $
             use1 𝓛 (given (IsK zs.0) (‵ (fat full_share K'.mir l₂ 0 (kval zs.0)))) (lies_out 𝓛 zs.0 l₂) $ learn ! (λ is-k.
             -- [the lent bucket; …; …; the parameters; the copy; …; the borrow; …; the answer; …; what frees the lent bucket; b; …; room for the reply; …]
             assigns ! (of_opd ! (load ! (found 𝓛 at_lent (stop !)) (look ! 0 refl))) (found 𝓛 at_copy (stop !)) (init ! 4 refl (k_typed 𝓛 zs.0 is-k)) $
@@ -182,7 +184,7 @@ module _ (ps : List Plain) (R : Reply) (Says : KBucket → Denots (rows 0 tt ps)
             is_answer : (r : R.answers.Denot) (v : Val) → Is R.answers r (v ∷ []) → Is R.answers r (R.val r ∷ [])
             is_answer r v is = subst (Is R.answers r) (R.answer_tells r _ is) is
 
-    module _ (𝓣 : Tables 𝓤 H) (g : Name) (known : Triple 𝓤 (𝓣.C g) (Lent 𝓛)) where
+    module _ (𝓣 : Tables 𝓤 H) (g : Callee) (known : Triple 𝓤 (𝓣.C g) (Lent 𝓛)) where
       walks : Walks 𝓛 (own ps R) (stays 0 (bucket ∷ ps)) (WpFn 𝓤 H 𝓣.C 𝓣.Λ (own_function ps R g)) oc
       walks = walked 𝓛 (own ps R) (stays 0 (bucket ∷ ps)) oc (WpFn 𝓤 H 𝓣.C 𝓣.Λ (own_function ps R g))
           (λ κs. spells 0 κs (bucket ∷ ps)) (λ κs. tellings 0 κs (bucket ∷ ps))

@@ -5,12 +5,12 @@
 --     moved                  the arguments as those of a signature with other lifetimes
 --     made, kept             what the parameters own, on entry and at exit, made of `Known`
 --     telling                a step: what a contract says, from nothing
---     allocates, passes-all, reads_all, frees_all    the steps of a walk: the locals of all the parameters as one entry of the context
+--     allocates, passes_all, reads_all, frees_all    the steps of a walk: the locals of all the parameters as one entry of the context
 use mathlib.Core.Path.{◌≡◌, refl, sym, ◌∙◌, ap, subst}
 use Prim.Native.Nat.{ℕ, zero, suc}
 use mathlib.Core.List.{[], ◌∷◌, List}
 use seplogic.Ra.Ura.{Ura}
-use seplogic.Ra.TreeShare.{full_share}
+use base.Fraction.{full_share}
 use lib.Dec.{T as Holds}
 use lib.ListN.{get_or}
 use mir.Syntax.{Ty, Width, ty_int, Opd as Operand, copy, place, Local, local, value_local, Step as PStep}

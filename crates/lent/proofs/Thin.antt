@@ -1,17 +1,17 @@
 -- One law for every function of the form
 --     fn F(b: &mut KBucket, p: P, …) -> Answer { let reply = (*b).G(p, …); *b = reply.bucket; reply.answer }
 -- with any number of parameters of plain data (Params) behind b. If the method G's contract says `Says before arguments answer after` of its reply, then so does F of its answer and the bucket behind b.
---     thin-function ps R g    the MIR of F, where g is G's name
+--     thin_function ps R g    the MIR of F, where g is G's name
 --     Method, lent            G's contract, and F's signature
---     thin-meets              F's MIR meets the clauses tc, where they follow from `Says`
+--     thin_meets              F's MIR meets the clauses tc, where they follow from `Says`
 -- The walk: the borrow is opened, the bucket is copied out and passed to G, the bucket of the reply is stored, and the borrow is closed at it.
 use mathlib.Core.Path.{◌≡◌, refl}
 use Prim.Native.Nat.{ℕ, suc}
 use mathlib.Core.List.{[], ◌∷◌, List}
 use seplogic.Ra.Ura.{Ura}
-use seplogic.Ra.TreeShare.{full_share}
+use base.Fraction.{full_share}
 use lib.Dec.{T as Holds}
-use mir.Syntax.{Ty, Name, Fn, named, mut, ty_ref, ty_struct, tcons, tnil, deref, field, place, copy, local, value_local, seq, assign, call, return, rv_opd}
+use mir.Syntax.{Ty, Callee, Fn, named, mut, ty_ref, ty_struct, tcons, tnil, deref, field, place, copy, local, value_local, seq, assign, call, return, rv_opd}
 use mir.Val.{Val, vptr, WT, has_ty}
 use base.Logic.{SProp, ent, emp, via, fst∗, snd∗, ex_e, id⊢}
 use base.Fml.{GName, Lft, Share, ftrue, fat, flft, fobs, fbor}
@@ -51,17 +51,20 @@ use Rattle.lent.proofs.Reply.{kval, IsK, Reply}
 abbrev pub reply_ty : Reply → Ty
 reply_ty R = ty_struct R.name (tcons K'.mir (tcons R.ty tnil))
 
--- the MIR: the locals are the answer, b, the parameters, the reply, and a copy of the bucket
-abbrev pub thin_function : List Plain → Reply → Name → Fn
+-- the MIR: the locals are the answer, b, the parameters, the reply, a copy of the bucket, and a copy of the reply's bucket
+abbrev pub thin_function : List Plain → Reply → Callee → Fn
 thin_function ps R g = record {
   lifetimes = 1;
   outlives = [];
+  ty_params = [];
+  givens = 0;
   params = behind 1 ps;
-  locals = local R.ty value_local ∷ local (ty_ref (named 0) mut (pointee (K.the_row).written)) value_local ∷ locals ps (local (reply_ty R) value_local ∷ local K'.mir value_local ∷ []);
+  locals = local R.ty value_local ∷ local (ty_ref (named 0) mut (pointee (K.the_row).written)) value_local ∷ locals ps (local (reply_ty R) value_local ∷ local K'.mir value_local ∷ local K'.mir value_local ∷ []);
   body = seq (assign (place (suc (behind 2 ps)) []) (rv_opd (copy (place 1 (deref K'.mir ∷ [])))))
       (seq (call g (copy (place (suc (behind 2 ps)) []) ∷ copies 2 ps) (place (behind 2 ps) []))
-      (seq (assign (place 1 (deref K'.mir ∷ [])) (rv_opd (copy (place (behind 2 ps) (field 0 ∷ [])))))
-      (seq (assign (place 0 []) (rv_opd (copy (place (behind 2 ps) (field 1 ∷ []))))) return)));
+      (seq (assign (place (suc (suc (behind 2 ps))) []) (rv_opd (copy (place (behind 2 ps) (field 0 ∷ [])))))
+      (seq (assign (place 1 (deref K'.mir ∷ [])) (rv_opd (copy (place (suc (suc (behind 2 ps))) []))))
+      (seq (assign (place 0 []) (rv_opd (copy (place (behind 2 ps) (field 1 ∷ []))))) return))));
 }
 
 abbrev pub method : List Plain → Reply → Ended
@@ -133,41 +136,46 @@ module _ (ps : List Plain) (R : Reply) (Says : KBucket → Denots (rows 0 tt ps)
       k_typed : (k : KBucket) → IsK k → Holds (has_ty K'.mir (kval k)) × WT (kval k)
       k_typed k is = ((LL.lawful K.the_type K'.the_laws 𝓛).typed k _ is).0
 
-      module _ (C : Calls 𝓤 H) (Λ : Loops 𝓤 H) (fm : FmC 𝓤 H 𝓛.laws C) (g : Name) (known : Triple 𝓤 (C g) (Method 𝓛)) where
+      module _ (C : Calls 𝓤 H) (Λ : Loops 𝓤 H) (fm : FmC 𝓤 H 𝓛.laws C) (g : Callee) (known : Triple 𝓤 (C g) (Method 𝓛)) where
         walk : ent 𝓤 (on_entry 𝓛 (lent ps R).signature (κ, tt) (q, tt) x at) (WpFn 𝓤 H C Λ (thin_function ps R g) (vptr b o ∷ passed 1 (κ, tt) ps a) Post)
         walk =
             qed 𝓛 ((‵ (flft κ q) ⊛ ‵ ftrue) ∷ ‵ (owns (MutRef (named 0) κ K.the_row ∷ rows 1 (κ, tt) ps) x at) ∷ []) ∵ split ! $ move ! (2 ∷ []) $ fsplit ! $ move ! (1 ∷ []) $ drop ! $ fsplit3 ! $ drop ! $
             -- [obs; the borrow; the token; true]
             enter ! C Λ (thin_function ps R g) (vptr b o ∷ passed 1 (κ, tt) ps a) _ $
-            alloc1 ! (λ l₀. alloc1 ! (λ l₁. allocates 𝓛 ps (local (reply_ty R) value_local ∷ local K'.mir value_local ∷ []) (λ bs. alloc1 ! (λ l₂. alloc1 ! (λ l₃. alloc0 ! $ params1 ! $
-            pass1 ! (init ! 5 refl (tt, tt)) $ move ! (4 ∷ []) $ passes_all 𝓛 1 (κ, tt) ps bs a ((reply_ty R, l₂) ∷ (K'.mir, l₃) ∷ []) are (pass0 ! $
-            (let E : Env 𝓤 H = (R.ty, l₀) ∷ (ty_ref (named 0) mut (pointee (K.the_row).written), l₁) ∷ env_of 𝓤 H ps bs ((reply_ty R, l₂) ∷ (K'.mir, l₃) ∷ []) in
-            let past : without 𝓤 H (behind 2 ps) E ≡ (reply_ty R, l₂) ∷ (K'.mir, l₃) ∷ [] = behind_all 𝓤 H ps bs 2 E ((reply_ty R, l₂) ∷ (K'.mir, l₃) ∷ []) refl in
+            alloc1 ! (λ l₀. alloc1 ! (λ l₁. allocates 𝓛 ps (local (reply_ty R) value_local ∷ local K'.mir value_local ∷ local K'.mir value_local ∷ []) (λ bs. alloc1 ! (λ l₂. alloc1 ! (λ l₃. alloc1 ! (λ l₄. alloc0 ! $ params1 ! $
+            pass1 ! (init ! 7 refl (tt, tt)) $ move ! (6 ∷ []) $
+            (let F : Env 𝓤 H = (reply_ty R, l₂) ∷ (K'.mir, l₃) ∷ (K'.mir, l₄) ∷ [] in
+            let E : Env 𝓤 H = (R.ty, l₀) ∷ (ty_ref (named 0) mut (pointee (K.the_row).written), l₁) ∷ env_of 𝓤 H ps bs F in
+            let past : without 𝓤 H (behind 2 ps) E ≡ F = behind_all 𝓤 H ps bs 2 E F refl in
+            let past₁ : without 𝓤 H (suc (behind 2 ps)) E ≡ (K'.mir, l₃) ∷ (K'.mir, l₄) ∷ [] = next 𝓤 H (behind 2 ps) E past in
             let at_reply : spot_of 𝓤 H E (behind 2 ps) ≡ (reply_ty R, l₂, 0) = here 𝓤 H (behind 2 ps) E past in
-            let at_copy : spot_of 𝓤 H E (suc (behind 2 ps)) ≡ (K'.mir, l₃, 0) = here 𝓤 H (suc (behind 2 ps)) E (next 𝓤 H (behind 2 ps) E past) in
-            move ! (9 ∷ 10 ∷ 11 ∷ []) $ opens ! tt K.the_row {h = h} b o (λ vs. spelt ! K.the_row (Is K.the_row) (shows 𝓛 K.the_row) (LL.vals K.the_type K'.the_laws) (LL.tells K.the_type K'.the_laws) full_share h vs b o $
+            let at_copy : spot_of 𝓤 H E (suc (behind 2 ps)) ≡ (K'.mir, l₃, 0) = here 𝓤 H (suc (behind 2 ps)) E past₁ in
+            let at_moved : spot_of 𝓤 H E (suc (suc (behind 2 ps))) ≡ (K'.mir, l₄, 0) = here 𝓤 H (suc (suc (behind 2 ps))) E (next 𝓤 H (suc (behind 2 ps)) E past₁) in
+            passes_all 𝓛 1 (κ, tt) ps bs a F are (pass0 ! $
+            move ! (11 ∷ 12 ∷ 13 ∷ []) $ opens ! tt K.the_row {h = h} b o (λ vs. spelt ! K.the_row (Is K.the_row) (shows 𝓛 K.the_row) (LL.vals K.the_type K'.the_laws) (LL.tells K.the_type K'.the_laws) full_share h vs b o $
             move ! (1 ∷ []) $ peeks ! K.the_row (Is K.the_row) (shows 𝓛 K.the_row) h (kval h ∷ []) (λ is.
-            -- [what the bucket owns; its cell; the open borrow; obs; auth; the parameters; the copy; …; the reply; …; b; …; room for the answer; …; true]
-            assigns ! (of_opd ! (load ! (from ! (hop ! (look ! 10 refl) (stop !))) (look_raw ! 1 refl))) (found 𝓛 at_copy (stop !)) (init ! 6 refl (k_typed h is)) $
+            -- [what the bucket owns; its cell; the open borrow; obs; auth; the parameters; the reply's bucket; …; the copy; …; the reply; …; b; …; room for the answer; …; true]
+            assigns ! (of_opd ! (load ! (from ! (hop ! (look ! 12 refl) (stop !))) (look_raw ! 1 refl))) (found 𝓛 at_copy (stop !)) (init ! 8 refl (k_typed h is)) $
             use1 𝓛 (raw ((Method 𝓛).pre to)) goes $
-            calls_at ! fm (Method 𝓛) known to (and_then ! (load ! (found 𝓛 at_copy (stop !)) (look ! 6 refl))
-            (reads_all 𝓛 1 (κ, tt) ps bs a 2 E ((reply_ty R, l₂) ∷ (K'.mir, l₃) ∷ []) refl (moved_passed 1 (κ, tt) 0 tt ps a) 5 refl)) (λ v.
+            calls_at ! fm (Method 𝓛) known to (and_then ! (load ! (found 𝓛 at_copy (stop !)) (look ! 8 refl))
+            (reads_all 𝓛 1 (κ, tt) ps bs a 2 E F refl (moved_passed 1 (κ, tt) 0 tt ps a) 5 refl)) (λ v.
             use1 𝓛 (later (some (λ (r : R.row.Denot). (‵ ftrue ⊛ ‵ (R.row.own_val r (v ∷ []))) ⊛ raw (ensured 𝓛 (method ps R) (method_clauses 𝓤) tt (h, args) tt r)))) (id⊢ 𝓤 _) $ await ! tt $ pick ! (λ r.
             split ! $ move ! (1 ∷ []) $ use1 𝓛 (raw (fact 𝓤 (Said h args r))) (said r) $ heard ! (Said h args r) (λ e. split ! $ drop ! $
             peeks ! R.row (Is R.row) (shows 𝓛 R.row) r (v ∷ []) (λ isr.
-            -- [what the reply owns; the cell; the open borrow; obs; auth; the parameters; the copy; …; the reply; …; b; …; room for the answer; …; true]
-            land ! (found 𝓛 at_reply (stop !)) (init ! 8 refl (R.typed 𝓛 r v isr)) $
-            rewrite ! 8 (λ (u : Val). ‵ (fat full_share (reply_ty R) l₂ 0 u)) (R.tells r v isr) refl $
-            assigns ! (of_opd ! (load ! (found 𝓛 at_reply (fld ! refl (stop !))) (look_in ! 8 (sub ! 0 refl (whole !))))) (from ! (hop ! (look ! 10 refl) (stop !))) (store_raw ! 1 refl (k_typed (R.bucket r) (R.is_bucket r v isr))) $
-            assigns ! (of_opd ! (load ! (found 𝓛 at_reply (fld ! refl (stop !))) (look_in ! 8 (sub ! 1 refl (whole !))))) (from ! (stop !)) (init ! 12 refl (R.Answer-typed 𝓛 (R.answer r) _ (R.is_answer r v isr))) $
+            -- [what the reply owns; the cell; the open borrow; obs; auth; the parameters; the reply's bucket; …; the copy; …; the reply; …; b; …; room for the answer; …; true]
+            land ! (found 𝓛 at_reply (stop !)) (init ! 10 refl (R.typed 𝓛 r v isr)) $
+            rewrite ! 10 (λ (u : Val). ‵ (fat full_share (reply_ty R) l₂ 0 u)) (R.tells r v isr) refl $
+            assigns ! (of_opd ! (load ! (found 𝓛 at_reply (fld ! refl (stop !))) (look_in ! 10 (sub ! 0 refl (whole !))))) (found 𝓛 at_moved (stop !)) (init ! 6 refl (k_typed (R.bucket r) (R.is_bucket r v isr))) $
+            assigns ! (of_opd ! (load ! (found 𝓛 at_moved (stop !)) (look ! 6 refl))) (from ! (hop ! (look ! 12 refl) (stop !))) (store_raw ! 1 refl (k_typed (R.bucket r) (R.is_bucket r v isr))) $
+            assigns ! (of_opd ! (load ! (found 𝓛 at_reply (fld ! refl (stop !))) (look_in ! 10 (sub ! 1 refl (whole !))))) (from ! (stop !)) (init ! 14 refl (R.answer_typed 𝓛 (R.answer r) _ (R.is_answer r v isr))) $
             drop ! $ owned ! K.the_row (Is K.the_row) (LL.makes K.the_type K'.the_plain 𝓛) (R.bucket r) _ (R.is_bucket r v isr) $ move ! (1 ∷ 0 ∷ []) $ closes ! tt K.the_row (R.bucket r) (kval (R.bucket r) ∷ []) b o $
-            -- [obs; the borrow; the token; the parameters; the copy; …; the reply; …; b; …; the answer; …; true]
-            returns ! (look ! 10 refl) $ forget ! 4 refl $ forget ! 6 refl $ forget ! 8 refl $ forget ! 10 refl $
-            move ! (10 ∷ 11 ∷ []) $ free1 ! $ move ! (8 ∷ 9 ∷ []) $ free1 ! $ move ! (3 ∷ []) $ frees_all 𝓛 1 (κ, tt) ps bs a ((reply_ty R, l₂) ∷ (K'.mir, l₃) ∷ [])
-            (move ! (5 ∷ 6 ∷ []) $ free1 ! $ move ! (3 ∷ 4 ∷ []) $ free1 ! $ free0 ! $
-            keep ! (0 ∷ 1 ∷ 2 ∷ []) $ owned ! R.answers (Is R.answers) (R.answer_makes 𝓛) (R.answer r) _ (R.is_answer r v isr) $ move ! (1 ∷ 2 ∷ 3 ∷ 0 ∷ []) $ by ! (exits r _ e)))))))))))))))
+            -- [obs; the borrow; the token; the parameters; the reply's bucket; …; the copy; …; the reply; …; b; …; the answer; …; true]
+            returns ! (look ! 12 refl) $ forget ! 4 refl $ forget ! 6 refl $ forget ! 8 refl $ forget ! 10 refl $ forget ! 12 refl $
+            move ! (12 ∷ 13 ∷ []) $ free1 ! $ move ! (10 ∷ 11 ∷ []) $ free1 ! $ move ! (3 ∷ []) $ frees_all 𝓛 1 (κ, tt) ps bs a F
+            (move ! (7 ∷ 8 ∷ []) $ free1 ! $ move ! (5 ∷ 6 ∷ []) $ free1 ! $ move ! (3 ∷ 4 ∷ []) $ free1 ! $ free0 ! $
+            keep ! (0 ∷ 1 ∷ 2 ∷ []) $ owned ! R.answers (Is R.answers) (R.answer_makes 𝓛) (R.answer r) _ (R.is_answer r v isr) $ move ! (1 ∷ 2 ∷ 3 ∷ 0 ∷ []) $ by ! (exits r _ e))))))))))))))))
 
-    module _ (𝓣 : Tables 𝓤 H) (g : Name) (known : Triple 𝓤 (𝓣.C g) (Method 𝓛)) where
+    module _ (𝓣 : Tables 𝓤 H) (g : Callee) (known : Triple 𝓤 (𝓣.C g) (Method 𝓛)) where
       walks : Walks 𝓛 (lent ps R) stayed (WpFn 𝓤 H 𝓣.C 𝓣.Λ (thin_function ps R g)) tc
       walks = walked 𝓛 (lent ps R) stayed tc (WpFn 𝓤 H 𝓣.C 𝓣.Λ (thin_function ps R g))
           (λ κs. (mut_vals, spells 1 κs ps)) (λ κs. (mut_Tells (named 0) κs.0 K.the_row, tellings 1 κs ps))

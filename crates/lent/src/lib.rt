@@ -1,4 +1,6 @@
 // A bucket that the host lends: the call updates it in place. Each function calls the by-value method and stores the bucket of its reply.
+#![tactic(auto)]
+
 ghost use Rattle.std.specs.Prelude.{◌≡◌};
 ghost use Rattle.bucket.specs.Calls.{insert_answer_of, update_answer_of, insert_call, update_status_call};
 

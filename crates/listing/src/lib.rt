@@ -1,4 +1,6 @@
 // The listings (kbucket.rs): `iter` and the three closest calls. Each writes its items to a lent output and answers how many it found.
+#![tactic(auto)]
+
 ghost use Rattle.std.specs.Prelude.{◌≡◌, true, ◌&&◌, ◌*◌, ◌≤◌, leb, length};
 ghost use Rattle.model.specs.Base.{tabulate};
 ghost use Rattle.model.specs.Table.{num_buckets};

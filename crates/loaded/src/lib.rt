@@ -1,5 +1,7 @@
 // The reader (document 02, slip 6): loads the bytes that the writer put out into storage just made by `new`. All is asked before
 // anything is written.
+#![tactic(auto)]
+
 ghost use Rattle.std.specs.Prelude.{◌≡◌, true, false, ◌++◌, ◌+◌, ◌*◌, ◌≤◌, ◌<◌, length, get_or};
 ghost use Rattle.model.specs.Base.{all_below};
 ghost use Rattle.model.specs.Bytes.{part, splice};
@@ -23,7 +25,7 @@ use node::Value;
 use storage::Layout;
 
 // What the reader answers: the number of the first question that failed, or how many nodes it loaded.
-#[derive(Drop)]
+#[derive(Clone, Copy)]
 pub enum ReadAnswer {
     Refused(u8),
     Answered(usize),

@@ -1,4 +1,6 @@
 // What a bucket holds: values, statuses and nodes (bucket.rs), and the filter's test (filter.rs).
+#![tactic(auto)]
+
 ghost use Rattle.std.specs.Prelude.{◌≡◌};
 ghost use Rattle.model.specs.Value.{same_value};
 ghost use Rattle.model.specs.Node.{connected_incoming};
@@ -14,7 +16,7 @@ pub mod filter;
 pub type Slot = u64;
 
 // An optional IPv4 address and a slot of the host's record store. An absent address has flag 0 and zero octets.
-#[derive(Drop)]
+#[derive(Clone, Copy)]
 pub struct Value {
     pub flag: u8,
     pub a: u8,
@@ -25,35 +27,35 @@ pub struct Value {
 }
 
 // The connection state of a node.
-#[derive(Drop)]
+#[derive(Clone, Copy)]
 pub enum ConnectionState {
     Connected,
     Disconnected,
 }
 
 // How the node was connected to: it contacted us, or we contacted it.
-#[derive(Drop)]
+#[derive(Clone, Copy)]
 pub enum ConnectionDirection {
     Incoming,
     Outgoing,
 }
 
 // What a code says: the number of the question that failed, or the state.
-#[derive(Drop)]
+#[derive(Clone, Copy)]
 pub enum StateAnswer {
     Refused(u8),
     Answered(ConnectionState),
 }
 
 // The same of a direction.
-#[derive(Drop)]
+#[derive(Clone, Copy)]
 pub enum DirectionAnswer {
     Refused(u8),
     Answered(ConnectionDirection),
 }
 
 // The status of a node in a bucket, by the codes of question 4.
-#[derive(Drop)]
+#[derive(Clone, Copy)]
 pub struct NodeStatus {
     // 0 disconnected, 1 connected.
     pub state: u8,
@@ -62,7 +64,7 @@ pub struct NodeStatus {
 }
 
 // A node in a bucket: a peer's key, the value that goes with it, and its status.
-#[derive(Drop)]
+#[derive(Clone, Copy)]
 pub struct Node {
     pub key: Key,
     pub value: Value,

@@ -1,4 +1,6 @@
 // Internal: what the table's calls on one key share. The questions, the key's bucket, and the bucket and its record written back.
+#![tactic(auto)]
+
 ghost use Rattle.std.specs.Prelude.{◌≡◌, true, cond, ◌+◌, ◌<◌, length};
 ghost use Rattle.std.proofs.Math.Option.{none, some};
 ghost use Rattle.model.specs.Bytes.{number};
@@ -182,7 +184,7 @@ pub fn write_back(s: &mut [u8], i: usize, applied: EndedPending, b: KBucket)
 }
 
 // How a call on one key starts: refused, on the local key, or at the key's bucket.
-#[derive(Drop)]
+#[derive(Clone, Copy)]
 pub enum Start {
     Refused(u8),
     Local,

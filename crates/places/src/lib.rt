@@ -1,4 +1,6 @@
 // Sixteen places for nodes, as an array by value (the Rust's ArrayVec). The nodes stand in the first places, and the others are zero.
+#![tactic(auto)]
+
 ghost use Rattle.std.specs.Prelude.{◌≡◌, ◌+◌, ◌≤◌, ◌<◌, true, not, ◌&&◌, List, ◌++◌, ◌∷◌, [], map, take, drop, length};
 ghost use Rattle.std.proofs.Math.Seq.{slice};
 ghost use Rattle.model.specs.Base.{every};

@@ -8,6 +8,7 @@ ghost use Rattle.positions.specs.Positions.{index_number, insert_number, names_k
 
 use bucket::{ApplyAnswer, EndedPending, InsertAnswer, InsertResult, UpdateAnswer, UpdateResult};
 use key::{BucketIndex, Key};
+use std::io;
 
 // The index, or 256 for none.
 pub(crate) fn index_number(i: BucketIndex) -> usize
@@ -118,110 +119,83 @@ pub(crate) fn applied_key(a: ApplyAnswer, key: Key) -> bool
 }
 
 // Writes a key below 2^64.
-pub(crate) fn say_key(k: Key) {
-    io::print_decimal(1, k.w3);
+pub(crate) fn say_key(rt: &impl Print, k: Key) -> io::Result<()> {
+    rt.print(k.w3)
 }
 
-pub(crate) fn say_index(i: BucketIndex) {
+pub(crate) fn say_index(rt: &impl Print, i: BucketIndex) -> io::Result<()> {
     match i {
-        BucketIndex::At(n) => {
-            io::print_decimal(1, n as u64);
-        }
-        BucketIndex::Nothing => {
-            io::write_all(1, b"none");
-        }
+        BucketIndex::At(n) => rt.print(n),
+        BucketIndex::Nothing => print!(rt; "none"),
     }
 }
 
-fn say_refused(q: u8) {
-    io::write_all(1, b"refused with ");
-    io::print_decimal(1, q as u64);
+fn say_refused(rt: &impl Print, q: u8) -> io::Result<()> {
+    print!(rt; "refused with {q}")
 }
 
-pub(crate) fn say_insert(a: InsertAnswer) {
+pub(crate) fn say_insert(rt: &impl Print, a: InsertAnswer) -> io::Result<()> {
     match a {
-        InsertAnswer::Refused(q) => say_refused(q),
-        InsertAnswer::Answered(r) => say_insert_result(r),
+        InsertAnswer::Refused(q) => say_refused(rt, q),
+        InsertAnswer::Answered(r) => say_insert_result(rt, r),
     }
 }
 
-fn say_insert_result(r: InsertResult) {
+fn say_insert_result(rt: &impl Print, r: InsertResult) -> io::Result<()> {
     match r {
-        InsertResult::Inserted => {
-            io::write_all(1, b"Inserted");
-        }
+        InsertResult::Inserted => print!(rt; "Inserted"),
         InsertResult::Pending(k) => {
-            io::write_all(1, b"Pending naming ");
-            say_key(k);
+            print!(rt; "Pending naming ")?;
+            say_key(rt, k)
         }
-        InsertResult::FailedFilter => {
-            io::write_all(1, b"FailedFilter");
-        }
-        InsertResult::TooManyIncoming => {
-            io::write_all(1, b"TooManyIncoming");
-        }
-        InsertResult::Full => {
-            io::write_all(1, b"Full");
-        }
-        InsertResult::NodeExists => {
-            io::write_all(1, b"NodeExists");
-        }
+        InsertResult::FailedFilter => print!(rt; "FailedFilter"),
+        InsertResult::TooManyIncoming => print!(rt; "TooManyIncoming"),
+        InsertResult::Full => print!(rt; "Full"),
+        InsertResult::NodeExists => print!(rt; "NodeExists"),
     }
 }
 
-pub(crate) fn say_update(a: UpdateAnswer) {
+pub(crate) fn say_update(rt: &impl Print, a: UpdateAnswer) -> io::Result<()> {
     match a {
-        UpdateAnswer::Refused(q) => say_refused(q),
-        UpdateAnswer::Answered(r) => say_update_result(r),
+        UpdateAnswer::Refused(q) => say_refused(rt, q),
+        UpdateAnswer::Answered(r) => say_update_result(rt, r),
     }
 }
 
-fn say_update_result(r: UpdateResult) {
+fn say_update_result(rt: &impl Print, r: UpdateResult) -> io::Result<()> {
     match r {
-        UpdateResult::Updated => {
-            io::write_all(1, b"Updated");
-        }
-        UpdateResult::UpdatedAndPromoted => {
-            io::write_all(1, b"UpdatedAndPromoted");
-        }
-        UpdateResult::UpdatedPending => {
-            io::write_all(1, b"UpdatedPending");
-        }
-        UpdateResult::Failed(_) => {
-            io::write_all(1, b"Failed");
-        }
-        UpdateResult::NotModified => {
-            io::write_all(1, b"NotModified");
-        }
+        UpdateResult::Updated => print!(rt; "Updated"),
+        UpdateResult::UpdatedAndPromoted => print!(rt; "UpdatedAndPromoted"),
+        UpdateResult::UpdatedPending => print!(rt; "UpdatedPending"),
+        UpdateResult::Failed(_) => print!(rt; "Failed"),
+        UpdateResult::NotModified => print!(rt; "NotModified"),
     }
 }
 
-pub(crate) fn say_applied(a: ApplyAnswer) {
+pub(crate) fn say_applied(rt: &impl Print, a: ApplyAnswer) -> io::Result<()> {
     match a {
-        ApplyAnswer::Refused(q) => say_refused(q),
-        ApplyAnswer::Answered(p) => say_record(p),
+        ApplyAnswer::Refused(q) => say_refused(rt, q),
+        ApplyAnswer::Answered(p) => say_record(rt, p),
     }
 }
 
-fn say_record(p: EndedPending) {
+fn say_record(rt: &impl Print, p: EndedPending) -> io::Result<()> {
     match p {
-        EndedPending::Nothing => {
-            io::write_all(1, b"not applied");
-        }
+        EndedPending::Nothing => print!(rt; "not applied"),
         EndedPending::Placed(k) => {
-            say_key(k);
-            io::write_all(1, b" inserted");
+            say_key(rt, k)?;
+            print!(rt; " inserted")
         }
         EndedPending::Replaced(k, n) => {
             let evicted = n.key;
-            say_key(k);
-            io::write_all(1, b" inserted, ");
-            say_key(evicted);
-            io::write_all(1, b" evicted");
+            say_key(rt, k)?;
+            print!(rt; " inserted, ")?;
+            say_key(rt, evicted)?;
+            print!(rt; " evicted")
         }
         EndedPending::Dropped(k, _) => {
-            say_key(k);
-            io::write_all(1, b" dropped");
+            say_key(rt, k)?;
+            print!(rt; " dropped")
         }
     }
 }

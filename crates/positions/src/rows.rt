@@ -15,21 +15,21 @@ use key::{BucketIndex, ClosestBucketsIter, Key};
 use node::{Node, NodeStatus, Value};
 
 // What two inserts answered.
-#[derive(Drop)]
+#[derive(Clone, Copy)]
 pub struct Inserts {
     pub first: InsertAnswer,
     pub second: InsertAnswer,
 }
 
 // What applying the pending answered, a millisecond before its deadline and at its deadline.
-#[derive(Drop)]
+#[derive(Clone, Copy)]
 pub struct Applies {
     pub early: ApplyAnswer,
     pub due: ApplyAnswer,
 }
 
 // The first four buckets of a visit.
-#[derive(Drop)]
+#[derive(Clone, Copy)]
 pub struct Visits {
     pub first: BucketIndex,
     pub second: BucketIndex,

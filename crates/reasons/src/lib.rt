@@ -1,4 +1,6 @@
 // Internal: why a step on a bucket by value fails (document 02, slip 1), from the very tests that decide its answer.
+#![tactic(auto)]
+
 ghost use Rattle.std.specs.Prelude.{◌≡◌, true, cond, ◌≤◌, ◌<◌};
 ghost use Rattle.model.specs.Call.{is_one, optional};
 ghost use Rattle.model.specs.Explain as model;

@@ -1,7 +1,10 @@
 // Reads a list of calls with the Rust's answers from standard input, makes each call on a table and a bucket of its own, and compares
 // the code and the checksum of all that the call may write: the table or the bucket, then the output or the answer. Writes how many
 // calls agree, by call, or the first record that does not.
+#![tactic(auto)]
+
 ghost use Rattle.std.specs.Prelude.{◌≡◌, length};
+ghost use Rattle.std.specs.Io.{ReadsAtMost};
 
 mod calls;
 mod checksum;
@@ -9,6 +12,8 @@ mod names;
 mod record;
 
 use bucket::KBucket;
+use std::io;
+use std::io::Read;
 use storage::Layout;
 
 const MOST: u64 = 100_000;
@@ -37,7 +42,7 @@ fn no_counts() -> [u64; 24]
     [0; 24]
 }
 
-#[derive(Drop)]
+#[derive(Clone, Copy)]
 struct Answer {
     code: u64,
     sum: u64,
@@ -64,41 +69,57 @@ fn same(a: Answer, b: Answer) -> bool {
     (a.code == b.code) & (a.sum == b.sum)
 }
 
-fn say(answer: Answer) {
-    io::write_all(1, b"code ");
-    io::print_decimal(1, answer.code);
-    io::write_all(1, b" and checksum ");
-    io::print_hex(1, answer.sum, 16);
+fn say(rt: &impl Print, answer: Answer) -> io::Result<()> {
+    let code = answer.code;
+    let sum = answer.sum;
+    print!(rt; "code {code} and checksum {sum:016x}")
 }
 
-fn say_parted(number: u64, call: u8, wanted: Answer, got: Answer) {
-    io::write_all(1, b"record ");
-    io::print_decimal(1, number);
-    io::write_all(1, b": ");
-    names::name(call);
-    io::write_all(1, b" expected ");
-    say(wanted);
-    io::write_all(1, b", found ");
-    say(got);
-    io::write_all(1, b"\n");
+fn say_parted(
+    rt: &impl Print,
+    number: u64,
+    call: u8,
+    wanted: Answer,
+    got: Answer,
+) -> io::Result<()> {
+    print!(rt; "record {number}: ")?;
+    names::name(rt, call)?;
+    print!(rt; " expected ")?;
+    say(rt, wanted)?;
+    print!(rt; ", found ")?;
+    say(rt, got)?;
+    println!(rt;)
 }
 
-fn agrees_on(number: u64, r: &[u8], s: &mut [u8], out: &mut [u8]) -> bool {
+fn agrees_on(
+    rt: &impl Print,
+    number: u64,
+    r: &[u8],
+    s: &mut [u8],
+    out: &mut [u8],
+) -> io::Result<bool> {
     let wanted = expected(r);
     let got = found(r, s, out);
     if same(wanted, got) {
-        return true;
+        return Ok(true);
     }
-    say_parted(number, record::byte(r, 0), wanted, got);
-    false
+    say_parted(rt, number, record::byte(r, 0), wanted, got)?;
+    Ok(false)
 }
 
 // Calls below 16 are on the table, the others on the bucket.
-fn agrees(number: u64, r: &[u8], table: &mut [u8], bucket: &mut [u8], out: &mut [u8]) -> bool {
+fn agrees(
+    rt: &impl Print,
+    number: u64,
+    r: &[u8],
+    table: &mut [u8],
+    bucket: &mut [u8],
+    out: &mut [u8],
+) -> io::Result<bool> {
     if record::byte(r, 0) < 16 {
-        return agrees_on(number, r, table, out);
+        return agrees_on(rt, number, r, table, out);
     }
-    agrees_on(number, r, bucket, out)
+    agrees_on(rt, number, r, bucket, out)
 }
 
 fn more(x: u64) -> u64 {
@@ -122,54 +143,70 @@ fn count_of(counts: &[u64], call: usize) -> u64 {
     0
 }
 
-fn say_count(call: u8, n: u64) {
-    names::name(call);
-    io::write_all(1, b" ");
-    io::print_decimal(1, n);
-    io::write_all(1, b"\n");
+fn say_count(rt: &impl Print, call: u8, n: u64) -> io::Result<()> {
+    names::name(rt, call)?;
+    println!(rt; " {n}")
 }
 
-fn say_end(number: u64, list: u64) {
-    io::print_decimal(1, number);
-    io::write_all(1, b" records agree; the list has checksum ");
-    io::print_hex(1, list, 16);
-    io::write_all(1, b"\n");
+fn say_end(rt: &impl Print, number: u64, list: u64) -> io::Result<()> {
+    println!(rt; "{number} records agree; the list has checksum {list:016x}")
 }
 
-fn say_counts(counts: &[u64], number: u64, list: u64) {
+fn say_counts(rt: &impl Print, counts: &[u64], number: u64, list: u64) -> io::Result<()> {
     let mut call: u8 = 0;
     while call < 24 {
-        say_count(call, count_of(counts, call as usize));
+        say_count(rt, call, count_of(counts, call as usize))?;
         call += 1;
     }
-    say_end(number, list);
+    say_end(rt, number, list)
 }
 
-fn replay(table: &mut [u8], bucket: &mut [u8], out: &mut [u8], counts: &mut [u64]) {
+// Reads until buf is full or the input ends, and returns how many bytes it put at the start of buf.
+fn read_full(input: &mut impl Read, buf: &mut [u8]) -> io::Result<usize>
+    ensures { ReadsAtMost result buf.new }
+{
+    let mut done = 0;
+    while done < buf.len() {
+        let n = input.read(&mut buf[done..])?;
+        if n == 0 {
+            break;
+        }
+        done += n;
+    }
+    Ok(done)
+}
+
+fn replay(
+    rt: &(impl Input + Print),
+    table: &mut [u8],
+    bucket: &mut [u8],
+    out: &mut [u8],
+    counts: &mut [u64],
+) -> io::Result<()> {
+    let mut input = rt.reader();
     let mut number: u64 = 0;
     let mut list = checksum::BASIS;
     while number < MOST {
         let mut space = record::empty();
         let r: &mut [u8] = &mut space;
-        let got = io::read_full(0, r);
+        let got = read_full(&mut input, r)?;
         if got == 0 {
-            say_counts(counts, number, list);
-            return;
+            return say_counts(rt, counts, number, list);
         }
         number += 1;
         list = checksum::checksum(list, r, got);
-        if !agrees(number, r, table, bucket, out) {
-            return;
+        if !agrees(rt, number, r, table, bucket, out)? {
+            return Ok(());
         }
         count(counts, record::byte(r, 0) as usize);
     }
-    io::write_all(1, b"the list is too long\n");
+    println!(rt; "the list is too long")
 }
 
-fn main() {
+fn main(rt: HostRuntime) -> io::Result<()> {
     let mut table = storage();
     let mut bucket = alone();
     let mut out = output();
     let mut counts = no_counts();
-    replay(&mut table, &mut bucket, &mut out, &mut counts);
+    replay(&rt, &mut table, &mut bucket, &mut out, &mut counts)
 }

@@ -1,6 +1,9 @@
 // The names of the calls, by their numbers in a record: 24 bytes each. A write of bytes that no call leaves has a number too.
 
-pub(crate) fn name(call: u8) {
+use std::io;
+use std::io::Write;
+
+pub(crate) fn name(rt: &impl Print, call: u8) -> io::Result<()> {
     let names: &[u8] =
         b"storage written         new                     update_node_status      update_node             \
         insert_or_update        remove                  entry                   present_update          \
@@ -11,7 +14,7 @@ pub(crate) fn name(call: u8) {
     let from = call as usize * 24;
     let end = from + 24;
     if names.len() < end {
-        return;
+        return Ok(());
     }
-    io::write_all(1, &names[from..end]);
+    io::writer(rt).write_all(&names[from..end])
 }

@@ -47,7 +47,7 @@ pub(crate) const BYTES: usize = 128;
 // The bytes that a write has room for.
 pub(crate) const WRITTEN: usize = BYTES - REST_AT;
 
-#[derive(Drop)]
+#[derive(Clone, Copy)]
 pub struct Arguments {
     pub state: u8,
     pub direction: u8,

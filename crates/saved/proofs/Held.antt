@@ -22,7 +22,7 @@ use Rattle.laws.proofs.Saved.{held_within}
 use Rattle.on_key.proofs.Steps.{ready_at}
 use Rattle.items.specs.Run.{HeldAt}
 use Rattle.items.proofs.Shown.{held_at}
-use Rattle.items.proofs.Run.{node_at, count_at}
+use Rattle.items.proofs.Run.{node_at_lem, count_at}
 use Rattle.saved.specs.declared.Field.{Field}
 use Rattle.saved.specs.Fields.{field_size, Appended}
 use Rattle.saved.proofs.Fields.{appended_more}
@@ -46,7 +46,7 @@ module _ (s : List ℕ) (i : ℕ) where
   pub places_are : get_or s (bucket_at i) 0 ≤ 16 → tabulate (get_or s (bucket_at i) 0) (node_from s (bucket_at i)) ≡ nodes ((table_of s).buckets i)
   unfolding nodes_in
   places_are h =
-      tabulate_ext (get_or s (bucket_at i) 0) (node_from s (bucket_at i)) _ (λ j l. node_at s (bucket_at i) j (omega arith))
+      tabulate_ext (get_or s (bucket_at i) 0) (node_from s (bucket_at i)) _ (λ j l. node_at_lem s (bucket_at i) j (omega arith))
       ∙ rw (count_at s (bucket_at i)) (sym nodes_are)
 
 -- every bucket of formed storage

@@ -1,4 +1,6 @@
 // The writer: a table's held nodes put out to be loaded elsewhere (document 02, slip 6). A query: nothing but the lent output is written.
+#![tactic(auto)]
+
 ghost use Rattle.std.specs.Prelude.{◌≡◌, true, ◌+◌, ◌*◌, ◌≤◌, length};
 ghost use Rattle.model.specs.Base.{tabulate};
 ghost use Rattle.model.specs.Bytes.{part, splice};
@@ -16,14 +18,14 @@ use key::Key;
 use storage::Layout;
 
 // What the writer answers: the number of the first question that failed, or how many nodes it wrote.
-#[derive(Drop)]
+#[derive(Clone, Copy)]
 pub enum WriteAnswer {
     Refused(u8),
     Answered(usize),
 }
 
 // What is written of a node: its key, or its entry of state, direction and value.
-#[derive(Drop)]
+#[derive(Clone, Copy)]
 enum Field {
     Key,
     Entry,

@@ -1,4 +1,6 @@
 // Admission in session hours (document 02, slip 8): questions 10 and 11 of the windows, closed dates and moment that a host gives with a call.
+#![tactic(auto)]
+
 ghost use Rattle.std.specs.Prelude.{◌≡◌, true, ◌&&◌, ◌+◌, ◌-◌, ◌≤◌, ◌<◌, length};
 ghost use Rattle.model.specs.Base.{every, any_of};
 ghost use Rattle.model.specs.Question.{first_failed};
@@ -29,7 +31,7 @@ const MONTH_DAYS: [u16; 12] = [31, 28, 31, 30, 31, 30, 31, 31, 30, 31, 30, 31];
 const MONTH_STARTS: [u16; 12] = [0, 31, 59, 90, 120, 151, 181, 212, 243, 273, 304, 334];
 
 // The UTC date and minute of a call.
-#[derive(Drop)]
+#[derive(Clone, Copy)]
 pub struct Moment {
     pub year: u16,
     pub month: u16,

@@ -1,12 +1,15 @@
 // Runs three situations with the table filter on, and writes the answers and the bucket before and after. Nine members of one /24 are
 // held, or ten, and one of them re-signs its record after a port change: the record is taken, and the entry keeps its place, since its own
 // old record is not counted (document 02, slip 3). Eleven members, the same call: Failed(TableFilter), and the peer is gone.
+#![tactic(auto)]
+
 ghost use Rattle.std.specs.Prelude.{◌≡◌, length};
 
 use bucket::{FailureReason, InsertAnswer, NewAnswer, UpdateAnswer, UpdateResult};
 use bucket_update::InsertResult;
 use node::{Slot, Value};
 use session::Moment;
+use std::io;
 use storage::Layout;
 use update::InsertOrUpdateAnswer;
 
@@ -46,162 +49,114 @@ fn byte(s: &[u8], at: usize) -> u8 {
 }
 
 // Writes the node at a place of bucket 255: the last byte of its key, the last octet of its address, the last byte of its slot.
-fn say_node(s: &[u8], place: usize) {
+fn say_node(rt: &impl Print, s: &[u8], place: usize) -> io::Result<()> {
     if 16 <= place {
-        return;
+        return Ok(());
     }
     let at = Layout::HEADER + 255 * Layout::BUCKET + Layout::PLACES_AT + place * Layout::NODE;
-    io::write_all(1, b" ");
-    io::print_decimal(1, byte(s, at + 31) as u64);
-    io::write_all(1, b"=10.0.0.");
-    io::print_decimal(1, byte(s, at + Layout::VALUE_AT + 4) as u64);
-    io::write_all(1, b"/slot ");
-    io::print_decimal(1, byte(s, at + Layout::NODE - 1) as u64);
+    print!(rt; " ")?;
+    rt.print(byte(s, at + 31))?;
+    print!(rt; "=10.0.0.")?;
+    rt.print(byte(s, at + Layout::VALUE_AT + 4))?;
+    print!(rt; "/slot ")?;
+    rt.print(byte(s, at + Layout::NODE - 1))
 }
 
-fn say_bucket(s: &[u8]) {
+fn say_bucket(rt: &impl Print, s: &[u8]) -> io::Result<()> {
     let count = byte(s, Layout::HEADER + 255 * Layout::BUCKET) as usize;
-    io::print_decimal(1, count as u64);
-    io::write_all(1, b" held:");
+    print!(rt; "{count} held:")?;
     let mut place = 0;
     while place < count {
-        say_node(s, place);
+        say_node(rt, s, place)?;
         place += 1;
     }
-    io::write_all(1, b"\n");
+    println!(rt;)
 }
 
-fn say_refused(q: u8) {
-    io::write_all(1, b"refused with ");
-    io::print_decimal(1, q as u64);
+fn say_refused(rt: &impl Print, q: u8) -> io::Result<()> {
+    print!(rt; "refused with {q}")
 }
 
-fn say_new(a: NewAnswer) {
+fn say_new(rt: &impl Print, a: NewAnswer) -> io::Result<()> {
     match a {
         NewAnswer::Refused(q) => {
-            say_refused(q);
-            io::write_all(1, b"\n");
+            say_refused(rt, q)?;
+            println!(rt;)
         }
-        NewAnswer::Created => {
-            io::write_all(1, b"a new table, table filter on, bucket filter off\n");
-        }
+        NewAnswer::Created => println!(rt; "a new table, table filter on, bucket filter off"),
     }
 }
 
-fn say_reason(r: FailureReason) {
+fn say_reason(rt: &impl Print, r: FailureReason) -> io::Result<()> {
     match r {
-        FailureReason::TooManyIncoming => {
-            io::write_all(1, b"Failed(TooManyIncoming)");
-        }
-        FailureReason::BucketFilter => {
-            io::write_all(1, b"Failed(BucketFilter)");
-        }
-        FailureReason::TableFilter => {
-            io::write_all(1, b"Failed(TableFilter)");
-        }
-        FailureReason::KeyNonExistent => {
-            io::write_all(1, b"Failed(KeyNonExistent)");
-        }
-        FailureReason::BucketFull => {
-            io::write_all(1, b"Failed(BucketFull)");
-        }
-        FailureReason::InvalidSelfUpdate => {
-            io::write_all(1, b"Failed(InvalidSelfUpdate)");
-        }
+        FailureReason::TooManyIncoming => print!(rt; "Failed(TooManyIncoming)"),
+        FailureReason::BucketFilter => print!(rt; "Failed(BucketFilter)"),
+        FailureReason::TableFilter => print!(rt; "Failed(TableFilter)"),
+        FailureReason::KeyNonExistent => print!(rt; "Failed(KeyNonExistent)"),
+        FailureReason::BucketFull => print!(rt; "Failed(BucketFull)"),
+        FailureReason::InvalidSelfUpdate => print!(rt; "Failed(InvalidSelfUpdate)"),
     }
 }
 
-fn say_update_result(r: UpdateResult) {
+fn say_update_result(rt: &impl Print, r: UpdateResult) -> io::Result<()> {
     match r {
-        UpdateResult::Updated => {
-            io::write_all(1, b"Updated");
-        }
-        UpdateResult::UpdatedAndPromoted => {
-            io::write_all(1, b"UpdatedAndPromoted");
-        }
-        UpdateResult::UpdatedPending => {
-            io::write_all(1, b"UpdatedPending");
-        }
-        UpdateResult::Failed(reason) => say_reason(reason),
-        UpdateResult::NotModified => {
-            io::write_all(1, b"NotModified");
-        }
+        UpdateResult::Updated => print!(rt; "Updated"),
+        UpdateResult::UpdatedAndPromoted => print!(rt; "UpdatedAndPromoted"),
+        UpdateResult::UpdatedPending => print!(rt; "UpdatedPending"),
+        UpdateResult::Failed(reason) => say_reason(rt, reason),
+        UpdateResult::NotModified => print!(rt; "NotModified"),
     }
 }
 
-fn say_update(a: UpdateAnswer) {
+fn say_update(rt: &impl Print, a: UpdateAnswer) -> io::Result<()> {
     match a {
-        UpdateAnswer::Refused(q) => say_refused(q),
-        UpdateAnswer::Answered(r) => say_update_result(r),
+        UpdateAnswer::Refused(q) => say_refused(rt, q),
+        UpdateAnswer::Answered(r) => say_update_result(rt, r),
     }
 }
 
-fn say_insert_result(r: InsertResult) {
+fn say_insert_result(rt: &impl Print, r: InsertResult) -> io::Result<()> {
     match r {
-        InsertResult::Inserted => {
-            io::write_all(1, b"Inserted");
-        }
-        InsertResult::Pending(_) => {
-            io::write_all(1, b"Pending");
-        }
-        InsertResult::StatusUpdated(_) => {
-            io::write_all(1, b"StatusUpdated");
-        }
-        InsertResult::ValueUpdated => {
-            io::write_all(1, b"ValueUpdated");
-        }
-        InsertResult::Updated(_) => {
-            io::write_all(1, b"Updated");
-        }
-        InsertResult::UpdatedPending => {
-            io::write_all(1, b"UpdatedPending");
-        }
-        InsertResult::Failed(reason) => say_reason(reason),
+        InsertResult::Inserted => print!(rt; "Inserted"),
+        InsertResult::Pending(_) => print!(rt; "Pending"),
+        InsertResult::StatusUpdated(_) => print!(rt; "StatusUpdated"),
+        InsertResult::ValueUpdated => print!(rt; "ValueUpdated"),
+        InsertResult::Updated(_) => print!(rt; "Updated"),
+        InsertResult::UpdatedPending => print!(rt; "UpdatedPending"),
+        InsertResult::Failed(reason) => say_reason(rt, reason),
     }
 }
 
-fn say_insert(a: InsertOrUpdateAnswer) {
+fn say_insert(rt: &impl Print, a: InsertOrUpdateAnswer) -> io::Result<()> {
     match a {
-        InsertOrUpdateAnswer::Refused(q) => say_refused(q),
-        InsertOrUpdateAnswer::Answered(r) => say_insert_result(r),
+        InsertOrUpdateAnswer::Refused(q) => say_refused(rt, q),
+        InsertOrUpdateAnswer::Answered(r) => say_insert_result(rt, r),
     }
 }
 
-fn say_placed(r: bucket::InsertResult) {
+fn say_placed(rt: &impl Print, r: bucket::InsertResult) -> io::Result<()> {
     match r {
-        bucket::InsertResult::Inserted => {
-            io::write_all(1, b"Inserted");
-        }
-        bucket::InsertResult::Pending(_) => {
-            io::write_all(1, b"Pending");
-        }
-        bucket::InsertResult::FailedFilter => {
-            io::write_all(1, b"FailedFilter");
-        }
-        bucket::InsertResult::TooManyIncoming => {
-            io::write_all(1, b"TooManyIncoming");
-        }
-        bucket::InsertResult::Full => {
-            io::write_all(1, b"Full");
-        }
-        bucket::InsertResult::NodeExists => {
-            io::write_all(1, b"NodeExists");
-        }
+        bucket::InsertResult::Inserted => print!(rt; "Inserted"),
+        bucket::InsertResult::Pending(_) => print!(rt; "Pending"),
+        bucket::InsertResult::FailedFilter => print!(rt; "FailedFilter"),
+        bucket::InsertResult::TooManyIncoming => print!(rt; "TooManyIncoming"),
+        bucket::InsertResult::Full => print!(rt; "Full"),
+        bucket::InsertResult::NodeExists => print!(rt; "NodeExists"),
     }
 }
 
-fn say_absent_insert(a: InsertAnswer) {
+fn say_absent_insert(rt: &impl Print, a: InsertAnswer) -> io::Result<()> {
     match a {
-        InsertAnswer::Refused(q) => say_refused(q),
-        InsertAnswer::Answered(r) => say_placed(r),
+        InsertAnswer::Refused(q) => say_refused(rt, q),
+        InsertAnswer::Answered(r) => say_placed(rt, r),
     }
 }
 
 // A member joins, connected and outgoing. The table filter lets no eleventh of a /24 in by insert_or_update; an entry's insert passes it by.
-fn join(s: &mut [u8], member: u8) {
+fn join(rt: &impl Print, s: &mut [u8], member: u8) -> io::Result<()> {
     let key = key_of(member);
     let value = record_of(member, member as Slot);
-    io::write_all(1, b" ");
+    print!(rt; " ")?;
     // no session hours: with an empty window list neither question is asked
     let windows: [u16; 1] = [0];
     let closed: [u16; 1] = [0];
@@ -223,8 +178,7 @@ fn join(s: &mut [u8], member: u8) {
             &closed[0..0],
             moment,
         );
-        say_absent_insert(e);
-        return;
+        return say_absent_insert(rt, e);
     }
     let a = update::insert_or_update(
         s,
@@ -237,44 +191,44 @@ fn join(s: &mut [u8], member: u8) {
         &closed[0..0],
         moment,
     );
-    say_insert(a);
+    say_insert(rt, a)
 }
 
-fn join_all(s: &mut [u8], members: u8) {
+fn join_all(rt: &impl Print, s: &mut [u8], members: u8) -> io::Result<()> {
     let mut m = 0;
     while m < members {
         m += 1;
-        join(s, m);
+        join(rt, s, m)?;
     }
+    Ok(())
 }
 
 // A member's port changes: its record is signed again and lies in another slot.
-fn resign(s: &mut [u8], member: u8, slot: Slot) {
+fn resign(rt: &impl Print, s: &mut [u8], member: u8, slot: Slot) -> io::Result<()> {
     let key = key_of(member);
     let value = record_of(member, slot);
     let a = update::update_node(s, &key, value, 2, 2000);
-    say_update(a);
+    say_update(rt, a)
 }
 
-fn situation(members: u8) {
+fn situation(rt: &impl Print, members: u8) -> io::Result<()> {
     let mut space = storage();
     let s: &mut [u8] = &mut space;
     let local = [0u8; 32];
     let a = table::new(s, &local, 60000, 16, 1, 0);
-    say_new(a);
-    io::print_decimal(1, members as u64);
-    io::write_all(1, b" members of 10.0.0.0/24 join:");
-    join_all(s, members);
-    io::write_all(1, b"\nbefore: ");
-    say_bucket(s);
-    io::write_all(1, b"member 3 re-signs its record, slot 103: ");
-    resign(s, 3, 103);
-    io::write_all(1, b"\nafter: ");
-    say_bucket(s);
+    say_new(rt, a)?;
+    print!(rt; "{members} members of 10.0.0.0/24 join:")?;
+    join_all(rt, s, members)?;
+    print!(rt; "\nbefore: ")?;
+    say_bucket(rt, s)?;
+    print!(rt; "member 3 re-signs its record, slot 103: ")?;
+    resign(rt, s, 3, 103)?;
+    print!(rt; "\nafter: ")?;
+    say_bucket(rt, s)
 }
 
-fn main() {
-    situation(9);
-    situation(10);
-    situation(11);
+fn main(rt: HostRuntime) -> io::Result<()> {
+    situation(&rt, 9)?;
+    situation(&rt, 10)?;
+    situation(&rt, 11)
 }

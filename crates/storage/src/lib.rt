@@ -1,4 +1,6 @@
 // The table's bytes: how many each thing takes, and values and nodes read from lent storage and written to it.
+#![tactic(auto)]
+
 ghost use Rattle.std.specs.Prelude.{◌≡◌, true, ◌+◌, ◌≤◌, length};
 ghost use Rattle.model.specs.Bytes.{part, splice};
 ghost use Rattle.model.specs.Sizes.{value_size, node_size};
@@ -10,7 +12,7 @@ use key::Key;
 use node::{Node, NodeStatus, Value};
 
 // How many bytes each thing takes, each derived from the others, and where it stands in what holds it.
-#[derive(Drop)]
+#[derive(Clone, Copy)]
 pub struct Layout {}
 
 impl Layout {

@@ -1,4 +1,6 @@
 // The calls of the table on lent storage (kbucket.rs): each asks its questions, then does what the model's call does.
+#![tactic(auto)]
+
 ghost use Rattle.std.specs.Prelude.{◌≡◌, true};
 ghost use Rattle.model.specs.Call.{Call, KeyCall};
 ghost use Rattle.model.specs.StepBytes.{step_bytes};
@@ -10,7 +12,7 @@ use on_key::Start;
 use storage::Layout;
 
 // The oldest record of an ended pending, Nothing where the queue is empty.
-#[derive(Drop)]
+#[derive(Clone, Copy)]
 pub enum TakeAnswer {
     Refused(u8),
     Answered(EndedPending),

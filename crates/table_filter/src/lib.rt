@@ -1,5 +1,7 @@
 // Internal: the table filter (kbucket.rs, filter.rs) on the bytes of the storage, one value at a time. Where it runs, each bucket is asked
 // question 2 before it is counted (document 02, slip 7).
+#![tactic(auto)]
+
 ghost use Rattle.std.specs.Prelude.{◌≡◌, true, ◌+◌, ◌≤◌, ◌<◌, length, get_or};
 ghost use Rattle.model.specs.Bytes.{part};
 ghost use Rattle.model.specs.Base.{select};
@@ -64,7 +66,7 @@ fn counted(s: &[u8], at: usize, key: Key, value: Value) -> usize
 }
 
 // What the table filter answers: a bucket that it reads fails question 2, or the value passes or fails.
-#[derive(Drop)]
+#[derive(Clone, Copy)]
 pub enum Filtered {
     Malformed,
     Passes,

@@ -10,7 +10,7 @@ use Rattle.model.specs.Node.{Node, PendingNode}
 use Rattle.model.specs.Bucket.{Bucket, max_nodes_per_bucket, find, or_else, get, omit, take_out, put, with_pending, cleared, num_entries}
 use Rattle.model.specs.Formed.{is_at}
 use Rattle.laws.proofs.Tests.{same_self, same_true, same_sym, clash, cases, split}
-use Rattle.log.specs.Log.{Log, node_of, collect, group, without}
+use Rattle.table_log.specs.Log.{Log, node_of, collect, group, without}
 use Rattle.theorem.proofs.Fold.{mem, depart, place}
 use Rattle.theorem.proofs.Keys.{mem_append, mem_without_other, without_absent}
 use Rattle.theorem.proofs.Groups.{collect_append, collect_other, collect_without, find_collect}

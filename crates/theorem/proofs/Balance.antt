@@ -27,9 +27,9 @@ use Rattle.laws.proofs.KeepStep.{bucket_index_below}
 use Rattle.laws.proofs.Touched.{Below, applies_below}
 use Rattle.laws.proofs.Questions.{accepted}
 use Rattle.laws.proofs.Loaded.{Loads, loads, loaded_pending, nothing_at}
-use Rattle.log.specs.Log.{Entry, Role, role, is_refused}
-use Rattle.log.specs.Claim.{table_after, entries}
-use Rattle.log.specs.Pending.{insert_pending, bucket_insert_pending, pending_answer, since_made, answered_pending, recorded, waits, waiting, still_waiting, Conserved}
+use Rattle.table_log.specs.Log.{Entry, Role, role, is_refused}
+use Rattle.table_log.specs.Claim.{table_after, entries}
+use Rattle.table_log.specs.Pending.{insert_pending, bucket_insert_pending, pending_answer, since_made, answered_pending, recorded, waits, waiting, still_waiting, Conserved}
 use Rattle.theorem.proofs.Ops.{Settled, apply_settled, remove_settled}
 use Rattle.theorem.proofs.Call.{update_node_answers, insert_or_update_answers, insert_updates_answers}
 use Rattle.theorem.proofs.Kept.{Every, step_keeps, new_keeps}

@@ -10,7 +10,7 @@ use Rattle.model.specs.Bytes.{number}
 use Rattle.model.specs.Value.{Value}
 use Rattle.model.specs.Node.{Node, EndedPending}
 use Rattle.model.specs.Result.{FailureReason, UpdateResult, InsertResult, is_failed}
-use Rattle.model.specs.Bucket.{Bucket, BucketSettings, empty_bucket, holds, insert, apply_pending, update_status, update_value, remove}
+use Rattle.model.specs.Bucket.{Bucket, BucketSettings, empty_bucket, holds, insert, apply_pending, update_status, update_value}
 use Rattle.model.specs.Table.{Table, EntryKind, Answer, Effect, fails_table_filter, then_status, update_node_in, insert_updates, insert_or_update_in, kind_of, kind_in, write, index_in}
 use Rattle.model.specs.Call.{Call, KeyCall, is_one, optional, value_of}
 use Rattle.model.specs.Listing.{apply_all, applies}
@@ -21,7 +21,7 @@ use Rattle.model.specs.Step.{Outcome, on_key, own_answer, effect, take_oldest, a
 use Rattle.laws.proofs.Tests.{same_true, clash, cases}
 use Rattle.laws.proofs.Questions.{Accepted, accepted}
 use Rattle.laws.proofs.Loaded.{Loads, loads}
-use Rattle.log.specs.Log.{Log, Naming, naming, node_of, group, is_refused, role}
+use Rattle.table_log.specs.Log.{Log, Naming, naming, group, is_refused, role}
 use Rattle.theorem.proofs.Fold.{fresh, enter_records, gave_by, enter_loaded, enter_role, enter}
 use Rattle.theorem.proofs.Keys.{Distinct}
 use Rattle.theorem.proofs.Records.{records_distinct, records_settings, records_append, Quiet, nothing_quiet, status_quiet, insert_quiet, update_node_quiet, insert_or_update_quiet, quiet}

@@ -30,8 +30,8 @@ use Rattle.laws.proofs.Keep.{apply_pending_well_formed}
 use Rattle.laws.proofs.TableBytes.{fits_back}
 use Rattle.laws.proofs.Tests.{clash}
 use Rattle.laws.proofs.Sort.{Strict, sort_strict, sort_tally}
-use Rattle.log.specs.Log.{is_refused}
-use Rattle.log.specs.Closest.{all_held, closest_nodes, target, Ascending, ClosestClaim}
+use Rattle.table_log.specs.Log.{is_refused}
+use Rattle.table_log.specs.Closest.{all_held, closest_nodes, target, Ascending, ClosestClaim}
 use Rattle.laws.proofs.Nearest.{visits_nearest, held_different, different_apart}
 use Rattle.laws.proofs.All.{all_map}
 

@@ -22,8 +22,8 @@ use Rattle.model.specs.Step
 use Rattle.model.specs.Step.{on_key, own_answer, effect, take_oldest, act, questions, unless_refused, step}
 use Rattle.laws.proofs.Tests.{same_self, same_true, clash, cases, split, and_left, and_right, or_second}
 use Rattle.laws.proofs.Applied.{apply_none, apply_ends}
-use Rattle.log.specs.Log.{is_refused}
-use Rattle.log.specs.Pending.{waits, applies_due, is_due, has_record, ended_if_due, due_ended, lists, one_record}
+use Rattle.table_log.specs.Log.{is_refused}
+use Rattle.table_log.specs.Pending.{waits, applies_due, is_due, has_record, ended_if_due, due_ended, lists, one_record}
 
 -- one record, of this key
 pub record One (k : ℕ) (rs : List EndedPending) : Type 0 where

@@ -8,7 +8,7 @@ use Rattle.model.specs.Value.{Value}
 use Rattle.model.specs.Node.{Node, Ending, EndedPending}
 use Rattle.model.specs.Table.{Settings, Answer}
 use Rattle.model.specs.Call.{Call}
-use Rattle.log.specs.Log.{Log, Entry, Naming, Role, role, is_refused, answers_failed, answers_removed, answers_inserted, given_of, without, no_settings, no_value}
+use Rattle.table_log.specs.Log.{Log, Entry, Naming, Role, role, is_refused, answers_failed, answers_removed, answers_inserted, given_of, without, no_settings, no_value}
 
 abbrev pub mem : ℕ → List ℕ → Bool
 mem k [] = false

@@ -9,7 +9,7 @@ use Rattle.model.specs.Node.{Node, PendingNode}
 use Rattle.model.specs.Bucket.{Bucket}
 use Rattle.model.specs.Formed.{is_at}
 use Rattle.laws.proofs.Tests.{same_self, same_true, same_false, same_not, clash, cases, split}
-use Rattle.log.specs.Log.{Log, node_of, collect, group, without}
+use Rattle.table_log.specs.Log.{Log, node_of, collect, group, without}
 use Rattle.theorem.proofs.Fold.{mem, depart, place}
 use Rattle.theorem.proofs.Keys.{mem_without_other}
 use Rattle.theorem.proofs.Groups.{collect_other, collect_skip}

@@ -10,7 +10,7 @@ use Rattle.model.specs.Value.{Value}
 use Rattle.model.specs.Node.{Node, with_value}
 use Rattle.model.specs.Bucket.{find, omit, revalue}
 use Rattle.laws.proofs.Tests.{same_true, same_of, cases, split}
-use Rattle.log.specs.Log.{collect, without}
+use Rattle.table_log.specs.Log.{collect, without}
 use Rattle.theorem.proofs.Fold.{mem}
 use Rattle.theorem.proofs.Keys.{Distinct, without_absent}
 

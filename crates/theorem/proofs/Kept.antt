@@ -18,11 +18,11 @@ use Rattle.model.specs.Listing.{apply_all, applies}
 use Rattle.model.specs.Question.{first_failed}
 use Rattle.model.specs.Saved.{loaded_bucket}
 use Rattle.model.specs.Step
-use Rattle.model.specs.Step.{on_key, effect, take_oldest, act, bytes_fit, questions, unless_refused, step}
+use Rattle.model.specs.Step.{on_key, own_answer, effect, take_oldest, act, bytes_fit, questions, unless_refused, step}
 use Rattle.laws.proofs.Tests.{cases}
 use Rattle.laws.proofs.Questions.{accepted}
 use Rattle.laws.proofs.Loaded.{Loads, loads}
-use Rattle.log.specs.Claim.{table_after}
+use Rattle.table_log.specs.Claim.{table_after}
 
 -- the operations keep Q
 pub record Keeps (Q : BucketSettings → Bucket → Type 0) : Type 0 where
@@ -91,7 +91,7 @@ module _ (Q : BucketSettings → Bucket → Type 0) (keeps : Keeps Q) where
   act_keeps : (c : Call) (t : Table) → bytes_fit c t ≡ true → Every Q t → Every Q (act c t).table
   unfolding act
   act_keeps (Call.new k timeout m tf bf) t a f = λ j. keeps.empty _
-  act_keeps (Call.on_key k c) t a f = on_key_keeps t _ _ f (effect_keeps c k t) (index_in t (number k))
+  act_keeps (Call.on_key k c) t a f = on_key_keeps t (own_answer c) (effect c k t) f (effect_keeps c k t) (index_in t (number k))
   act_keeps (Call.list l n now out) t a f = apply_all_keeps now (applies l n now t) t f
   act_keeps Call.take_applied_pending t a f = oldest_keeps t f t.queue
   act_keeps (Call.read bs) t a f = keeps.load bs t (loads bs t a)

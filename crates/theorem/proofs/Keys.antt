@@ -5,7 +5,7 @@ use mathlib.Core.Bool.{Bool, false, ◌||◌}
 use mathlib.Core.List.{List, [], ◌∷◌, ◌++◌, append-nil}
 use Rattle.model.specs.Base.{same}
 use Rattle.laws.proofs.Tests.{same_self, same_true, same_false, same_not, same_sym, cases, split, or_left, or_right}
-use Rattle.log.specs.Log.{without}
+use Rattle.table_log.specs.Log.{without}
 use Rattle.theorem.proofs.Fold.{mem}
 
 -- no key stands twice

@@ -15,8 +15,8 @@ use Rattle.model.specs.Fits.{Formed}
 use Rattle.laws.proofs.KeepFormed.{empty_formed, insert_formed, apply_pending_formed, update_status_formed, update_value_formed, update_pending_formed, remove_formed}
 use Rattle.laws.proofs.Questions.{accepted}
 use Rattle.laws.proofs.Loaded.{loaded_well_formed}
-use Rattle.log.specs.Log.{log_of}
-use Rattle.log.specs.Claim.{table_after, entries}
+use Rattle.table_log.specs.Log.{log_of}
+use Rattle.table_log.specs.Claim.{table_after, entries}
 use Rattle.theorem.proofs.Kept.{Keeps, reached_keeps}
 use Rattle.theorem.proofs.Run.{settings}
 

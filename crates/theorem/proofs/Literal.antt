@@ -11,7 +11,7 @@ use Rattle.model.specs.Value.{Value}
 use Rattle.model.specs.Node.{Node, Ending, EndedPending}
 use Rattle.model.specs.Table.{Settings, Answer}
 use Rattle.laws.proofs.Tests.{same_self, same_true, same_sym, clash, cases, split, or_first, or_second, or_rest}
-use Rattle.log.specs.Log.{Entry, Log, Naming, Role, role, is_refused, answers_failed, answers_removed, answers_inserted, Event, held_now, ending_events, record_events, load_events, own_events, events, given_of, load_given, now_given, now_settings, held_order, last_placement, no_value, log_of, without}
+use Rattle.table_log.specs.Log.{Entry, Log, Naming, Role, role, is_refused, answers_failed, answers_removed, answers_inserted, Event, held_now, ending_events, record_events, load_events, own_events, events, given_of, load_given, now_given, now_settings, held_order, last_placement, no_value, log_of, without}
 use Rattle.theorem.proofs.Fold.{mem, with_held, depart, place, evict, enter_ending, enter_records, at_given, gave_by, enter_loaded, enter_role, enter, read_from, fold_of}
 use Rattle.theorem.proofs.Keys.{Distinct, mem_append, mem_without, mem_without_other, distinct_without, distinct_placed}
 use Rattle.theorem.proofs.Steps.{own_settings}

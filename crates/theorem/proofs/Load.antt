@@ -24,7 +24,7 @@ use Rattle.laws.proofs.KeepStep.{bucket_index_below}
 use Rattle.laws.proofs.TableBytes.{index_at}
 use Rattle.laws.proofs.Loaded.{Loads, loaded_past, loaded_well_formed, loaded_pending, nothing_at}
 use Rattle.laws.proofs.SavedBack.{loaded_are_read}
-use Rattle.log.specs.Log.{Log, node_of, collect, group, without}
+use Rattle.table_log.specs.Log.{Log, node_of, collect, group, without}
 use Rattle.theorem.proofs.Fold.{mem, place, enter_loaded}
 use Rattle.theorem.proofs.Keys.{Distinct, mem_append, mem_false_without, without_placed, distinct_placed}
 use Rattle.theorem.proofs.Agree.{chosen, NotPending, Agree, Only, Gives_only, agree_add}

@@ -25,8 +25,8 @@ use Rattle.laws.proofs.BucketBack.{nodes_in_lem}
 use Rattle.laws.proofs.Loaded.{Loads, loaded_at, loaded_past}
 use Rattle.model.specs.Call.{Call}
 use Rattle.model.specs.Step.{step}
-use Rattle.log.specs.Log.{log_of}
-use Rattle.log.specs.Claim.{table_after, entries, HasValue, TwoOfANet}
+use Rattle.table_log.specs.Log.{log_of}
+use Rattle.table_log.specs.Claim.{table_after, entries, HasValue, TwoOfANet}
 use Rattle.theorem.proofs.Run.{settings}
 use Rattle.theorem.proofs.Kept.{Keeps, reached_keeps}
 

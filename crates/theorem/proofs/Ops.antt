@@ -14,7 +14,7 @@ use Rattle.model.specs.Result.{BucketInsertResult, is_inserted}
 use Rattle.model.specs.Bucket.{Bucket, BucketSettings, max_nodes_per_bucket, num_entries, is_full, holds, fails_bucket_filter, is_max_incoming, with_pending, cleared, placed, take_out, insert_full, insert, insert_ending, apply_full, apply_due, apply_if_due, apply_pending, remove}
 use Rattle.model.specs.Formed.{is_at}
 use Rattle.laws.proofs.Tests.{same_self, clash, cases, and_left, and_right}
-use Rattle.log.specs.Log.{Log, node_of, group}
+use Rattle.table_log.specs.Log.{Log, node_of, group}
 use Rattle.theorem.proofs.Fold.{mem, depart, place, enter_records, at_given, give}
 use Rattle.theorem.proofs.Keys.{Distinct, mem_false_without}
 use Rattle.theorem.proofs.Groups.{collect_head, collect_tail, collect_skip}

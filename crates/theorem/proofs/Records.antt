@@ -10,7 +10,7 @@ use Rattle.model.specs.Result.{BucketInsertResult, is_inserted, is_failed}
 use Rattle.model.specs.Bucket.{Bucket, BucketSettings, nodes, holds, of_key, insert, insert_endings, is_first, status_endings, update_value}
 use Rattle.model.specs.Table.{given_status_endings, update_node_endings, insert_or_update_endings}
 use Rattle.laws.proofs.Tests.{clash, cases}
-use Rattle.log.specs.Log.{Log, without}
+use Rattle.table_log.specs.Log.{Log, without}
 use Rattle.theorem.proofs.Fold.{enter_ending, enter_records}
 use Rattle.theorem.proofs.Keys.{Distinct, distinct_without, distinct_placed}
 

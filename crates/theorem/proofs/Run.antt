@@ -9,8 +9,8 @@ use Rattle.model.specs.Bucket.{nodes}
 use Rattle.model.specs.Table.{Settings, Table, Answer}
 use Rattle.model.specs.Call.{Call}
 use Rattle.model.specs.Step.{step}
-use Rattle.log.specs.Log.{Log, log_of, group, log_bucket}
-use Rattle.log.specs.Claim.{table_after, entries}
+use Rattle.table_log.specs.Log.{Log, log_of, group, log_bucket}
+use Rattle.table_log.specs.Claim.{table_after, entries}
 use Rattle.theorem.proofs.Fold.{enter, read_from}
 use Rattle.theorem.proofs.Call.{AllAgree, step_ok, new_ok}
 use Rattle.theorem.proofs.Literal.{fold_literal}

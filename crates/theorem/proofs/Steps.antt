@@ -12,7 +12,7 @@ use Rattle.model.specs.Bucket.{Bucket, BucketSettings, holds, with_pending, inse
 use Rattle.model.specs.Table.{EntryKind, Answer, both_updates, then_status, update_node_in, insert_updates, inserts, then_value, insert_or_update_in, kind_if_pending, kind_of_node, kind_of}
 use Rattle.model.specs.Question.{is_present, is_pending, is_absent}
 use Rattle.laws.proofs.Tests.{same_self, clash, cases, split}
-use Rattle.log.specs.Log.{Log, Verdict, says, insert_verdict, answers_failed, answers_removed, answers_inserted, without}
+use Rattle.table_log.specs.Log.{Log, Verdict, says, insert_verdict, answers_failed, answers_removed, answers_inserted, without}
 use Rattle.theorem.proofs.Fold.{mem, depart, place, give}
 use Rattle.theorem.proofs.Keys.{Distinct, mem_append, mem_without, without_twice, without_placed, distinct_without, distinct_placed}
 use Rattle.theorem.proofs.Agree.{PendingAgrees, NotPending, Agree, Only, Only_refl, get_agree, agree_take_out, agree_given, Gives, Gives_only, Gives_back, pending_gives, held_not_pending, depart_absent}

@@ -17,8 +17,8 @@ use Rattle.model.specs.StepBytes.{Replied, BytesOutcome, write_bytes, step_bytes
 use Rattle.model.specs.Fits.{Fits, FitsCall}
 use Rattle.laws.proofs.TableBytes.{table_there}
 use Rattle.laws.proofs.SavedSteps.{front_written, written_read, new_made}
-use Rattle.log.specs.Log.{Entry}
-use Rattle.log.specs.Claim.{Claim}
+use Rattle.table_log.specs.Log.{Entry}
+use Rattle.table_log.specs.Claim.{Claim}
 use Rattle.theorem.proofs.Net.{no_three}
 
 -- s: the storage; out: the writer's output; `new` answered New on whatever bytes z

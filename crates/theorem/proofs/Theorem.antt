@@ -12,10 +12,10 @@ use Rattle.model.specs.Call.{Listing, Call}
 use Rattle.model.specs.Step.{step}
 use Rattle.model.specs.Formed.{formed}
 use Rattle.model.specs.StepBytes.{step_bytes}
-use Rattle.log.specs.Log.{is_refused}
-use Rattle.log.specs.Claim.{Claim, table_after, entries}
-use Rattle.log.specs.Closest.{ClosestClaim, target}
-use Rattle.log.specs.Pending.{Conserved, due_ended, one_record}
+use Rattle.table_log.specs.Log.{is_refused}
+use Rattle.table_log.specs.Claim.{Claim, table_after, entries}
+use Rattle.table_log.specs.Closest.{ClosestClaim, target}
+use Rattle.table_log.specs.Pending.{Conserved, due_ended, one_record}
 use Rattle.theorem.proofs.Run
 use Rattle.theorem.proofs.Net
 use Rattle.theorem.proofs.Limits

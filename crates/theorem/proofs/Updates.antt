@@ -11,7 +11,7 @@ use Rattle.model.specs.Result.{FailureReason, UpdateResult, is_failed}
 use Rattle.model.specs.Bucket.{Bucket, BucketSettings, max_nodes_per_bucket, nodes, num_entries, get, fails_bucket_filter, is_max_incoming, with_pending, placed, take_out, reinsert, status_result, is_first, update_if_pending, update_status_of, update_status, revalue, update_value_of, update_value}
 use Rattle.laws.proofs.Tests.{same_self, same_true, cases, split}
 use Rattle.laws.proofs.Values.{same_value_true}
-use Rattle.log.specs.Log.{Log, node_of, group}
+use Rattle.table_log.specs.Log.{Log, node_of, group}
 use Rattle.theorem.proofs.Fold.{mem, depart, place, give}
 use Rattle.theorem.proofs.Keys.{mem_without, without_twice}
 use Rattle.theorem.proofs.Groups.{collect_revalue}

@@ -1,5 +1,7 @@
 // The two calls of the table that give a value (kbucket.rs). The table filter is tested on the storage as the call found it, and a due
 // pending is applied after that. Where it runs, it reads every bucket, and one that is malformed refuses the call (document 02, slip 7).
+#![tactic(auto)]
+
 ghost use Rattle.std.specs.Prelude.{◌≡◌};
 ghost use Rattle.model.specs.Call.{Call, KeyCall};
 ghost use Rattle.model.specs.StepBytes.{step_bytes};
@@ -15,7 +17,7 @@ use on_key::Start;
 use session::Moment;
 use storage::Layout;
 
-#[derive(Drop)]
+#[derive(Clone, Copy)]
 pub enum InsertOrUpdateAnswer {
     Refused(u8),
     Answered(InsertResult),

@@ -1,5 +1,7 @@
 // Internal: the visit of the buckets in a listing's order. A survey asks question 2 of each bucket and counts the items, and the records that
 // it would give, for question 8; the applying pass applies the due pendings in the storage.
+#![tactic(auto)]
+
 ghost use Rattle.std.specs.Prelude.{◌≡◌, true, [], ◌∷◌, ◌+◌, ◌-◌, ◌≤◌, ◌<◌, length};
 ghost use Rattle.model.specs.Base.{tabulate};
 ghost use Rattle.model.specs.Bucket.{num_entries};
@@ -15,7 +17,7 @@ use key::{BucketIndex, ClosestBucketsIter, ClosestBucketsIterState, Key};
 use storage::Layout;
 
 // What a bucket holds once its due pending is applied, how many records it gives, and how many of them tell of a placed pending.
-#[derive(Drop)]
+#[derive(Clone, Copy)]
 pub struct Given {
     pub count: usize,
     pub records: usize,
@@ -23,7 +25,7 @@ pub struct Given {
 }
 
 // What the survey has counted: the items that are left to find, whether bucket 0 was visited, and the records.
-#[derive(Drop)]
+#[derive(Clone, Copy)]
 pub struct Counted {
     pub left: usize,
     pub zero: bool,
@@ -32,7 +34,7 @@ pub struct Counted {
 
 // What the survey tells: every bucket of the visit passes question 2, and if so how many records they give and how many items there are,
 // up to n.
-#[derive(Drop)]
+#[derive(Clone, Copy)]
 pub struct Tally {
     pub formed: bool,
     pub records: usize,
@@ -40,7 +42,7 @@ pub struct Tally {
 }
 
 // The buckets in a listing's order.
-#[derive(Drop)]
+#[derive(Clone, Copy)]
 pub enum Visit {
     // All, by their index.
     InTurn,

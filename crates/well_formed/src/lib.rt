@@ -1,4 +1,6 @@
 // Internal: question 2 on the bytes of the storage, with one node by value at a time.
+#![tactic(auto)]
+
 ghost use Rattle.std.specs.Prelude.{◌≡◌, true, cond, ◌&&◌, ◌+◌, ◌*◌, ◌-◌, ◌≤◌, ◌<◌, eqb, leb, length, get_or};
 ghost use Rattle.model.specs.Base.{same, all_below, tabulate};
 ghost use Rattle.model.specs.Bytes.{number, part};

@@ -1,5 +1,7 @@
 // Internal: big-endian numbers in a lent run of bytes. A word is read and written least byte first and swapped in a function of its
 // own, which compiles to one load or store and one swap.
+#![tactic(auto)]
+
 ghost use Rattle.std.specs.Prelude.{◌≡◌, ◌+◌, ◌≤◌, [], ◌∷◌, length};
 ghost use Rattle.model.specs.Bytes.{number, bytes, part, splice, zeros};
 ghost use Rattle.model.specs.Formed.{are_zero};

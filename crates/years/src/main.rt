@@ -1,7 +1,11 @@
 // Prints the year table (document 02, slip 9): the day number of 1 January for each of the 400 years from 2000 on, counted from 0, one number
 // a line. Each is worked out from the one before by the leap year rule; no table is read.
+#![tactic(auto)]
+
 ghost use Rattle.std.specs.Prelude.{◌≡◌, ◌+◌, ◌<◌};
 ghost use Rattle.model.specs.Session.{year_start};
+
+use std::io;
 
 // The start of the year behind the year 2000 + n.
 fn next_start(n: u16, start: u32) -> u32
@@ -21,13 +25,13 @@ fn next_start(n: u16, start: u32) -> u32
     start + 366
 }
 
-fn main() {
+fn main(rt: HostRuntime) -> io::Result<()> {
     let mut start: u32 = 0;
     let mut n: u16 = 0;
     while n < 400 {
-        io::print_decimal(1, start as u64);
-        io::write_all(1, b"\n");
+        println!(rt; "{start}")?;
         start = next_start(n, start);
         n += 1;
     }
+    Ok(())
 }

@@ -18,32 +18,32 @@ module _ (o : tie.Start) where
   abbrev stored : EntryKind
   stored = kind_of (num o.args.key) ((table_of o.args.s.now).buckets o.args.i)
 
-returns : tie.Need-returns
-returns c = let o = c.before.before.before.before in hours_empty (hours o) (not (is_absent (stored o))) c.if1.true
+returns : tie.Need-returns-then-windows-eq0
+returns c = let o = c in hours_empty (hours o.before.before.before.before) (not (is_absent (stored o.before.before.before.before))) c.if-windows-eq0.true
 
-load-bucket-requires : tie.Need-load-bucket-requires
-load-bucket-requires c κs = let r = c.before.before.before.before.requires in (r.size, (r.header, (r.below, r.bucket)))
+load-bucket-requires : tie.Need-load_bucket-stored-requires
+load-bucket-requires c κs = let r = c.requires in (r.size, (r.header, (r.below, r.bucket)))
 
-kind-of-requires : tie.Need-kind-of-requires
-kind-of-requires c κs = c.load-bucket.ensures.sound
+kind-of-requires : tie.Need-kind_of-found-requires
+kind-of-requires c κs = c.load_bucket-stored.ensures.sound
 
-is-absent-requires : tie.Need-is-absent-requires
+is-absent-requires : tie.Need-is_absent-known-requires
 is-absent-requires c κs = search rules
 
 asked-requires : tie.Need-asked-requires
 asked-requires c κs = search rules
 
-returns-2 : tie.Need-returns-2
+returns-2 : tie.Need-returns
 returns-2 c =
-    let a = c.before in
-    let k = a.before in
-    let l = k.before in
-    let o = l.before.before.before.before.before in
-    let told : stored o ≡ _ = ap (kind_of (num o.args.key)) (sym l.load-bucket.ensures.bucket) ∙ sym k.kind_of_lem.ensures.0 in
-    ap (λ (b : Bool). first_failed (hours_questions (hours o) (not b))) (ap is_absent told ∙ sym a.is-absent.ensures) ∙ c.asked.ensures
+    let a = c in
+    let k = a in
+    let l = k in
+    let o = l in
+    let told : stored o.before.before.before.before.before.before.before.before ≡ _ = ap (kind_of (num o.args.key)) (sym l.load_bucket-stored.ensures.bucket) ∙ sym k.kind_of-found.ensures.0 in
+    ap (λ (b : Bool). first_failed (hours_questions (hours o.before.before.before.before.before.before.before.before) (not b))) (ap is_absent told ∙ sym a.is_absent-known.ensures) ∙ c.asked.ensures
 
-pub asked-at-spec : {M : Type 1} → statement M
-asked-at-spec =
+pub asked_at_spec : {M : Type 1} → statement M
+asked_at_spec =
     tie.close
     (tie.spec
     returns

@@ -6,7 +6,7 @@ use borrow.Author.Rules.{rules}
 use Rattle.bench.proofs.node_from.Statement.{statement}
 use Rattle.bench.proofs.node_from.Tie as tie
 
-cast-t6 : tie.Need-overflow-cast-t6
+cast-t6 : tie.Need-overflow_cast-status
 cast-t6 c = search rules
 
 state-in-range : (t : Bool) → (leb (bool_byte t) 1 && true) ≡ true
@@ -16,5 +16,5 @@ state-in-range false = refl
 returns : tie.Need-returns
 returns c = state-in-range c.args.connected
 
-pub node-from-spec : {M : Type 1} → statement M
-node-from-spec = tie.close (tie.spec cast-t6 returns)
+pub node_from_spec : {M : Type 1} → statement M
+node_from_spec = tie.close (tie.spec cast-t6 returns)

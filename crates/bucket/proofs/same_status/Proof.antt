@@ -11,5 +11,5 @@ returns c =
     let y = o.args.y.status in
     same_tests (eqb x.state 1) (eqb y.state 1) (eqb x.direction 1) (eqb y.direction 1)
 
-pub same-status-spec : {M : Type 1} → statement M
-same-status-spec = tie.close (tie.spec returns)
+pub same_status_spec : {M : Type 1} → statement M
+same_status_spec = tie.close (tie.spec returns)

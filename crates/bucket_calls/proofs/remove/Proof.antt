@@ -18,91 +18,91 @@ use borrow.Author.Rules.{rules}
 use Rattle.bucket_calls.proofs.remove.Statement.{statement}
 use Rattle.bucket_calls.proofs.remove.Tie as tie
 
-asked-at-requires : tie.Need-asked-at-requires
+asked-at-requires : tie.Need-asked_at-q-requires
 asked-at-requires c κs = search rules
 
 refused-requires : tie.Need-refused-requires
 refused-requires c κs = search rules
 
-same_length : tie.Need-same-length
+same_length : tie.Need-shape_of-s-then-q-ne0
 same_length c = search rules
 
-returns : tie.Need-returns
+returns : tie.Need-returns-then-q-ne0
 returns c =
-    let i = c.before.before in
-    let o = i.before.before.before.before in
+    let i = c in
+    let o = i in
     let s = o.args.s.now in
     let key = o.args.key.now in
-    left (refused_by (BucketCall.remove key o.args.time) [] s _ (plain s (key_fits key) true (some o.args.time) (refusal_some _ i.asked_at.ensures c.before.if1.true)) c.refused.ensures)
+    left (refused_by (BucketCall.remove key o.args.time) [] s _ (plain s (key_fits key) true (some o.args.time) (refusal_some _ i.asked_at-q.ensures c.if-q-ne0.true)) c.refused.ensures)
 
-key-of-requires : tie.Need-key-of-requires
+key-of-requires : tie.Need-key_of-k-requires
 key-of-requires c κs =
     let e = c in
-    let i = e.before in
-    let o = i.before.before.before.before in
+    let i = e in
+    let o = i in
     let s = o.args.s.now in
     let key = o.args.key.now in
-    let n = refusal_none _ i.asked_at.ensures e.if1.false in
+    let n = refusal_none _ i.asked_at-q.ensures e.if-q-ne0.false in
     let p = passed_lent s (key_fits key) true (some o.args.time) n in
     eqb-true _ _ p.key_size_lem
 
-load-requires : tie.Need-load-requires
+load-requires : tie.Need-load-b-requires
 load-requires c κs =
-    let e = c.before.before in
-    let i = e.before in
-    let o = i.before.before.before.before in
+    let e = c in
+    let i = e in
+    let o = i in
     let s = o.args.s.now in
     let key = o.args.key.now in
-    let n = refusal_none _ i.asked_at.ensures e.if1.false in
+    let n = refusal_none _ i.asked_at-q.ensures e.if-q-ne0.false in
     let p = passed_lent s (key_fits key) true (some o.args.time) n in
     (p.size, p.formed)
 
-remove-sound-requires : tie.Need-remove-sound-requires
+remove-sound-requires : tie.Need-remove_sound-r-requires
 remove-sound-requires c κs =
-    let e = c.before.before.before in
-    let i = e.before in
-    let o = i.before.before.before.before in
+    let e = c in
+    let i = e in
+    let o = i in
     let s = o.args.s.now in
     let key = o.args.key.now in
-    let n = refusal_none _ i.asked_at.ensures e.if1.false in
+    let n = refusal_none _ i.asked_at-q.ensures e.if-q-ne0.false in
     let p = passed_lent s (key_fits key) true (some o.args.time) n in
     let t = timely s o.args.time p.in_time_lem in
-    let same = ap (λ (u : rules.BucketSettings). u.pending_timeout) c.load.ensures.settings in
-    (c.load.ensures.sound, omega (arith, t, same))
+    let same = ap (λ (u : rules.BucketSettings). u.pending_timeout) c.load-b.ensures.settings in
+    (c.load-b.ensures.sound, omega (arith, t, same))
 
-store-at-requires : tie.Need-store-at-requires
+store-at-requires : tie.Need-store_at-requires
 store-at-requires c κs =
-    let e = c.before.before.before.before.before.before in
-    let i = e.before in
-    let o = i.before.before.before.before in
+    let e = c in
+    let i = e in
+    let o = i in
     let s = o.args.s.now in
     let key = o.args.key.now in
-    let n = refusal_none _ i.asked_at.ensures e.if1.false in
+    let n = refusal_none _ i.asked_at-q.ensures e.if-q-ne0.false in
     let p = passed_lent s (key_fits key) true (some o.args.time) n in
-    (omega (arith, p.size), c.before.before.remove-sound.ensures.1.sound)
+    (omega (arith, p.size), c.remove_sound-r.ensures.1.sound)
 
-flag-code-requires : tie.Need-flag-code-requires
+flag-code-requires : tie.Need-flag_code-requires
 flag-code-requires c κs = search rules
 
-same-length-2 : tie.Need-same-length-2
+same-length-2 : tie.Need-shape_of-s
 same-length-2 c = search rules
 
-returns-2 : tie.Need-returns-2
+returns-2 : tie.Need-returns
 returns-2 c =
-    let e = c.before.before.before.before.before.before.before.before.before.before in
-    let i = e.before in
-    let o = i.before.before.before.before in
+    let e = c in
+    let i = e in
+    let o = i in
     let s = o.args.s.now in
     let key = o.args.key.now in
-    let n = refusal_none _ i.asked_at.ensures e.if1.false in
-    let x = c.before.before.before in
-    let m = x.before.before.before in
-    let y = m.before in
-    let z = stepped y.load.ensures (λ (u : rules.BucketSettings) (k : ℕ) (b : rules.Bucket). rules.remove u o.args.time k b) y.before.before.key_of.ensures m.remove-sound.ensures.0 m.remove-sound.ensures.1 in
+    let n = refusal_none _ i.asked_at-q.ensures e.if-q-ne0.false in
+    let x = c in
+    let m = x in
+    let y = m in
+    let z = stepped y.load-b.ensures (λ (u : rules.BucketSettings) (k : ℕ) (b : rules.Bucket). rules.remove u o.args.time k b) y.key_of-k.ensures m.remove_sound-r.ensures.0 m.remove_sound-r.ensures.1 in
     left (done (BucketCall.remove key o.args.time) [] s flag_byte (λ a. []) (rules.remove (lent_settings s) o.args.time (number key) (lent_bucket s)) (remove_is s key o.args.time) (plain s (key_fits key) true (some o.args.time) n) z c.flag_code.ensures.0 x.store_at.ensures nothing)
 
-pub remove-spec : {M : Type 1} → statement M
-remove-spec =
+pub remove_spec : {M : Type 1} → statement M
+remove_spec =
     tie.close
     (tie.spec
     asked-at-requires

@@ -20,98 +20,98 @@ use borrow.Author.Rules.{rules}
 use Rattle.bucket_calls.proofs.update_value.Statement.{statement}
 use Rattle.bucket_calls.proofs.update_value.Tie as tie
 
-in-range-requires : tie.Need-in-range-requires
+in-range-requires : tie.Need-in_range-codes-requires
 in-range-requires c κs = search rules
 
-asked-requires : tie.Need-asked-requires
+asked-requires : tie.Need-asked-q-requires
 asked-requires c κs = search rules
 
 refused-requires : tie.Need-refused-requires
 refused-requires c κs = search rules
 
-same_length : tie.Need-same-length
+same_length : tie.Need-shape_of-s-then-q-ne0
 same_length c = search rules
 
-returns : tie.Need-returns
+returns : tie.Need-returns-then-q-ne0
 returns c =
-    let i = c.before.before in
-    let o = i.before.before.before.before.before in
+    let i = c in
+    let o = i in
     let s = o.args.s.now in
     let key = o.args.key.now in
-    let a = ap (λ (b : Bool). failed_of_lent s (key_fits key) b none) (sym i.before.before.in_range.ensures) ∙ i.asked.ensures in
-    left (refused_by (BucketCall.update_value key (argument_of o.args.value)) [] s _ (plain s (key_fits key) (value_in_range (argument_of o.args.value)) none (refusal_some _ a c.before.if1.true)) c.refused.ensures)
+    let a = ap (λ (b : Bool). failed_of_lent s (key_fits key) b none) (sym i.in_range-codes.ensures) ∙ i.asked-q.ensures in
+    left (refused_by (BucketCall.update_value key (argument_of o.args.value)) [] s _ (plain s (key_fits key) (value_in_range (argument_of o.args.value)) none (refusal_some _ a c.if-q-ne0.true)) c.refused.ensures)
 
-key-of-requires : tie.Need-key-of-requires
+key-of-requires : tie.Need-key_of-k-requires
 key-of-requires c κs =
     let e = c in
-    let i = e.before in
-    let o = i.before.before.before.before.before in
+    let i = e in
+    let o = i in
     let s = o.args.s.now in
     let key = o.args.key.now in
-    let a = ap (λ (b : Bool). failed_of_lent s (key_fits key) b none) (sym i.before.before.in_range.ensures) ∙ i.asked.ensures in
-    let n = refusal_none _ a e.if1.false in
+    let a = ap (λ (b : Bool). failed_of_lent s (key_fits key) b none) (sym i.in_range-codes.ensures) ∙ i.asked-q.ensures in
+    let n = refusal_none _ a e.if-q-ne0.false in
     let p = passed_lent s (key_fits key) (value_in_range (argument_of o.args.value)) none n in
     eqb-true _ _ p.key_size_lem
 
-load-requires : tie.Need-load-requires
+load-requires : tie.Need-load-b-requires
 load-requires c κs =
-    let e = c.before.before in
-    let i = e.before in
-    let o = i.before.before.before.before.before in
+    let e = c in
+    let i = e in
+    let o = i in
     let s = o.args.s.now in
     let key = o.args.key.now in
-    let a = ap (λ (b : Bool). failed_of_lent s (key_fits key) b none) (sym i.before.before.in_range.ensures) ∙ i.asked.ensures in
-    let n = refusal_none _ a e.if1.false in
+    let a = ap (λ (b : Bool). failed_of_lent s (key_fits key) b none) (sym i.in_range-codes.ensures) ∙ i.asked-q.ensures in
+    let n = refusal_none _ a e.if-q-ne0.false in
     let p = passed_lent s (key_fits key) (value_in_range (argument_of o.args.value)) none n in
     (p.size, p.formed)
 
-update-value-sound-requires : tie.Need-update-value-sound-requires
+update-value-sound-requires : tie.Need-update_value_sound-r-requires
 update-value-sound-requires c κs =
-    let e = c.before.before.before in
-    let i = e.before in
-    let o = i.before.before.before.before.before in
+    let e = c in
+    let i = e in
+    let o = i in
     let s = o.args.s.now in
     let key = o.args.key.now in
-    let a = ap (λ (b : Bool). failed_of_lent s (key_fits key) b none) (sym i.before.before.in_range.ensures) ∙ i.asked.ensures in
-    let n = refusal_none _ a e.if1.false in
+    let a = ap (λ (b : Bool). failed_of_lent s (key_fits key) b none) (sym i.in_range-codes.ensures) ∙ i.asked-q.ensures in
+    let n = refusal_none _ a e.if-q-ne0.false in
     let p = passed_lent s (key_fits key) (value_in_range (argument_of o.args.value)) none n in
-    (c.load.ensures.sound, p.in_range)
+    (c.load-b.ensures.sound, p.in_range)
 
-store-at-requires : tie.Need-store-at-requires
+store-at-requires : tie.Need-store_at-requires
 store-at-requires c κs =
-    let e = c.before.before.before.before.before.before in
-    let i = e.before in
-    let o = i.before.before.before.before.before in
+    let e = c in
+    let i = e in
+    let o = i in
     let s = o.args.s.now in
     let key = o.args.key.now in
-    let a = ap (λ (b : Bool). failed_of_lent s (key_fits key) b none) (sym i.before.before.in_range.ensures) ∙ i.asked.ensures in
-    let n = refusal_none _ a e.if1.false in
+    let a = ap (λ (b : Bool). failed_of_lent s (key_fits key) b none) (sym i.in_range-codes.ensures) ∙ i.asked-q.ensures in
+    let n = refusal_none _ a e.if-q-ne0.false in
     let p = passed_lent s (key_fits key) (value_in_range (argument_of o.args.value)) none n in
-    (omega (arith, p.size), c.before.before.update-value-sound.ensures.1.sound)
+    (omega (arith, p.size), c.update_value_sound-r.ensures.1.sound)
 
-update-code-requires : tie.Need-update-code-requires
+update-code-requires : tie.Need-update_code-requires
 update-code-requires c κs = search rules
 
-same-length-2 : tie.Need-same-length-2
+same-length-2 : tie.Need-shape_of-s
 same-length-2 c = search rules
 
-returns-2 : tie.Need-returns-2
+returns-2 : tie.Need-returns
 returns-2 c =
-    let e = c.before.before.before.before.before.before.before.before.before.before in
-    let i = e.before in
-    let o = i.before.before.before.before.before in
+    let e = c in
+    let i = e in
+    let o = i in
     let s = o.args.s.now in
     let key = o.args.key.now in
-    let a = ap (λ (b : Bool). failed_of_lent s (key_fits key) b none) (sym i.before.before.in_range.ensures) ∙ i.asked.ensures in
-    let n = refusal_none _ a e.if1.false in
-    let x = c.before.before.before in
-    let m = x.before.before.before in
-    let y = m.before in
-    let z = stepped y.load.ensures (λ (u : rules.BucketSettings) (k : ℕ) (b : rules.Bucket). rules.update_value u k (value_of o.args.value) b) y.before.before.key_of.ensures m.update-value-sound.ensures.0 m.update-value-sound.ensures.1 in
-    left (done (BucketCall.update_value key (argument_of o.args.value)) [] s update_code (λ a. []) (rules.update_value (lent_settings s) (number key) (value_of o.args.value) (lent_bucket s)) (value_is s key (argument_of o.args.value)) (plain s (key_fits key) (value_in_range (argument_of o.args.value)) none n) z c.update-code.ensures x.store_at.ensures nothing)
+    let a = ap (λ (b : Bool). failed_of_lent s (key_fits key) b none) (sym i.in_range-codes.ensures) ∙ i.asked-q.ensures in
+    let n = refusal_none _ a e.if-q-ne0.false in
+    let x = c in
+    let m = x in
+    let y = m in
+    let z = stepped y.load-b.ensures (λ (u : rules.BucketSettings) (k : ℕ) (b : rules.Bucket). rules.update_value u k (value_of o.args.value) b) y.key_of-k.ensures m.update_value_sound-r.ensures.0 m.update_value_sound-r.ensures.1 in
+    left (done (BucketCall.update_value key (argument_of o.args.value)) [] s update_code (λ a. []) (rules.update_value (lent_settings s) (number key) (value_of o.args.value) (lent_bucket s)) (value_is s key (argument_of o.args.value)) (plain s (key_fits key) (value_in_range (argument_of o.args.value)) none n) z c.update_code.ensures x.store_at.ensures nothing)
 
-pub update-value-spec : {M : Type 1} → statement M
-update-value-spec =
+pub update_value_spec : {M : Type 1} → statement M
+update_value_spec =
     tie.close
     (tie.spec
     in-range-requires

@@ -48,41 +48,41 @@ module _ (n : Node) (e : node_codes n ≡ true) where
   given_direction = is_given n.status.direction (λ q. omega (arith, known-direction))
 
 -- whether the key is held, by its place
-module _ (i : tie.After-position) where
+module _ (i : tie.After-position-pos) where
   abbrev start : tie.Start
-  start = i.before.before.before
+  start = i.before.before.before.before
 
-  held_by : ltb i.position.result start.args.b.count ≡ rules.holds (num start.args.node.key) (bucket_of start.args.b)
+  held_by : ltb i.position-pos.result start.args.b.count ≡ rules.holds (num start.args.node.key) (bucket_of start.args.b)
   held_by =
       let b = start.args.b in
       let k = num start.args.node.key in
-      let e : i.position.result ≡ position k (held_of b) = omega (arith, i.position.ensures) in
-      ap (λ (p : ℕ). ltb p b.count) e ∙ holds_is b start.pre.0 k
+      let e : i.position-pos.result ≡ position k (held_of b) = omega (arith, i.position-pos.ensures) in
+      ap (λ (p : ℕ). ltb p b.count) e ∙ holds_is b start.requires.0 k
 
 -- a held node, where the bucket filter is off
-module _ (t : tie.After-old) where
-  abbrev at_position : tie.After-position
+module _ (t : tie.After-old-1) where
+  abbrev at_position : tie.After-position-pos
   at_position = t.before.before.before.before
 
   abbrev bucket : KBucket
   bucket = (start at_position).args.b
 
   abbrev old : model.Node
-  old = node_of (get_or bucket.nodes at_position.position.result zero_node)
+  old = node_of (get_or bucket.nodes at_position.position-pos.result zero_node)
 
   abbrev new : model.Node
   new = node_of (start at_position).args.node
 
-  lower : at_position.position.result < bucket.count
-  lower = t.before.before.before.if2.taken
+  lower : at_position.position-pos.result < bucket.count
+  lower = t.if-pos-count.true
 
   off : (settings_of bucket).filter ≡ false
-  off = ne_eqb _ _ t.before.if3.taken
+  off = ne_eqb _ _ t.if-b-ne1.true
 
   same_key : old.key ≡ new.key
   same_key =
-      let e : at_position.position.result ≡ position new.key (held_of bucket) = omega (arith, at_position.position.ensures) in
-      found_at bucket (start at_position).pre.0 new.key at_position.position.result e lower
+      let e : at_position.position-pos.result ≡ position new.key (held_of bucket) = omega (arith, at_position.position-pos.ensures) in
+      found_at bucket (start at_position).requires.0 new.key at_position.position-pos.result e lower
 
   again : let a = (start at_position).args in
       insert_or_update_in (settings_of bucket) a.fails a.time new (bucket_of bucket)
@@ -94,137 +94,137 @@ module _ (t : tie.After-old) where
       let a = (start at_position).args in
       let s = settings_of bucket in
       let m = bucket_of bucket in
-      ap (λ (f : Bool). insert_or_update_in s f a.time new m) at_position.before.before.if1.left
+      ap (λ (f : Bool). insert_or_update_in s f a.time new m) at_position.if-fails.false
       ∙ subst
       (λ (n : model.Node).
       insert_or_update_in s false a.time n m
       ≡ (Answer.InsertOrUpdate (insert_updates (value_result old.value new.value) (rules.status_result old n (put_again s n m).0)), (put_again s n m).1))
       (ap (λ (k : ℕ). record { key = k; value = new.value; connected = new.connected; incoming = new.incoming }) same_key)
-      (insert_again s a.time m old (get_at bucket (start at_position).pre.0 at_position.position.result lower) new.connected new.incoming new.value off)
+      (insert_again s a.time m old (get_at bucket (start at_position).requires.0 at_position.position-pos.result lower) new.connected new.incoming new.value off)
 
-remove-sound-requires : tie.Need-remove-sound-requires
+remove-sound-requires : tie.Need-remove_sound-out-requires
 remove-sound-requires c κs = search rules
 
-returns : tie.Need-returns
+returns : tie.Need-returns-then-fails
 returns c =
-    let r = c.before in
-    let o = r.before.before in
+    let r = c in
+    let o = r in
     let a = o.args in
-    done _ _ _ _ _ (insert_filtered (settings_of a.b) a.fails a.time (node_of a.node) (bucket_of a.b) r.before.if1.true) r.remove-sound.ensures.1
+    done _ _ _ _ _ (insert_filtered (settings_of a.b) a.fails a.time (node_of a.node) (bucket_of a.b) r.if-fails.true) r.remove_sound-out.ensures.1
 
-position-requires : tie.Need-position-requires
+position-requires : tie.Need-position-pos-requires
 position-requires c κs = search rules
 
-mul-old : tie.Need-overflow-mul-old
+mul-old : tie.Need-offset_bounds-nodes-pos
 mul-old c = search rules
 
-array-copy-out-old : tie.Need-array-copy-out-old
+array-copy-out-old : tie.Need-bounds-nodes-pos
 array-copy-out-old c = search rules
 
-put-again-requires : tie.Need-put-again-requires
-put-again-requires c κs = let o = start (at_position c) in (o.pre.0, (lower c, (off c, (o.pre.1.0, same_key c))))
+put-again-requires : tie.Need-put_again-again-requires
+put-again-requires c κs = let o = start (at_position c) in (o.requires.0, (lower c, (off c, (o.requires.1.0, same_key c))))
 
-value-result-requires : tie.Need-value-result-requires
+value-result-requires : tie.Need-value_result-of_value-requires
 value-result-requires c κs = search rules
 
-insert-updates-requires : tie.Need-insert-updates-requires
+insert-updates-requires : tie.Need-insert_updates-both-requires
 insert-updates-requires c κs = search rules
 
-returns-2 : tie.Need-returns-2
+returns-2 : tie.Need-returns-then-b-ne1
 returns-2 c =
-    let v = c.before in
-    let a = v.before.before in
-    let t = a.before in
-    let x = put_again (settings_of (bucket t)) (new t) (bucket_of (bucket t)) in
+    let v = c in
+    let a = v in
+    let t = a in
+    let x = put_again (settings_of (bucket t.before.before.before.before.before.before)) (new t.before.before.before.before.before.before) (bucket_of (bucket t.before.before.before.before.before.before)) in
     done _ _ _ _ _
-    (again t
-    ∙ ap (λ (r : UpdateResult). (Answer.InsertOrUpdate (insert_updates r (rules.status_result (old t) (new t) x.0)), x.1)) (sym v.value-result.ensures)
-    ∙ ap (λ (r : UpdateResult). (Answer.InsertOrUpdate (insert_updates (update_result_of v.value-result.result) r), x.1)) (sym a.put-again.ensures.0)
-    ∙ ap (λ (r : InsertResult). (Answer.InsertOrUpdate r, x.1)) (sym c.insert-updates.ensures))
-    a.put-again.ensures.1
+    (again t.before.before.before.before.before.before
+    ∙ ap (λ (r : UpdateResult). (Answer.InsertOrUpdate (insert_updates r (rules.status_result (old t.before.before.before.before.before.before) (new t.before.before.before.before.before.before) x.0)), x.1)) (sym v.value_result-of_value.ensures)
+    ∙ ap (λ (r : UpdateResult). (Answer.InsertOrUpdate (insert_updates (update_result_of v.value_result-of_value.result) r), x.1)) (sym a.put_again-again.ensures.0)
+    ∙ ap (λ (r : InsertResult). (Answer.InsertOrUpdate r, x.1)) (sym c.insert_updates-both.ensures))
+    a.put_again-again.ensures.1
 
-update-status-sound-requires : tie.Need-update-status-sound-requires
+update-status-sound-requires : tie.Need-update_status_sound-u-requires
 update-status-sound-requires c κs =
-    let o = start c.before.before.before in
+    let o = start c.before.before.before.before in
     let n = o.args.node in
-    let e = o.pre.1.0 in
-    (o.pre.0, (known-state n e, omega (arith, known-direction n e)))
+    let e = o.requires.1.0 in
+    (o.requires.0, (known-state n e, omega (arith, known-direction n e)))
 
-is-failed-requires : tie.Need-is-failed-requires
+is-failed-requires : tie.Need-is_failed-requires
 is-failed-requires c κs = search rules
 
-returns-3 : tie.Need-returns-3
+returns-3 : tie.Need-returns-then-is_failed
 returns-3 c =
-    let f = c.before in
-    let u = f.before.before in
-    let h = u.before.before.before in
-    let o = start h.before in
+    let f = c in
+    let u = f in
+    let h = u in
+    let o = start h.before.before.before.before.before.before.before.before in
     let a = o.args in
     let s = settings_of a.b in
     let m = bucket_of a.b in
-    let x = stated s m (num a.node.key) (is_one a.node.status.state) (given_direction a.node o.pre.1.0) u.update-status-sound.ensures.0 u.update-status-sound.ensures.1 in
+    let x = stated s m (num a.node.key) (is_one a.node.status.state) (given_direction a.node o.requires.1.0) u.update_status_sound-u.ensures.0 u.update_status_sound-u.ensures.1 in
     done _ _ _ _ _
-    (insert_failed s a.fails a.time (node_of a.node) m h.before.before.before.if1.false (sym (held_by h.before) ∙ lt-ltb _ _ h.if2.true)
-    (ap is_failed (sym x.0) ∙ sym f.is-failed.ensures ∙ c.if4.true))
+    (insert_failed s a.fails a.time (node_of a.node) m h.if-fails.false (sym (held_by h.before.before.before.before.before.before.before.before) ∙ lt-ltb _ _ h.if-pos-count.true)
+    (ap is_failed (sym x.0) ∙ sym f.is_failed.ensures ∙ c.if-is_failed.true))
     x.1
 
-update-value-sound-requires : tie.Need-update-value-sound-requires
+update-value-sound-requires : tie.Need-update_value_sound-v-requires
 update-value-sound-requires c κs =
-    let u = c.before.before.before in
-    let o = start u.before.before.before.before in
-    (u.update-status-sound.ensures.1.sound, known-value o.args.node o.pre.1.0)
+    let u = c in
+    let o = start u.before.before.before.before.before.before.before.before.before.before in
+    (u.update_status_sound-u.ensures.1.sound, known-value o.args.node o.requires.1.0)
 
-insert-updates-requires-2 : tie.Need-insert-updates-requires-2
+insert-updates-requires-2 : tie.Need-insert_updates-both-requires-then-pos-count
 insert-updates-requires-2 c κs = search rules
 
-returns-4 : tie.Need-returns-4
+returns-4 : tie.Need-returns-then-pos-count
 returns-4 c =
-    let v = c.before.before in
-    let g = v.before in
-    let f = g.before in
-    let u = f.before.before in
-    let h = u.before.before.before in
-    let o = start h.before in
+    let v = c in
+    let g = v in
+    let f = g in
+    let u = f in
+    let h = u in
+    let o = start h.before.before.before.before.before.before.before.before.before.before.before.before.before in
     let a = o.args in
     let s = settings_of a.b in
     let m = bucket_of a.b in
     let k = num a.node.key in
     let w = value_of a.node.value in
-    let x = stated s m (num a.node.key) (is_one a.node.status.state) (given_direction a.node o.pre.1.0) u.update-status-sound.ensures.0 u.update-status-sound.ensures.1 in
+    let x = stated s m (num a.node.key) (is_one a.node.status.state) (given_direction a.node o.requires.1.0) u.update_status_sound-u.ensures.0 u.update_status_sound-u.ensures.1 in
     let y = rules.update_status s k (node_of a.node).connected (some (node_of a.node).incoming) m in
     let z = rules.update_value s k w y.1 in
-    let d = v.update-value-sound.ensures.0 ∙ told x.1 (λ (s' : rules.BucketSettings) (m' : rules.Bucket). (rules.update_value s' k w m').0) in
+    let d = v.update_value_sound-v.ensures.0 ∙ told x.1 (λ (s' : rules.BucketSettings) (m' : rules.Bucket). (rules.update_value s' k w m').0) in
     done _ _ _ _ _
-    (insert_both s a.fails a.time (node_of a.node) m h.before.before.before.if1.false (sym (held_by h.before) ∙ lt-ltb _ _ h.if2.true)
-    (ap is_failed (sym x.0) ∙ sym f.is-failed.ensures ∙ g.if4.false)
+    (insert_both s a.fails a.time (node_of a.node) m h.if-fails.false (sym (held_by h.before.before.before.before.before.before.before.before.before.before.before.before.before) ∙ lt-ltb _ _ h.if-pos-count.true)
+    (ap is_failed (sym x.0) ∙ sym f.is_failed.ensures ∙ g.if-is_failed.false)
     ∙ ap (λ (r : UpdateResult). (Answer.InsertOrUpdate (insert_updates r y.0), z.1)) (sym d)
-    ∙ ap (λ (r : UpdateResult). (Answer.InsertOrUpdate (insert_updates (update_result_of v.update-value-sound.result.result) r), z.1)) (sym x.0)
-    ∙ ap (λ (r : InsertResult). (Answer.InsertOrUpdate r, z.1)) (sym c.insert-updates2.ensures))
-    (then_becomes x.1 (λ (s' : rules.BucketSettings) (m' : rules.Bucket). (rules.update_value s' k w m').1) v.update-value-sound.ensures.1)
+    ∙ ap (λ (r : UpdateResult). (Answer.InsertOrUpdate (insert_updates (update_result_of v.update_value_sound-v.result.result) r), z.1)) (sym x.0)
+    ∙ ap (λ (r : InsertResult). (Answer.InsertOrUpdate r, z.1)) (sym c.insert_updates-both-then-pos-count.ensures))
+    (then_becomes x.1 (λ (s' : rules.BucketSettings) (m' : rules.Bucket). (rules.update_value s' k w m').1) v.update_value_sound-v.ensures.1)
 
-insert-sound-requires : tie.Need-insert-sound-requires
+insert-sound-requires : tie.Need-insert_sound-put-requires
 insert-sound-requires c κs = search rules
 
-inserts-requires : tie.Need-inserts-requires
+inserts-requires : tie.Need-inserts-told-requires
 inserts-requires c κs = search rules
 
-returns-5 : tie.Need-returns-5
+returns-5 : tie.Need-returns
 returns-5 c =
-    let i = c.before.before in
-    let h = i.before in
-    let o = start h.before in
+    let i = c in
+    let h = i in
+    let o = start h.before.before.before.before in
     let a = o.args in
     let s = settings_of a.b in
     let m = bucket_of a.b in
     let x = rules.insert s a.time (node_of a.node) m in
     done _ _ _ _ _
-    (insert_absent s a.fails a.time (node_of a.node) m h.before.before.before.if1.false (sym (held_by h.before) ∙ le-ltb _ _ h.if2.false)
-    ∙ ap (λ (r : BucketInsertResult). (Answer.InsertOrUpdate (inserts r), x.1)) (sym i.insert-sound.ensures.0)
-    ∙ ap (λ (r : InsertResult). (Answer.InsertOrUpdate r, x.1)) (sym c.inserts.ensures))
-    i.insert-sound.ensures.1
+    (insert_absent s a.fails a.time (node_of a.node) m h.if-fails.false (sym (held_by h.before.before.before.before) ∙ le-ltb _ _ h.if-pos-count.false)
+    ∙ ap (λ (r : BucketInsertResult). (Answer.InsertOrUpdate (inserts r), x.1)) (sym i.insert_sound-put.ensures.0)
+    ∙ ap (λ (r : InsertResult). (Answer.InsertOrUpdate r, x.1)) (sym c.inserts-told.ensures))
+    i.insert_sound-put.ensures.1
 
-pub insert-or-update-in-spec : {M : Type 1} → statement M
-insert-or-update-in-spec =
+pub insert_or_update_in_spec : {M : Type 1} → statement M
+insert_or_update_in_spec =
     tie.close
     (tie.spec
     remove-sound-requires

@@ -2,44 +2,44 @@ use borrow.Author.Rules.{rules}
 use Rattle.bucket_update.proofs.inserts.Statement.{statement}
 use Rattle.bucket_update.proofs.inserts.Tie as tie
 
-enum_told : tie.Need-enum-told
+enum_told : tie.Need-enum_told-1
 enum_told c = search rules
 
-enum-known-r : tie.Need-enum-known-r
+enum-known-r : tie.Need-enum_known-r
 enum-known-r c = search rules
 
-enum-told-2 : tie.Need-enum-told-2
+enum-told-2 : tie.Need-enum_told-in-FailedFilter
 enum-told-2 c = search rules
 
-enum-told-3 : tie.Need-enum-told-3
+enum-told-3 : tie.Need-enum_told-in-TooManyIncoming
 enum-told-3 c = search rules
 
-enum-told-4 : tie.Need-enum-told-4
+enum-told-4 : tie.Need-enum_told-in-Full
 enum-told-4 c = search rules
 
-enum-told-5 : tie.Need-enum-told-5
+enum-told-5 : tie.Need-enum_told-in-NodeExists
 enum-told-5 c = search rules
 
-returns : tie.Need-returns
+returns : tie.Need-returns-in-Inserted
 returns c = search rules
 
-returns-2 : tie.Need-returns-2
-returns-2 c = rw c.before.r.given.1
+returns-2 : tie.Need-returns-in-Pending
+returns-2 c = rw c.in-Pending.is
 
-returns-3 : tie.Need-returns-3
-returns-3 c = rw c.enum-told2.given.1
+returns-3 : tie.Need-returns-in-FailedFilter
+returns-3 c = rw c.in-FailedFilter.is
 
-returns-4 : tie.Need-returns-4
-returns-4 c = rw c.enum-told3.given.1
+returns-4 : tie.Need-returns-in-TooManyIncoming
+returns-4 c = rw c.in-TooManyIncoming.is
 
-returns-5 : tie.Need-returns-5
-returns-5 c = rw c.enum-told4.given.1
+returns-5 : tie.Need-returns-in-Full
+returns-5 c = rw c.in-Full.is
 
-returns-6 : tie.Need-returns-6
-returns-6 c = rw c.enum-told5.given.1
+returns-6 : tie.Need-returns-in-NodeExists
+returns-6 c = rw c.in-NodeExists.is
 
-pub inserts-spec : {M : Type 1} → statement M
-inserts-spec =
+pub inserts_spec : {M : Type 1} → statement M
+inserts_spec =
     tie.close
     (tie.spec
     enum_told

@@ -21,27 +21,27 @@ use Rattle.bucket_update.proofs.put_again.Statement.{statement}
 use Rattle.bucket_update.proofs.put_again.Tie as tie
 
 -- the bucket without its pending, if that goes
-module _ (c : tie.After-without-pending) where
+module _ (c : tie.After-without_pending-held) where
   abbrev start : tie.Start
   start = c.before.before
 
   abbrev goes : Bool
   goes = eqb start.args.node.status.state 1 && eqb start.args.pos 0
 
-  cleared : let b = start.args.b in Becomes (settings_of b) (rules.with_pending (cond goes none (bucket_of b).pending) (bucket_of b)) c.without-pending.result
+  cleared : let b = start.args.b in Becomes (settings_of b) (rules.with_pending (cond goes none (bucket_of b).pending) (bucket_of b)) c.without_pending-held.result
   cleared =
       let b = start.args.b in
       let p = (bucket_of b).pending in
-      subst (Becomes (settings_of b) (rules.with_pending (cond goes none p) (bucket_of b))) (sym c.without-pending.ensures) (unpended b start.pre.0 goes p refl)
+      subst (Becomes (settings_of b) (rules.with_pending (cond goes none p) (bucket_of b))) (sym c.without_pending-held.ensures) (unpended b start.requires.0 goes p refl)
 
-  same_count : c.without-pending.result.count ≡ start.args.b.count
-  same_count = ap (λ (b : KBucket). b.count) c.without-pending.ensures
+  same_count : c.without_pending-held.result.count ≡ start.args.b.count
+  same_count = ap (λ (b : KBucket). b.count) c.without_pending-held.ensures
 
-  same_key : key_at c.without-pending.result start.args.pos ≡ num start.args.node.key
-  same_key = ap (λ (b : KBucket). key_at b start.args.pos) c.without-pending.ensures ∙ start.pre.1.1.1.1
+  same_key : key_at c.without_pending-held.result start.args.pos ≡ num start.args.node.key
+  same_key = ap (λ (b : KBucket). key_at b start.args.pos) c.without_pending-held.ensures ∙ start.requires.1.1.1.1
 
 -- the bucket that the node is put into
-module _ (c : tie.After-taken-out) where
+module _ (c : tie.After-taken_out-left) where
   abbrev begun : tie.Start
   begun = start c.before
 
@@ -54,15 +54,15 @@ module _ (c : tie.After-taken-out) where
   is-first : rules.is_first new.key (rules.nodes (bucket_of begun.args.b)) ≡ eqb begun.args.pos 0
   is-first =
       let b = begun.args.b in
-      subst (λ (k : ℕ). rules.is_first k (rules.nodes (bucket_of b)) ≡ eqb begun.args.pos 0) begun.pre.1.1.1.1 (first_at b begun.pre.0 begun.args.pos begun.pre.1.0)
+      subst (λ (k : ℕ). rules.is_first k (rules.nodes (bucket_of b)) ≡ eqb begun.args.pos 0) begun.requires.1.1.1.1 (first_at b begun.requires.0 begun.args.pos begun.requires.1.0)
 
-  becomes-left : Becomes (settings_of begun.args.b) left c.taken_out.result
+  becomes-left : Becomes (settings_of begun.args.b) left c.taken_out-left.result
   becomes-left =
       let b = begun.args.b in
       let p = (bucket_of b).pending in
-      let y = then_becomes (cleared c.before) (λ (s : rules.BucketSettings) (m : rules.Bucket). rules.take_out (key_at c.before.without-pending.result begun.args.pos) m) c.taken_out.ensures in
-      let z = subst (λ (k : ℕ). Becomes (settings_of b) (rules.take_out k (rules.with_pending (cond (goes c.before) none p) (bucket_of b))) c.taken_out.result) (same_key c.before) y in
-      subst (λ (t : Bool). Becomes (settings_of b) (rules.with_pending (cond (new.connected && t) none p) (rules.take_out new.key (bucket_of b))) c.taken_out.result) (sym is-first) z
+      let y = then_becomes (cleared c.before) (λ (s : rules.BucketSettings) (m : rules.Bucket). rules.take_out (key_at c.without_pending-held.result begun.args.pos) m) c.taken_out-left.ensures in
+      let z = subst (λ (k : ℕ). Becomes (settings_of b) (rules.take_out k (rules.with_pending (cond (goes c.before) none p) (bucket_of b))) c.taken_out-left.result) (same_key c.before) y in
+      subst (λ (t : Bool). Becomes (settings_of b) (rules.with_pending (cond (new.connected && t) none p) (rules.take_out new.key (bucket_of b))) c.taken_out-left.result) (sym is-first) z
 
   -- what the step answers and leaves
   steps : {f : Option FailureReason} {m : rules.Bucket} {r : KBucket} → put_again (settings_of begun.args.b) new (bucket_of begun.args.b) ≡ (f, m) → Becomes (settings_of begun.args.b) m r
@@ -74,66 +74,66 @@ module _ (c : tie.After-taken-out) where
       (ap (λ (z : Option FailureReason × rules.Bucket). (rules.status_result (node_of begun.args.old) new z.0, z.1)) e) y
 
   fine : rules.fails_bucket_filter (settings_of begun.args.b) new.value left ≡ false
-  fine = filter_off (settings_of begun.args.b) new.value left begun.pre.1.1.0
+  fine = filter_off (settings_of begun.args.b) new.value left begun.requires.1.1.0
 
-without-pending-requires : tie.Need-without-pending-requires
+without-pending-requires : tie.Need-without_pending-held-requires
 without-pending-requires c κs = search rules
 
-taken-out-requires : tie.Need-taken-out-requires
+taken-out-requires : tie.Need-taken_out-left-requires
 taken-out-requires c κs = ((cleared c).sound, omega (arith, (start c).requires.1.0, same_count c))
 
-is-max-incoming-requires : tie.Need-is-max-incoming-requires
+is-max-incoming-requires : tie.Need-is_max_incoming-requires
 is-max-incoming-requires c κs = (becomes-left c).sound
 
-returns : tie.Need-returns
+returns : tie.Need-returns-then-is_max_incoming
 returns c =
-    let w = c.before.before in
-    let o = begun w in
-    steps w
-    (reinsert_many (settings_of o.args.b) (new w) (left w) (fine w)
-    (maximum_told (becomes-left w) o.args.node (new w) refl _ _ c.before.is-max-incoming.ensures c.if1.true))
-    (becomes-left w)
+    let w = c in
+    let o = begun w.before.before in
+    steps w.before.before
+    (reinsert_many (settings_of o.args.b) (new w.before.before) (left w.before.before) (fine w.before.before)
+    (maximum_told (becomes-left w.before.before) o.args.node (new w.before.before) refl _ _ c.is_max_incoming.ensures c.if-is_max_incoming.true))
+    (becomes-left w.before.before)
 
-placed-requires : tie.Need-placed-requires
+placed-requires : tie.Need-placed-put-requires
 placed-requires c κs =
-    let w = c.before.before in
-    let o = begun w in
+    let w = c in
+    let o = begun w.before.before in
     let b = o.args.b in
     let k = num o.args.node.key in
-    let x = becomes-left w in
-    let held : rules.holds k (bucket_of b) ≡ true = subst (λ (j : ℕ). rules.holds j (bucket_of b) ≡ true) o.pre.1.1.1.1 (holds_at b o.pre.0 o.args.pos o.pre.1.0) in
+    let x = becomes-left w.before.before in
+    let held : rules.holds k (bucket_of b) ≡ true = subst (λ (j : ℕ). rules.holds j (bucket_of b) ≡ true) o.requires.1.1.1.1 (holds_at b o.requires.0 o.args.pos o.requires.1.0) in
     let fewer = count_take_out_held k (bucket_of b) held in
-    let most = (formed_of b o.pre.0).at_most in
-    let many = count_of w.taken_out.result x.sound ∙ ap rules.num_entries x.bucket in (
+    let most = (formed_of b o.requires.0).at_most in
+    let many = count_of w.taken_out-left.result x.sound ∙ ap rules.num_entries x.bucket in (
       x.sound,
       (
         omega arith,
         (
-          o.pre.1.1.1.0,
+          o.requires.1.1.1.0,
           (
             told x (λ (s : rules.BucketSettings) (m : rules.Bucket). rules.holds k m) ∙ take_out_without k (bucket_of b),
-            sym c.before.is-max-incoming.ensures ∙ c.if1.false,
+            sym c.is_max_incoming.ensures ∙ c.if-is_max_incoming.false,
           ),
         ),
       ),
     )
 
-status-result-requires : tie.Need-status-result-requires
+status-result-requires : tie.Need-status_result-requires
 status-result-requires c κs = search rules
 
-returns-2 : tie.Need-returns-2
+returns-2 : tie.Need-returns
 returns-2 c =
-    let e = c.before.before in
-    let w = e.before.before in
-    let o = begun w in
-    let d = steps w
-    (reinsert_placed (settings_of o.args.b) (new w) (left w) (fine w)
-    (maximum_told (becomes-left w) o.args.node (new w) refl _ _ e.before.is-max-incoming.ensures e.if1.false))
-    (placed_told (becomes-left w) o.args.node (new w) refl c.before.placed.ensures) in
-    (c.status_result_lem.ensures ∙ d.0, d.1)
+    let e = c in
+    let w = e in
+    let o = begun w.before.before.before.before in
+    let d = steps w.before.before.before.before
+    (reinsert_placed (settings_of o.args.b) (new w.before.before.before.before) (left w.before.before.before.before) (fine w.before.before.before.before)
+    (maximum_told (becomes-left w.before.before.before.before) o.args.node (new w.before.before.before.before) refl _ _ e.is_max_incoming.ensures e.if-is_max_incoming.false))
+    (placed_told (becomes-left w.before.before.before.before) o.args.node (new w.before.before.before.before) refl c.placed-put.ensures) in
+    (c.status_result.ensures ∙ d.0, d.1)
 
-pub put-again-spec : {M : Type 1} → statement M
-put-again-spec =
+pub put_again_spec : {M : Type 1} → statement M
+put_again_spec =
     tie.close
     (tie.spec
     without-pending-requires

@@ -8,11 +8,11 @@ use Rattle.bucket_update.proofs.value_result.Tie as tie
 eq-requires : tie.Need-eq-requires
 eq-requires c κs = search rules
 
-returns : tie.Need-returns
-returns c = ap (λ (t : Bool). cond t UpdateResult.NotModified UpdateResult.Updated) (sym c.if1.true ∙ c.before.eq.ensures)
+returns : tie.Need-returns-then-eq
+returns c = ap (λ (t : Bool). cond t UpdateResult.NotModified UpdateResult.Updated) (sym c.if-eq.true ∙ c.eq.ensures)
 
-returns-2 : tie.Need-returns-2
-returns-2 c = ap (λ (t : Bool). cond t UpdateResult.NotModified UpdateResult.Updated) (sym c.if1.false ∙ c.before.eq.ensures)
+returns-2 : tie.Need-returns
+returns-2 c = ap (λ (t : Bool). cond t UpdateResult.NotModified UpdateResult.Updated) (sym c.if-eq.false ∙ c.eq.ensures)
 
-pub value-result-spec : {M : Type 1} → statement M
-value-result-spec = tie.close (tie.spec eq-requires returns returns-2)
+pub value_result_spec : {M : Type 1} → statement M
+value_result_spec = tie.close (tie.spec eq-requires returns returns-2)

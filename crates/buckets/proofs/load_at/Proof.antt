@@ -13,95 +13,95 @@ use borrow.Author.Rules.{rules}
 use Rattle.buckets.proofs.load_at.Statement.{statement}
 use Rattle.buckets.proofs.load_at.Tie as tie
 
-abbrev invariant-loop : tie.invariant-loop
+abbrev invariant-loop : tie.invariant-loop-i
 invariant-loop s at pending-timeout max-incoming filter count first pending nodes₀ i₀ nodes i = (count ≤ max_nodes_per_bucket) × ((i ≤ count) × ((length nodes ≡ max_nodes_per_bucket) × (nodes ≡ padded (read_places (part s at bucket_size) i))))
 
-abbrev decreases-loop : tie.decreases-loop
+abbrev decreases-loop : tie.decreases-loop-i
 decreases-loop s at pending-timeout max-incoming filter count first pending nodes₀ i₀ nodes i = count - i
 
-shared-slice-read-size : tie.Need-shared-slice-read-size invariant-loop decreases-loop
+shared-slice-read-size : tie.Need-bounds-s-at invariant-loop decreases-loop
 shared-slice-read-size c = search rules
 
-size-requires : tie.Need-size-requires invariant-loop decreases-loop
+size-requires : tie.Need-size-count-requires invariant-loop decreases-loop
 size-requires c κs = search rules
 
-add-size : tie.Need-overflow-add-size invariant-loop decreases-loop
+add-size : tie.Need-overflow_add-at invariant-loop decreases-loop
 add-size c = search rules
 
-shared-slice-read-size-2 : tie.Need-shared-slice-read-size-2 invariant-loop decreases-loop
+shared-slice-read-size-2 : tie.Need-bounds-s-at-2 invariant-loop decreases-loop
 shared-slice-read-size-2 c = search rules
 
-size-requires-2 : tie.Need-size-requires-2 invariant-loop decreases-loop
+size-requires-2 : tie.Need-size-first-requires invariant-loop decreases-loop
 size-requires-2 c κs = search rules
 
-add-load-pending : tie.Need-overflow-add-load-pending invariant-loop decreases-loop
+add-load-pending : tie.Need-overflow_add-at-2 invariant-loop decreases-loop
 add-load-pending c = search rules
 
-load-pending-requires : tie.Need-load-pending-requires invariant-loop decreases-loop
+load-pending-requires : tie.Need-load_pending-pending-requires invariant-loop decreases-loop
 load-pending-requires c κs = search rules
 
-zero-requires : tie.Need-zero-requires invariant-loop decreases-loop
+zero-requires : tie.Need-zero-z-requires invariant-loop decreases-loop
 zero-requires c κs = search rules
 
-loop-holds : tie.Need-loop-init invariant-loop decreases-loop
+loop-holds : tie.Need-loop-i-init invariant-loop decreases-loop
 loop-holds c =
-    let st = c.before.before.before.before.before.before.before in
+    let st = c in
     let a = st.args in (
-      omega (arith, count_few a.s.now a.at a.max-incoming st.requires.1.0, c.before.before.before.before.size.ensures),
-      (omega arith, (refl, ap (λ (z : Node). replicate max_nodes_per_bucket z) c.zero.ensures ∙ places_none _)),
+      omega (arith, count_few a.s.now a.at a.max_incoming st.requires.1.0, c.size-count.ensures),
+      (omega arith, (refl, ap (λ (z : Node). replicate max_nodes_per_bucket z) c.zero-z.ensures ∙ places_none _)),
     )
 
-mul-load-node : tie.Need-overflow-mul-load-node invariant-loop decreases-loop
+mul-load-node : tie.Need-overflow_mul-i invariant-loop decreases-loop
 mul-load-node c = search rules
 
-add-load-node : tie.Need-overflow-add-load-node invariant-loop decreases-loop
+add-load-node : tie.Need-overflow_add-i invariant-loop decreases-loop
 add-load-node c = search rules
 
-add-load-node-2 : tie.Need-overflow-add-load-node-2 invariant-loop decreases-loop
+add-load-node-2 : tie.Need-overflow_add-at-in-loop-i invariant-loop decreases-loop
 add-load-node-2 c = search rules
 
-load-node-requires : tie.Need-load-node-requires invariant-loop decreases-loop
+load-node-requires : tie.Need-load_node-requires invariant-loop decreases-loop
 load-node-requires c κs = search rules
 
-mul-nodes : tie.Need-overflow-mul-nodes invariant-loop decreases-loop
+mul-nodes : tie.Need-offset_bounds-nodes-i invariant-loop decreases-loop
 mul-nodes c = search rules
 
-array-set-from-nodes : tie.Need-array-set-from-nodes invariant-loop decreases-loop
+array-set-from-nodes : tie.Need-bounds-nodes-i invariant-loop decreases-loop
 array-set-from-nodes c = search rules
 
-add-i : tie.Need-overflow-add-i invariant-loop decreases-loop
+add-i : tie.Need-overflow_add-i-in-loop-i invariant-loop decreases-loop
 add-i c = search rules
 
-loop-less : tie.Need-loop-smaller invariant-loop decreases-loop
+loop-less : tie.Need-loop-i-smaller invariant-loop decreases-loop
 loop-less c = search rules
 
-loop-again : tie.Need-loop-preserved invariant-loop decreases-loop
+loop-again : tie.Need-loop-i-preserved invariant-loop decreases-loop
 loop-again c =
-    let a = c.before.before.before.before.before.before.before.before.before.before.args in
-    let l = c.before.before.loop in (
+    let a = c.args in
+    let l = c.loop-i in (
       l.invariant.0,
       (
         omega arith,
         (
           length-set l.nodes l.i _ ∙ l.invariant.1.1.0,
-          ap (λ (n : Node). set l.nodes l.i n) c.load-node.ensures ∙ places_next a.s.now a.at l.i l.nodes (omega arith) l.invariant.1.1.1,
+          ap (λ (n : Node). set l.nodes l.i n) c.load_node.ensures ∙ places_next a.s.now a.at l.i l.nodes (omega arith) l.invariant.1.1.1,
         ),
       ),
     )
 
 returns : tie.Need-returns invariant-loop decreases-loop
 returns c =
-    let st = c.before.before.before.before.before.before.before.before.before in
+    let st = c in
     let a = st.args in
-    let l = c.before.loop in
-    let bytes : Bytes a.s.now = λ i. (c.before.before.before.before.before.before.before.before.shared-slice-known.given i).fits in
-    let e : l.i ≡ c.before.before.before.before.before.before.size.result = omega arith in
-    loaded_at a.s.now a.at a.max-incoming st.requires.1.0 st.requires.0 bytes a.pending-timeout a.filter st.requires.1.1.0 st.requires.1.1.1 l.nodes _ _ _
-    (l.invariant.1.1.1 ∙ ap (λ (k : ℕ). padded (read_places (part a.s.now a.at bucket_size) k)) e) c.before.before.before.before.before.before.size.ensures c.before.before.before.before.size2.ensures
-    c.before.before.before.load-pending.ensures
+    let l = c.loop-i in
+    let bytes : Bytes a.s.now = λ i. (c.shared_slice_known-1.given i).fits in
+    let e : l.i ≡ c.size-count.result = omega arith in
+    loaded_at a.s.now a.at a.max_incoming st.requires.1.0 st.requires.0 bytes a.pending_timeout a.filter st.requires.1.1.0 st.requires.1.1.1 l.nodes _ _ _
+    (l.invariant.1.1.1 ∙ ap (λ (k : ℕ). padded (read_places (part a.s.now a.at bucket_size) k)) e) c.size-count.ensures c.size-first.ensures
+    c.load_pending-pending.ensures
 
-pub load-at-spec : {M : Type 1} → statement M
-load-at-spec =
+pub load_at_spec : {M : Type 1} → statement M
+load_at_spec =
     tie.close
     (tie.spec
     invariant-loop

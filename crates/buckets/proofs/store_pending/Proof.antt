@@ -10,55 +10,55 @@ use borrow.Author.Rules.{rules}
 use Rattle.buckets.proofs.store_pending.Statement.{statement}
 use Rattle.buckets.proofs.store_pending.Tie as tie
 
-enum_told : tie.Need-enum-told
+enum_told : tie.Need-enum_told-1
 enum_told c = search rules
 
-put-zeros-requires : tie.Need-put-zeros-requires
+put-zeros-requires : tie.Need-put_zeros-requires
 put-zeros-requires c κs = search rules
 
-enum-known-p : tie.Need-enum-known-p
+enum-known-p : tie.Need-enum_known-p
 enum-known-p c = search rules
 
-put-byte-requires : tie.Need-put-byte-requires
+put-byte-requires : tie.Need-put_byte-requires
 put-byte-requires c κs = search rules
 
-add-store-node : tie.Need-overflow-add-store-node
+add-store-node : tie.Need-overflow_add-at
 add-store-node c = search rules
 
-store-node-requires : tie.Need-store-node-requires
+store-node-requires : tie.Need-store_node-requires
 store-node-requires c κs =
-    let st = c.before.before.before.before.before.before.before.before.before in
-    (omega arith, sym (ap pending_codes c.before.before.before.before.before.before.p.given.1) ∙ st.requires.1)
+    let st = c in
+    (omega arith, sym (ap pending_codes c.in-Waiting.is) ∙ st.requires.1)
 
-add-put-u64 : tie.Need-overflow-add-put-u64
+add-put-u64 : tie.Need-overflow_add-put_u64
 add-put-u64 c = search rules
 
-add-put-u64-2 : tie.Need-overflow-add-put-u64-2
+add-put-u64-2 : tie.Need-overflow_add-at-in-Waiting
 add-put-u64-2 c = search rules
 
-put-u64-requires : tie.Need-put-u64-requires
+put-u64-requires : tie.Need-put_u64-requires
 put-u64-requires c κs = search rules
 
-same_length : tie.Need-same-length
+same_length : tie.Need-shape_of-s-in-Nothing
 same_length c = search rules
 
-returns : tie.Need-returns
+returns : tie.Need-returns-in-Nothing
 returns c =
-    let a = c.before.before.before.before.before.before.before.args in
-    c.before.before.put-zeros.ensures ∙ ap (λ (p : Pending). splice a.s.now a.at (pending_bytes (pending_of p))) (sym c.before.before.before.before.enum_told.given.1)
+    let a = c.args in
+    c.put_zeros.ensures ∙ ap (λ (p : Pending). splice a.s.now a.at (pending_bytes (pending_of p))) (sym c.in-Nothing.is)
 
-same-length-2 : tie.Need-same-length-2
+same-length-2 : tie.Need-shape_of-s-in-Waiting
 same-length-2 c = search rules
 
-returns-2 : tie.Need-returns-2
+returns-2 : tie.Need-returns-in-Waiting
 returns-2 c =
-    let st = c.before.before.before.before.before.before.before.before.before.before.before.before.before.before.before.before in
+    let st = c in
     let a = st.args in
-    let p = c.before.before.before.before.before.before.before.before.before.before.before.before.before.p.given in
-    cc (pending_put a.s.now a.at p.0.0 p.0.1.0 st.requires.0, ap (λ (q : Pending). pending_bytes (pending_of q)) p.1)
+    let p = c in
+    cc (pending_put a.s.now a.at p.in-Waiting.node p.in-Waiting.deadline st.requires.0, ap (λ (q : Pending). pending_bytes (pending_of q)) p.in-Waiting.is)
 
-pub store-pending-spec : {M : Type 1} → statement M
-store-pending-spec =
+pub store_pending_spec : {M : Type 1} → statement M
+store_pending_spec =
     tie.close
     (tie.spec
     enum_told

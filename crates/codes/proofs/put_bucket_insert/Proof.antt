@@ -15,51 +15,51 @@ code r = bucket_insert_code (insert_result_of r)
 abbrev carries : InsertResult → List ℕ
 carries r = bucket_insert_bytes (insert_result_of r)
 
-enum_told : tie.Need-enum-told
+enum_told : tie.Need-enum_told-1
 enum_told c = search rules
 
-enum-known-result : tie.Need-enum-known-result
+enum-known-result : tie.Need-enum_known-res
 enum-known-result c = search rules
 
 store-requires : tie.Need-store-requires
 store-requires c κs = search rules
 
-enum-told-2 : tie.Need-enum-told-2
+enum-told-2 : tie.Need-enum_told-in-FailedFilter
 enum-told-2 c = search rules
 
-enum-told-3 : tie.Need-enum-told-3
+enum-told-3 : tie.Need-enum_told-in-TooManyIncoming
 enum-told-3 c = search rules
 
-enum-told-4 : tie.Need-enum-told-4
+enum-told-4 : tie.Need-enum_told-in-Full
 enum-told-4 c = search rules
 
-enum-told-5 : tie.Need-enum-told-5
+enum-told-5 : tie.Need-enum_told-in-NodeExists
 enum-told-5 c = search rules
 
-returns : tie.Need-returns
-returns c = carried code carries _ c.enum_told.given.1 refl (kept _)
+returns : tie.Need-returns-in-Inserted
+returns c = carried code carries _ c.in-Inserted.is refl (kept _)
 
-same_length : tie.Need-same-length
+same_length : tie.Need-shape_of-answer
 same_length c = search rules
 
-returns-2 : tie.Need-returns-2
+returns-2 : tie.Need-returns-in-Pending
 returns-2 c =
-    carried code carries _ c.before.before.before.before.before.result.given.1 refl c.before.before.store.ensures
+    carried code carries _ c.in-Pending.is refl c.store.ensures
 
-returns-3 : tie.Need-returns-3
-returns-3 c = carried code carries _ c.enum-told2.given.1 refl (kept _)
+returns-3 : tie.Need-returns-in-FailedFilter
+returns-3 c = carried code carries _ c.in-FailedFilter.is refl (kept _)
 
-returns-4 : tie.Need-returns-4
-returns-4 c = carried code carries _ c.enum-told3.given.1 refl (kept _)
+returns-4 : tie.Need-returns-in-TooManyIncoming
+returns-4 c = carried code carries _ c.in-TooManyIncoming.is refl (kept _)
 
-returns-5 : tie.Need-returns-5
-returns-5 c = carried code carries _ c.enum-told4.given.1 refl (kept _)
+returns-5 : tie.Need-returns-in-Full
+returns-5 c = carried code carries _ c.in-Full.is refl (kept _)
 
-returns-6 : tie.Need-returns-6
-returns-6 c = carried code carries _ c.enum-told5.given.1 refl (kept _)
+returns-6 : tie.Need-returns-in-NodeExists
+returns-6 c = carried code carries _ c.in-NodeExists.is refl (kept _)
 
-pub put-bucket-insert-spec : {M : Type 1} → statement M
-put-bucket-insert-spec =
+pub put_bucket_insert_spec : {M : Type 1} → statement M
+put_bucket_insert_spec =
     tie.close
     (tie.spec
     enum_told

@@ -25,9 +25,9 @@ use Rattle.entry.proofs.entry.Statement.{statement}
 use Rattle.entry.proofs.entry.Tie as tie
 
 -- the call's arguments
-module _ (b : tie.After-begin-at) where
+module _ (b : tie.After-begin_at-start) where
   abbrev o : tie.Start
-  o = b.before.before.before.before
+  o = b.before.before.before
 
   abbrev s : List ℕ
   s = o.args.s.now
@@ -42,47 +42,47 @@ module _ (b : tie.After-begin-at) where
   call = KeyCall.entry time
 
   bytes : Bytes s
-  bytes j = (b.before.before.before.slice-known.given j).fits
+  bytes j = (b.slice_known-1.given j).fits
 
-begin-at-requires : tie.Need-begin-at-requires
+begin-at-requires : tie.Need-begin_at-start-requires
 begin-at-requires c κs = search rules
 
-enum-known-start : tie.Need-enum-known-start
+enum-known-start : tie.Need-enum_known-start
 enum-known-start c = search rules
 
-enum_told : tie.Need-enum-told
+enum_told : tie.Need-enum_told-1
 enum_told c = search rules
 
-enum-known-start-2 : tie.Need-enum-known-start-2
+enum-known-start-2 : tie.Need-enum_known-start-in-At-1
 enum-known-start-2 c = search rules
 
 -- at the key's bucket
-module _ (k : tie.After-start2) where
-  abbrev began : tie.After-begin-at
-  began = k.before.before
+module _ (k : tie.In-At) where
+  abbrev began : tie.After-begin_at-start
+  began = k.before
 
-  at : AtBucket (s began) (key began) true (some (time began)) k.start2.given.0.0 k.start2.given.0.1.0
-  at = begun (s began) (key began) (some (time began)) refl began.begin-at.ensures k.start2.given.1
+  at : AtBucket (s began) (key began) true (some (time began)) k.in-At.k k.in-At.i
+  at = begun (s began) (key began) (some (time began)) refl began.begin_at-start.ensures k.in-At.is
 
-mul_at : tie.Need-overflow-mul-at
-mul_at c = let y = (at c.before).ready.below in search rules
+mul_at : tie.Need-overflow_mul-at
+mul_at c = let y = (at c).ready.below in search rules
 
-add_at : tie.Need-overflow-add-at
-add_at c = let y = (at c.before).ready.below in search rules
+add_at : tie.Need-overflow_add-at
+add_at c = let y = (at c).ready.below in search rules
 
-is-quiet-requires : tie.Need-is-quiet-requires
-is-quiet-requires c κs = let y = (at c.before.before).ready in omega (arith, y.size, y.below)
+is-quiet-requires : tie.Need-is_quiet-requires
+is-quiet-requires c κs = let y = (at c).ready in omega (arith, y.size, y.below)
 
 -- where it was asked whether the bucket has a pending
-module _ (n : tie.After-is-quiet) where
-  abbrev here : tie.After-start2
-  here = n.before.before.before
+module _ (n : tie.After-is_quiet) where
+  abbrev here : tie.In-At
+  here = n.before
 
-  abbrev b : tie.After-begin-at
+  abbrev b : tie.After-begin_at-start
   b = began here
 
   abbrev i : ℕ
-  i = here.start2.given.0.1.0
+  i = here.in-At.i
 
   abbrev read : ReadFormed (s b) (key b) (call b)
   read = own_formed (s b) (key b) (call b) (at here) refl
@@ -90,78 +90,78 @@ module _ (n : tie.After-is-quiet) where
   inside : bucket_at i + bucket_size ≤ length (s b)
   inside = let y = (at here).ready in omega (arith, y.size, y.below)
 
-  quiet : n.is-quiet.result ≡ true → Quiet (part (s b) (bucket_at i) bucket_size)
-  quiet e = n.is-quiet.ensures _ _ (at here).ready.bucket e
+  quiet : n.is_quiet.result ≡ true → Quiet (part (s b) (bucket_at i) bucket_size)
+  quiet e = n.is_quiet.ensures _ _ (at here).ready.bucket e
 
-kind-here-requires : tie.Need-kind-here-requires
-kind-here-requires c κs = let n = c.before.before in (inside n, quiet n c.before.if1.true)
+kind-here-requires : tie.Need-kind_here-here-requires
+kind-here-requires c κs = let n = c in (inside n.before, quiet n.before c.if-is_quiet.true)
 
-same_length : tie.Need-same-length
+same_length : tie.Need-shape_of-s-then-is_quiet
 same_length c = search rules
 
 -- in place: nothing is written
-returns : tie.Need-returns
+returns : tie.Need-returns-then-is_quiet
 returns c =
-    let n = c.before.before.before in
-    let q = quiet n c.before.before.if1.true in (
-      in_place_at (s (b n)) (key (b n)) (call (b n)) (at (here n)) (read n) refl (bytes (b n)) q (λ (u : rules.BucketSettings) (k : ℕ) (x : rules.Bucket). (kind_of k x, x))
-          (record { answers = c.kind-here.ensures.0; leaves = untouched (s (b n)) (bucket_at (i n)) q (inside n) }) Answer.Entry (time (b n)) refl refl,
-      c.kind-here.ensures.1,
+    let n = c in
+    let q = quiet n.before.before c.if-is_quiet.true in (
+      in_place_at (s (b n.before.before)) (key (b n.before.before)) (call (b n.before.before)) (at (here n.before.before)) (read n.before.before) refl (bytes (b n.before.before)) q (λ (u : rules.BucketSettings) (k : ℕ) (x : rules.Bucket). (kind_of k x, x))
+          (record { answers = c.kind_here-here.ensures.0; leaves = untouched (s (b n.before.before)) (bucket_at (i n.before.before)) q (inside n.before.before) }) Answer.Entry (time (b n.before.before)) refl refl,
+      c.kind_here-here.ensures.1,
     )
 
-apply-at-requires : tie.Need-apply-at-requires
+apply-at-requires : tie.Need-apply_at-a-requires
 apply-at-requires c κs =
-    let n = c.before.before in
-    ((at (here n)).ready, timely (s (b n)) (key (b n)) true (time (b n)) (at (here n)).passed)
+    let n = c in
+    ((at (here n.before)).ready, timely (s (b n.before)) (key (b n.before)) true (time (b n.before)) (at (here n.before)).passed)
 
-kind-of-requires : tie.Need-kind-of-requires
-kind-of-requires c κs = c.before.apply_at.ensures.bucket.sound
+kind-of-requires : tie.Need-kind_of-found-requires
+kind-of-requires c κs = c.apply_at-a.ensures.bucket.sound
 
 finish-requires : tie.Need-finish-requires
 finish-requires c κs =
-    let a = c.before.before.before in
-    ((at (here a.before.before.before)).ready, (a.apply_at.ensures.codes, a.apply_at.ensures.bucket.sound))
+    let a = c in
+    ((at (here a.before.before.before.before.before)).ready, (a.apply_at-a.ensures.codes, a.apply_at-a.ensures.bucket.sound))
 
-same-length-2 : tie.Need-same-length-2
+same-length-2 : tie.Need-shape_of-s-then-not-finish
 same-length-2 c = search rules
 
-returns-2 : tie.Need-returns-2
+returns-2 : tie.Need-returns-then-not-finish
 returns-2 c =
-    let f = c.before.before.before in
-    let a = f.before.before.before.before in
-    let n = a.before.before.before in
-    (ends_full (s (b n)) (key (b n)) (call (b n)) (at (here n)) (read n) refl _ f.finish.ensures (no_own a.apply_at.ensures.records) c.if2.true, refl)
+    let f = c in
+    let a = f in
+    let n = a in
+    (ends_full (s (b n.before.before.before.before.before.before.before.before.before)) (key (b n.before.before.before.before.before.before.before.before.before)) (call (b n.before.before.before.before.before.before.before.before.before)) (at (here n.before.before.before.before.before.before.before.before.before)) (read n.before.before.before.before.before.before.before.before.before) refl _ f.finish.ensures (no_own a.apply_at-a.ensures.records) c.if-not-finish.true-raw, refl)
 
-same-length-3 : tie.Need-same-length-3
+same-length-3 : tie.Need-shape_of-s-in-Refused
 same-length-3 c = search rules
 
-returns-3 : tie.Need-returns-3
+returns-3 : tie.Need-returns-in-Refused
 returns-3 c =
-    let b = c.before.before.before in
-    (refused_early (s b) (key b) (call b) _ (begun (s b) (key b) (some (time b)) refl b.begin-at.ensures c.before.start.given.1), refl)
+    let b = c in
+    (refused_early (s b.before) (key b.before) (call b.before) _ (begun (s b.before) (key b.before) (some (time b.before)) refl b.begin_at-start.ensures c.in-Refused.is), refl)
 
-same-length-4 : tie.Need-same-length-4
+same-length-4 : tie.Need-shape_of-s-in-Local
 same-length-4 c = search rules
 
-returns-4 : tie.Need-returns-4
+returns-4 : tie.Need-returns-in-Local
 returns-4 c =
-    let b = c.before.before in
-    let y = begun (s b) (key b) (some (time b)) refl b.begin-at.ensures c.enum_told.given.1 in
-    (answers_self (s b) (key b) (call b) y.0 refl (bytes b) y.1, refl)
+    let b = c in
+    let y = begun (s b.before) (key b.before) (some (time b.before)) refl b.begin_at-start.ensures c.in-Local.is in
+    (answers_self (s b.before) (key b.before) (call b.before) y.0 refl (bytes b.before) y.1, refl)
 
-same-length-5 : tie.Need-same-length-5
+same-length-5 : tie.Need-shape_of-s-else-not-finish
 same-length-5 c = search rules
 
-returns-5 : tie.Need-returns-5
+returns-5 : tie.Need-returns-else-not-finish
 returns-5 c =
-    let f = c.before.before.before in
-    let m = f.before.before in
-    let a = m.before.before in
-    let n = a.before.before.before in
-    let y = a.apply_at.ensures in
-    let x = (rules.apply_pending (table_of (s (b n))).settings.bucket (time (b n)) ((table_of (s (b n))).buckets (i n))).0 in
-    let z = m.kind_of_lem.ensures.0 ∙ ap (kind_of (num (here n).start2.given.0.0)) y.bucket.bucket ∙ ap (λ (k : ℕ). kind_of k x) (at (here n)).key_is in
-    (ends (s (b n)) (key (b n)) (call (b n)) (at (here n)) (read n) refl _ f.finish.ensures (no_own y.records) c.if2.false (ap Answer.Entry z) y.bucket.bucket, m.kind_of_lem.ensures.1)
+    let f = c in
+    let m = f in
+    let a = m in
+    let n = a in
+    let y = a.apply_at-a.ensures in
+    let x = (rules.apply_pending (table_of (s (b n.before.before.before.before.before.before.before.before.before))).settings.bucket (time (b n.before.before.before.before.before.before.before.before.before)) ((table_of (s (b n.before.before.before.before.before.before.before.before.before))).buckets (i n.before.before.before.before.before.before.before.before.before))).0 in
+    let z = m.kind_of-found.ensures.0 ∙ ap (kind_of (num (here n.before.before.before.before.before.before.before.before.before).in-At.k)) y.bucket.bucket ∙ ap (λ (k : ℕ). kind_of k x) (at (here n.before.before.before.before.before.before.before.before.before)).key_is in
+    (ends (s (b n.before.before.before.before.before.before.before.before.before)) (key (b n.before.before.before.before.before.before.before.before.before)) (call (b n.before.before.before.before.before.before.before.before.before)) (at (here n.before.before.before.before.before.before.before.before.before)) (read n.before.before.before.before.before.before.before.before.before) refl _ f.finish.ensures (no_own y.records) c.if-not-finish.false-raw (ap Answer.Entry z) y.bucket.bucket, m.kind_of-found.ensures.1)
 
 pub entry_spec : {M : Type 1} → statement M
 entry_spec =

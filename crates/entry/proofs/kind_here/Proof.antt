@@ -22,17 +22,17 @@ use borrow.Author.Rules.{rules}
 use Rattle.entry.proofs.kind_here.Statement.{statement}
 use Rattle.entry.proofs.kind_here.Tie as tie
 
-shared-slice-read-count : tie.Need-shared-slice-read-count
+shared-slice-read-count : tie.Need-bounds-s-at
 shared-slice-read-count c = search rules
 
-cast-count : tie.Need-overflow-cast-count
-cast-count c = record { fits = omega (arith, c.before.shared-slice-known.given c.before.before.args.at) }
+cast-count : tie.Need-overflow_cast-count
+cast-count c = record { fits = omega (arith, c.shared_slice_known-1.given c.args.at) }
 
-position-requires : tie.Need-position-requires
-position-requires c κs = let o = c.before.before in (o.requires.0, count_few o.args.s.now o.args.at o.requires.1)
+position-requires : tie.Need-position-pos-requires
+position-requires c κs = let o = c in (o.requires.0, count_few o.args.s.now o.args.at o.requires.1)
 
 -- where the key was looked for
-module _ (p : tie.After-position) where
+module _ (p : tie.After-position-pos) where
   abbrev o : tie.Start
   o = p.before.before.before
 
@@ -49,49 +49,49 @@ module _ (p : tie.After-position) where
   k = num o.args.key
 
   few : count ≤ max_nodes_per_bucket
-  few = count_few s at o.pre.1
+  few = count_few s at o.requires.1
 
-  absent : count ≤ p.position.result → EntryKind.Absent ≡ kind_of k (bucket_here s at)
+  absent : count ≤ p.position-pos.result → EntryKind.Absent ≡ kind_of k (bucket_here s at)
   absent h =
-      kind_none k (bucket_here s at) (absent_get s at o.pre.1 o.pre.0 count refl k p.position.result p.position.ensures h) o.pre.1.pending
+      kind_none k (bucket_here s at) (absent_get s at o.requires.1 o.requires.0 count refl k p.position-pos.result p.position-pos.ensures h) o.requires.1.pending
 
   -- the node at the key's place
-  module _ (h : p.position.result < count) (n : Node) (e : n ≡ read_node (part s (at + (2 + p.position.result * node_size)) node_size)) where
+  module _ (h : p.position-pos.result < count) (n : Node) (e : n ≡ read_node (part s (at + (2 + p.position-pos.result * node_size)) node_size)) where
     present : EntryKind.Present (node_of n).connected (node_of n).incoming ≡ kind_of k (bucket_here s at)
     present =
-        kind_held k (bucket_here s at) (node_of n) (get_old s at o.pre.1 o.pre.0 count refl k p.position.result p.position.ensures h few n e)
+        kind_held k (bucket_here s at) (node_of n) (get_old s at o.requires.1 o.requires.0 count refl k p.position-pos.result p.position-pos.ensures h few n e)
 
     in_range : (leb n.status.state 1 && leb n.status.direction 1) ≡ true
     in_range =
-        status_codes n (stored_codes n (stored_old s at o.pre.1 o.pre.0 count refl k p.position.result p.position.ensures h few n e))
+        status_codes n (stored_codes n (stored_old s at o.requires.1 o.requires.0 count refl k p.position-pos.result p.position-pos.ensures h few n e))
 
-mul-load-node : tie.Need-overflow-mul-load-node
+mul-load-node : tie.Need-overflow_mul-pos
 mul-load-node c = let y = few c.before in search rules
 
-add-load-node : tie.Need-overflow-add-load-node
+add-load-node : tie.Need-overflow_add-pos
 add-load-node c = let y = few c.before in search rules
 
-add-load-node-2 : tie.Need-overflow-add-load-node-2
+add-load-node-2 : tie.Need-overflow_add-at
 add-load-node-2 c =
     let y = few c.before in
-    let z = (o c.before).pre.0 in
+    let z = (o c.before).requires.0 in
     search rules
 
-load-node-requires : tie.Need-load-node-requires
-load-node-requires c κs = omega (arith, few c.before, (o c.before).pre.0)
+load-node-requires : tie.Need-load_node-node-requires
+load-node-requires c κs = omega (arith, few c.before, (o c.before).requires.0)
 
-returns : tie.Need-returns
+returns : tie.Need-returns-then-pos-count
 returns c =
-    let l = c.before in
-    let h = l.before in
-    let p = h.before in
-    (present p h.if1.true l.load-node.result l.load-node.ensures, in_range p h.if1.true l.load-node.result l.load-node.ensures)
+    let l = c in
+    let h = l in
+    let p = h in
+    (present p.before.before.before h.if-pos-count.true l.load_node-node.result l.load_node-node.ensures, in_range p.before.before.before h.if-pos-count.true l.load_node-node.result l.load_node-node.ensures)
 
-returns-2 : tie.Need-returns-2
-returns-2 c = let p = c.before in (absent p c.if1.false, refl)
+returns-2 : tie.Need-returns
+returns-2 c = let p = c in (absent p.before c.if-pos-count.false, refl)
 
-pub kind-here-spec : {M : Type 1} → statement M
-kind-here-spec =
+pub kind_here_spec : {M : Type 1} → statement M
+kind_here_spec =
     tie.close
     (tie.spec
     shared-slice-read-count

@@ -15,76 +15,76 @@ use Rattle.entry.proofs.Kind.{kind_held, kind_none, kind_pending, kind_other, st
 use Rattle.entry.proofs.kind_of.Statement.{statement}
 use Rattle.entry.proofs.kind_of.Tie as tie
 
-position-requires : tie.Need-position-requires
+position-requires : tie.Need-position-pos-requires
 position-requires c κs = search rules
 
-mul-held : tie.Need-overflow-mul-held
+mul-held : tie.Need-offset_bounds-nodes-pos
 mul-held c = search rules
 
-array-copy-out-held : tie.Need-array-copy-out-held
+array-copy-out-held : tie.Need-bounds-nodes-pos
 array-copy-out-held c = search rules
 
-returns : tie.Need-returns
+returns : tie.Need-returns-then-pos-count
 returns c =
-    let h = c.before.before in
-    let i = h.before in
-    let o = i.before.before in
+    let h = c in
+    let i = h in
+    let o = i in
     let b = o.args.b in
     let k = num o.args.key in
-    let e : i.position.result ≡ position k (held_of b) = omega (arith, i.position.ensures) in
-    let f = found_at b o.requires k i.position.result e h.if1.true in (
-      kind_held k (bucket_of b) (node_of (get_or b.nodes i.position.result zero_node)) (ap (λ (j : ℕ). get j (bucket_of b)) (sym f) ∙ get_at b o.requires i.position.result h.if1.true),
-      status_codes (get_or b.nodes i.position.result zero_node) (stored_codes _ (stored_at b o.requires i.position.result h.if1.true)),
+    let e : i.position-pos.result ≡ position k (held_of b) = omega (arith, i.position-pos.ensures) in
+    let f = found_at b o.requires k i.position-pos.result e h.if-pos-count.true in (
+      kind_held k (bucket_of b) (node_of (get_or b.nodes i.position-pos.result zero_node)) (ap (λ (j : ℕ). get j (bucket_of b)) (sym f) ∙ get_at b o.requires i.position-pos.result h.if-pos-count.true),
+      status_codes (get_or b.nodes i.position-pos.result zero_node) (stored_codes _ (stored_at b o.requires i.position-pos.result h.if-pos-count.true)),
     )
 
-enum_told : tie.Need-enum-told
+enum_told : tie.Need-enum_told-1
 enum_told c = search rules
 
-enum-known-p : tie.Need-enum-known-p
+enum-known-p : tie.Need-enum_known-p
 enum-known-p c = search rules
 
 eq-requires : tie.Need-eq-requires
 eq-requires c κs = search rules
 
-returns-2 : tie.Need-returns-2
+returns-2 : tie.Need-returns-then-eq
 returns-2 c =
-    let q = c.before.before in
-    let p = q.before.before in
-    let h = p.before.before in
-    let i = h.before in
-    let o = i.before.before in
+    let q = c in
+    let p = q in
+    let h = p in
+    let i = h in
+    let o = i in
     let b = o.args.b in
     let k = num o.args.key in
-    let e : i.position.result ≡ position k (held_of b) = omega (arith, i.position.ensures) in
-    let absent = absent_at b o.requires k i.position.result e h.if1.false in
-    (kind_pending k (bucket_of b) absent _ (ap pending_of p.p.given.1) (sym q.eq.ensures ∙ c.before.if2.true), status_codes p.p.given.0.0 (stored_codes _ (pending_stored b o.requires _ _ p.p.given.1)))
+    let e : i.position-pos.result ≡ position k (held_of b) = omega (arith, i.position-pos.ensures) in
+    let absent = absent_at b o.requires k i.position-pos.result e h.if-pos-count.false in
+    (kind_pending k (bucket_of b) absent _ (ap pending_of p.in-Waiting.is) (sym q.eq.ensures ∙ c.if-eq.true), status_codes p.in-Waiting.node (stored_codes _ (pending_stored b o.requires _ _ p.in-Waiting.is)))
 
-returns-3 : tie.Need-returns-3
+returns-3 : tie.Need-returns-in-Nothing
 returns-3 c =
-    let h = c.before.before in
-    let i = h.before in
-    let o = i.before.before in
+    let h = c in
+    let i = h in
+    let o = i in
     let b = o.args.b in
     let k = num o.args.key in
-    let e : i.position.result ≡ position k (held_of b) = omega (arith, i.position.ensures) in
-    let absent = absent_at b o.requires k i.position.result e h.if1.false in
-    (kind_none k (bucket_of b) absent (ap pending_of c.enum_told.given.1), refl)
+    let e : i.position-pos.result ≡ position k (held_of b) = omega (arith, i.position-pos.ensures) in
+    let absent = absent_at b o.requires k i.position-pos.result e h.if-pos-count.false in
+    (kind_none k (bucket_of b) absent (ap pending_of c.in-Nothing.is), refl)
 
-returns-4 : tie.Need-returns-4
+returns-4 : tie.Need-returns-else-eq
 returns-4 c =
-    let q = c.before in
-    let p = q.before.before in
-    let h = p.before.before in
-    let i = h.before in
-    let o = i.before.before in
+    let q = c in
+    let p = q in
+    let h = p in
+    let i = h in
+    let o = i in
     let b = o.args.b in
     let k = num o.args.key in
-    let e : i.position.result ≡ position k (held_of b) = omega (arith, i.position.ensures) in
-    let absent = absent_at b o.requires k i.position.result e h.if1.false in
-    (kind_other k (bucket_of b) absent _ (ap pending_of p.p.given.1) (sym q.eq.ensures ∙ c.if2.false), refl)
+    let e : i.position-pos.result ≡ position k (held_of b) = omega (arith, i.position-pos.ensures) in
+    let absent = absent_at b o.requires k i.position-pos.result e h.if-pos-count.false in
+    (kind_other k (bucket_of b) absent _ (ap pending_of p.in-Waiting.is) (sym q.eq.ensures ∙ c.if-eq.false), refl)
 
-pub kind-of-spec : {M : Type 1} → statement M
-kind-of-spec =
+pub kind_of_spec : {M : Type 1} → statement M
+kind_of_spec =
     tie.close
     (tie.spec
     position-requires

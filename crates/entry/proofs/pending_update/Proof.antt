@@ -22,9 +22,9 @@ use Rattle.entry.proofs.pending_update.Statement.{statement}
 use Rattle.entry.proofs.pending_update.Tie as tie
 
 -- the call's arguments
-module _ (b : tie.After-begin) where
+module _ (b : tie.After-begin-start) where
   abbrev o : tie.Start
-  o = b.before.before.before.before
+  o = b.before.before.before
 
   abbrev s : List ℕ
   s = o.args.s.now
@@ -41,112 +41,112 @@ module _ (b : tie.After-begin) where
   abbrev codes : Bool
   codes = leb state 1 && leb direction 1
 
-begin-requires : tie.Need-begin-requires
+begin-requires : tie.Need-begin-start-requires
 begin-requires c κs = search rules
 
-enum-known-start : tie.Need-enum-known-start
+enum-known-start : tie.Need-enum_known-start
 enum-known-start c = search rules
 
-enum_told : tie.Need-enum-told
+enum_told : tie.Need-enum_told-1
 enum_told c = search rules
 
-enum-known-start-2 : tie.Need-enum-known-start-2
+enum-known-start-2 : tie.Need-enum_known-start-in-At-1
 enum-known-start-2 c = search rules
 
 -- at the key's bucket
-module _ (k : tie.After-start2) where
-  abbrev began : tie.After-begin
-  began = k.before.before
+module _ (k : tie.In-At) where
+  abbrev began : tie.After-begin-start
+  began = k.before
 
-  at : AtBucket (s began) (key began) (codes began) none k.start2.given.0.0 k.start2.given.0.1.0
-  at = begun (s began) (key began) none refl began.begin.ensures k.start2.given.1
+  at : AtBucket (s began) (key began) (codes began) none k.in-At.k k.in-At.i
+  at = begun (s began) (key began) none refl began.begin-start.ensures k.in-At.is
 
-load-bucket-requires : tie.Need-load-bucket-requires
+load-bucket-requires : tie.Need-load_bucket-b-requires
 load-bucket-requires c κs =
-    let r = (at c.before.before).ready in
+    let r = (at c).ready in
     (r.size, (r.header, (r.below, r.bucket)))
 
-kind-of-requires : tie.Need-kind-of-requires
-kind-of-requires c κs = c.load-bucket.ensures.sound
+kind-of-requires : tie.Need-kind_of-found-requires
+kind-of-requires c κs = c.load_bucket-b.ensures.sound
 
-is-pending-requires : tie.Need-is-pending-requires
+is-pending-requires : tie.Need-is_pending-requires
 is-pending-requires c κs = search rules
 
 -- the kind as it was tested
-tested : (h : tie.After-is-pending) → is_pending (kind_of_key (key (began h.before.before.before.before.before)) (table_of (s (began h.before.before.before.before.before)))) ≡ h.is-pending.result
+tested : (h : tie.After-is_pending) → is_pending (kind_of_key (key (began h.before.before.before)) (table_of (s (began h.before.before.before)))) ≡ h.is_pending.result
 tested h =
-    let l = h.before.before in
-    ap is_pending (kind_told (at l.before.before.before) l.load-bucket.ensures h.before.kind_of_lem.ensures.0) ∙ sym h.is-pending.ensures
+    let l = h in
+    ap is_pending (kind_told (at l.before.before.before) l.load_bucket-b.ensures h.kind_of-found.ensures.0) ∙ sym h.is_pending.ensures
 
-same_length : tie.Need-same-length
+same_length : tie.Need-shape_of-s-then-not-is_pending
 same_length c = search rules
 
-returns : tie.Need-returns
+returns : tie.Need-returns-then-not-is_pending
 returns c =
-    let h = c.before in
-    let k = h.before.before.before.before.before in
-    let b = began k in
-    refused_kind (s b) (key b) (KeyCall.pending_update (state b) (direction b)) (at k).passed (own_formed (s b) (key b) (KeyCall.pending_update (state b) (direction b)) (at k) refl) (tested h ∙ not-true _ c.if1.true)
+    let h = c in
+    let k = h in
+    let b = began k.before.before.before.before in
+    refused_kind (s b) (key b) (KeyCall.pending_update (state b) (direction b)) (at k.before.before.before.before).passed (own_formed (s b) (key b) (KeyCall.pending_update (state b) (direction b)) (at k.before.before.before.before) refl) (tested h.before ∙ not-true _ c.if-not-is_pending.true-raw)
 
-update-pending-sound-requires : tie.Need-update-pending-sound-requires
+update-pending-sound-requires : tie.Need-update_pending_sound-changed-requires
 update-pending-sound-requires c κs =
-    let l = c.before.before.before in
-    let k = l.before.before.before in
-    let b = began k in
-    let p = (passed_five (s b) (key b) (codes b) none (at k).passed).in_range in
-    (l.load-bucket.ensures.sound, (leb-true (state b) 1 (and_left (leb (state b) 1) (leb (direction b) 1) p), leb-true (direction b) 1 (and_right (leb (state b) 1) (leb (direction b) 1) p)))
+    let l = c in
+    let k = l in
+    let b = began k.before.before.before.before in
+    let p = (passed_five (s b) (key b) (codes b) none (at k.before.before.before.before).passed).in_range in
+    (l.load_bucket-b.ensures.sound, (leb-true (state b) 1 (and_left (leb (state b) 1) (leb (direction b) 1) p), leb-true (direction b) 1 (and_right (leb (state b) 1) (leb (direction b) 1) p)))
 
 finish-requires : tie.Need-finish-requires
 finish-requires c κs =
-    let m = c.before in
-    ((at m.before.before.before.before.before.before.before).ready, (refl, search rules))
+    let m = c in
+    ((at m.before.before.before.before.before.before).ready, (refl, search rules))
 
-same-length-2 : tie.Need-same-length-2
+same-length-2 : tie.Need-shape_of-s-then-not-finish
 same-length-2 c = search rules
 
-returns-2 : tie.Need-returns-2
+returns-2 : tie.Need-returns-then-not-finish
 returns-2 c =
-    let f = c.before.before.before in
-    let e = f.before.before.before in
-    let h = e.before in
-    let k = h.before.before.before.before.before in
-    let b = began k in
-    ends_full (s b) (key b) (KeyCall.pending_update (state b) (direction b)) (at k) (own_formed (s b) (key b) (KeyCall.pending_update (state b) (direction b)) (at k) refl) (tested h ∙ not-false _ e.if1.false) _ f.finish.ensures refl c.if2.true
+    let f = c in
+    let e = f in
+    let h = e in
+    let k = h in
+    let b = began k.before.before.before.before.before.before.before.before.before.before in
+    ends_full (s b) (key b) (KeyCall.pending_update (state b) (direction b)) (at k.before.before.before.before.before.before.before.before.before.before) (own_formed (s b) (key b) (KeyCall.pending_update (state b) (direction b)) (at k.before.before.before.before.before.before.before.before.before.before) refl) (tested h.before.before.before.before.before.before.before ∙ not-false _ e.if-not-is_pending.false-raw) _ f.finish.ensures refl c.if-not-finish.true-raw
 
-same-length-3 : tie.Need-same-length-3
+same-length-3 : tie.Need-shape_of-s-in-Refused
 same-length-3 c = search rules
 
-returns-3 : tie.Need-returns-3
+returns-3 : tie.Need-returns-in-Refused
 returns-3 c =
-    let b = c.before.before.before in
-    refused_early (s b) (key b) (KeyCall.pending_update (state b) (direction b)) _ (begun (s b) (key b) none refl b.begin.ensures c.before.start.given.1)
+    let b = c in
+    refused_early (s b.before) (key b.before) (KeyCall.pending_update (state b.before) (direction b.before)) _ (begun (s b.before) (key b.before) none refl b.begin-start.ensures c.in-Refused.is)
 
-same-length-4 : tie.Need-same-length-4
+same-length-4 : tie.Need-shape_of-s-in-Local
 same-length-4 c = search rules
 
-returns-4 : tie.Need-returns-4
+returns-4 : tie.Need-returns-in-Local
 returns-4 c =
-    let b = c.before.before in
-    let y = begun (s b) (key b) none refl b.begin.ensures c.enum_told.given.1 in
-    refused_kind (s b) (key b) (KeyCall.pending_update (state b) (direction b)) y.0 (reads_none (s b) (key b) (KeyCall.pending_update (state b) (direction b)) y.1) (ap is_pending (kind_self (s b) (key b) y.1))
+    let b = c in
+    let y = begun (s b.before) (key b.before) none refl b.begin-start.ensures c.in-Local.is in
+    refused_kind (s b.before) (key b.before) (KeyCall.pending_update (state b.before) (direction b.before)) y.0 (reads_none (s b.before) (key b.before) (KeyCall.pending_update (state b.before) (direction b.before)) y.1) (ap is_pending (kind_self (s b.before) (key b.before) y.1))
 
-same-length-5 : tie.Need-same-length-5
+same-length-5 : tie.Need-shape_of-s-else-not-finish
 same-length-5 c = search rules
 
-returns-5 : tie.Need-returns-5
+returns-5 : tie.Need-returns-else-not-finish
 returns-5 c =
-    let f = c.before.before.before in
-    let m = f.before.before in
-    let e = m.before in
-    let h = e.before in
-    let l = h.before.before in
-    let k = l.before.before.before in
-    let b = began k in
-    let z = then_becomes l.load-bucket.ensures (λ (u : rules.BucketSettings) (x : rules.Bucket). rules.update_pending (is_one (state b)) (is_one (direction b)) x) m.update-pending-sound.ensures in
-    ends (s b) (key b) (KeyCall.pending_update (state b) (direction b)) (at k) (own_formed (s b) (key b) (KeyCall.pending_update (state b) (direction b)) (at k) refl) (tested h ∙ not-false _ e.if1.false) _ f.finish.ensures refl c.if2.false refl z.bucket
+    let f = c in
+    let m = f in
+    let e = m in
+    let h = e in
+    let l = h in
+    let k = l in
+    let b = began k.before.before.before.before.before.before.before.before.before.before in
+    let z = then_becomes l.load_bucket-b.ensures (λ (u : rules.BucketSettings) (x : rules.Bucket). rules.update_pending (is_one (state b)) (is_one (direction b)) x) m.update_pending_sound-changed.ensures in
+    ends (s b) (key b) (KeyCall.pending_update (state b) (direction b)) (at k.before.before.before.before.before.before.before.before.before.before) (own_formed (s b) (key b) (KeyCall.pending_update (state b) (direction b)) (at k.before.before.before.before.before.before.before.before.before.before) refl) (tested h.before.before.before.before.before.before.before ∙ not-false _ e.if-not-is_pending.false-raw) _ f.finish.ensures refl c.if-not-finish.false-raw refl z.bucket
 
-pub pending-update-spec : {M : Type 1} → statement M
-pending-update-spec =
+pub pending_update_spec : {M : Type 1} → statement M
+pending_update_spec =
     tie.close
     (tie.spec
     begin-requires

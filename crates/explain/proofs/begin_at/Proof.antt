@@ -7,35 +7,35 @@ use borrow.Author.Rules.{rules}
 use Rattle.explain.proofs.begin_at.Statement.{statement}
 use Rattle.explain.proofs.begin_at.Tie as tie
 
-asked-at-requires : tie.Need-asked-at-requires
+asked-at-requires : tie.Need-asked_at-q-requires
 asked-at-requires c κs = search rules
 
-returns : tie.Need-returns
+returns : tie.Need-returns-then-q-ne0
 returns c =
-    let o = c.before.before.before.before in
-    opened_refused o.args.s.now o.args.key.now o.args.codes (some o.args.time) o.args.room _ (refusal_some _ c.before.asked_at.ensures c.if1.true)
+    let o = c in
+    opened_refused o.args.s.now o.args.key.now o.args.codes (some o.args.time) o.args.room _ (refusal_some _ c.asked_at-q.ensures c.if-q-ne0.true)
 
-returns-2 : tie.Need-returns-2
+returns-2 : tie.Need-returns-then-not-room
 returns-2 c =
-    let i = c.before.before in
-    let o = i.before.before.before in
-    opened_short o.args.s.now o.args.key.now o.args.codes (some o.args.time) o.args.room (refusal_none _ i.asked_at.ensures c.before.if1.false) (not-true _ c.if2.true)
+    let i = c in
+    let o = i in
+    opened_short o.args.s.now o.args.key.now o.args.codes (some o.args.time) o.args.room (refusal_none _ i.asked_at-q.ensures c.if-q-ne0.false) (not-true _ c.if-not-room.true-raw)
 
 located-requires : tie.Need-located-requires
 located-requires c κs =
-    let i = c.before.before in
-    let o = i.before.before.before in
-    let e = refusal_none _ i.asked_at.ensures c.before.if1.false in
+    let i = c in
+    let o = i in
+    let e = refusal_none _ i.asked_at-q.ensures c.if-q-ne0.false in
     let p = passed_five o.args.s.now o.args.key.now o.args.codes (some o.args.time) e in
     ((p.size, p.header), key_length o.args.s.now o.args.key.now o.args.codes (some o.args.time) e)
 
-returns-3 : tie.Need-returns-3
+returns-3 : tie.Need-returns
 returns-3 c =
-    let n = c.before in
-    let i = n.before.before in
-    let o = i.before.before.before in
-    opened_at o.args.s.now o.args.key.now o.args.codes (some o.args.time) o.args.room (refusal_none _ i.asked_at.ensures n.before.if1.false) (not-false _ n.if2.false)
+    let n = c in
+    let i = n in
+    let o = i in
+    opened_at o.args.s.now o.args.key.now o.args.codes (some o.args.time) o.args.room (refusal_none _ i.asked_at-q.ensures n.if-q-ne0.false) (not-false _ n.if-not-room.false-raw)
     c.located.result c.located.ensures
 
-pub begin-at-spec : {M : Type 1} → statement M
-begin-at-spec = tie.close (tie.spec asked-at-requires returns returns-2 located-requires returns-3)
+pub begin_at_spec : {M : Type 1} → statement M
+begin_at_spec = tie.close (tie.spec asked-at-requires returns returns-2 located-requires returns-3)

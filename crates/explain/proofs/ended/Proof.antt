@@ -8,46 +8,46 @@ use borrow.Author.Rules.{rules}
 use Rattle.explain.proofs.ended.Statement.{statement}
 use Rattle.explain.proofs.ended.Tie as tie
 
-returns : tie.Need-returns
-returns c = refused_kind _ _ _ _ _ (not-true _ c.if1.true)
+returns : tie.Need-returns-then-not-kind
+returns c = refused_kind _ _ _ _ _ (not-true _ c.if-not-kind.true-raw)
 
-has-room-requires : tie.Need-has-room-requires
+has-room-requires : tie.Need-has_room-requires
 has-room-requires c κs =
-    let o = c.before.before.before in
+    let o = c in
     (o.requires.0.0, o.requires.0.1)
 
 -- question 8, as it was asked
-module _ (h : tie.After-has-room) where
-  is-kind : h.before.before.before.before.args.kind ≡ true
-  is-kind = not-false _ h.before.if1.false
+module _ (h : tie.After-has_room) where
+  is-kind : h.args.kind ≡ true
+  is-kind = not-false _ h.if-not-kind.false-raw
 
-returns-2 : tie.Need-returns-2
-returns-2 c = let h = c.before in refused_queue _ _ _ _ _ (is-kind h) (sym h.has_room.ensures ∙ not-true _ c.if2.true)
+returns-2 : tie.Need-returns-then-not-has_room
+returns-2 c = let h = c in refused_queue _ _ _ _ _ (is-kind h.before) (sym h.has_room.ensures ∙ not-true _ c.if-not-has_room.true-raw)
 
-returns-3 : tie.Need-returns-3
+returns-3 : tie.Need-returns-then-hours-ne0
 returns-3 c =
-    let e = c.before in
-    let h = e.before in
-    refused_hours _ _ _ _ _ (is-kind h) (sym h.has_room.ensures ∙ not-false _ e.if2.false) _ (refusal_some _ refl c.if3.true)
+    let e = c in
+    let h = e in
+    refused_hours _ _ _ _ _ (is-kind h.before.before) (sym h.has_room.ensures ∙ not-false _ e.if-not-has_room.false-raw) _ (refusal_some _ refl c.if-hours-ne0.true)
 
-put-line-requires : tie.Need-put-line-requires
+put-line-requires : tie.Need-put_line-n-requires
 put-line-requires c κs =
-    let o = c.before.before.before.before.before.before.before in
+    let o = c in
     ((o.requires.0.0, o.requires.0.2), (o.requires.1.0, o.requires.1.1))
 
-same_length : tie.Need-same-length
+same_length : tie.Need-shape_of-out
 same_length c = search rules
 
-returns-4 : tie.Need-returns-4
+returns-4 : tie.Need-returns
 returns-4 c =
-    let p = c.before.before in
-    let t = p.before.before in
-    let e = t.before in
-    let h = e.before in
-    answered _ _ _ _ _ (is-kind h) (sym h.has_room.ensures ∙ not-false _ e.if2.false) (refusal_none _ refl t.if3.false) (p.put-line.ensures.next ∙ zero-add _) p.put-line.ensures.output
+    let p = c in
+    let t = p in
+    let e = t in
+    let h = e in
+    answered _ _ _ _ _ (is-kind h.before.before.before.before.before.before) (sym h.has_room.ensures ∙ not-false _ e.if-not-has_room.false-raw) (refusal_none _ refl t.if-hours-ne0.false) (p.put_line-n.ensures.next ∙ zero-add _) p.put_line-n.ensures.output
 
-pub ended-spec : {M : Type 1} → statement M
-ended-spec =
+pub ended_spec : {M : Type 1} → statement M
+ended_spec =
     tie.close
     (tie.spec
     returns

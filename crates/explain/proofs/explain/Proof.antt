@@ -15,92 +15,92 @@ use Rattle.explain.proofs.explain.Tie as tie
 matched : (s key out : List ℕ) (h : Session) {out' : List ℕ} {c d : PeerCall} {r : Reply ℕ} → c ≡ d → Replies r out' (explain_bytes key (call_of d h) out s) → Replies r out' (explain_bytes key (call_of c h) out s)
 matched s key out h {out'} {c} {d} {r} e x = subst (λ (y : PeerCall). Replies r out' (explain_bytes key (call_of y h) out s)) (sym e) x
 
-enum-known-call : tie.Need-enum-known-call
+enum-known-call : tie.Need-enum_known-call
 enum-known-call c = search rules
 
-explain-insert-or-update-requires : tie.Need-explain-insert-or-update-requires
+explain-insert-or-update-requires : tie.Need-explain_insert_or_update-requires
 explain-insert-or-update-requires c κs = search rules
 
-enum-known-call-2 : tie.Need-enum-known-call-2
+enum-known-call-2 : tie.Need-enum_known-call-in-UpdateNodeStatus-1
 enum-known-call-2 c = search rules
 
-explain-update-node-status-requires : tie.Need-explain-update-node-status-requires
+explain-update-node-status-requires : tie.Need-explain_update_node_status-requires
 explain-update-node-status-requires c κs = search rules
 
-enum-known-call-3 : tie.Need-enum-known-call-3
+enum-known-call-3 : tie.Need-enum_known-call-in-UpdateNode-1
 enum-known-call-3 c = search rules
 
-explain-update-node-requires : tie.Need-explain-update-node-requires
+explain-update-node-requires : tie.Need-explain_update_node-requires
 explain-update-node-requires c κs = search rules
 
-enum-known-call-4 : tie.Need-enum-known-call-4
+enum-known-call-4 : tie.Need-enum_known-call-in-Remove-1
 enum-known-call-4 c = search rules
 
-explain-remove-requires : tie.Need-explain-remove-requires
+explain-remove-requires : tie.Need-explain_remove-requires
 explain-remove-requires c κs = search rules
 
-enum-known-call-5 : tie.Need-enum-known-call-5
+enum-known-call-5 : tie.Need-enum_known-call-in-PresentUpdate-1
 enum-known-call-5 c = search rules
 
-explain-present-update-requires : tie.Need-explain-present-update-requires
+explain-present-update-requires : tie.Need-explain_present_update-requires
 explain-present-update-requires c κs = search rules
 
-enum-known-call-6 : tie.Need-enum-known-call-6
+enum-known-call-6 : tie.Need-enum_known-call-in-PendingUpdate-1
 enum-known-call-6 c = search rules
 
-explain-pending-update-requires : tie.Need-explain-pending-update-requires
+explain-pending-update-requires : tie.Need-explain_pending_update-requires
 explain-pending-update-requires c κs = search rules
 
-enum-known-call-7 : tie.Need-enum-known-call-7
+enum-known-call-7 : tie.Need-enum_known-call-in-AbsentInsert-1
 enum-known-call-7 c = search rules
 
-explain-absent-insert-requires : tie.Need-explain-absent-insert-requires
+explain-absent-insert-requires : tie.Need-explain_absent_insert-requires
 explain-absent-insert-requires c κs = search rules
 
-same_length : tie.Need-same-length
+same_length : tie.Need-shape_of-out-in-InsertOrUpdate
 same_length c = search rules
 
-returns : tie.Need-returns
-returns c = let x = c.before.before in matched _ _ _ _ x.before.before.before.call.given.1 x.explain-insert-or-update.ensures
+returns : tie.Need-returns-in-InsertOrUpdate
+returns c = let x = c in matched _ _ _ _ x.in-InsertOrUpdate.is x.explain_insert_or_update.ensures
 
-same-length-2 : tie.Need-same-length-2
+same-length-2 : tie.Need-shape_of-out-in-UpdateNodeStatus
 same-length-2 c = search rules
 
-returns-2 : tie.Need-returns-2
-returns-2 c = let x = c.before.before in matched _ _ _ _ x.before.before.before.call2.given.1 x.explain-update-node-status.ensures
+returns-2 : tie.Need-returns-in-UpdateNodeStatus
+returns-2 c = let x = c in matched _ _ _ _ x.in-UpdateNodeStatus.is x.explain_update_node_status.ensures
 
-same-length-3 : tie.Need-same-length-3
+same-length-3 : tie.Need-shape_of-out-in-UpdateNode
 same-length-3 c = search rules
 
-returns-3 : tie.Need-returns-3
-returns-3 c = let x = c.before.before in matched _ _ _ _ x.before.before.before.call3.given.1 x.explain-update-node.ensures
+returns-3 : tie.Need-returns-in-UpdateNode
+returns-3 c = let x = c in matched _ _ _ _ x.in-UpdateNode.is x.explain_update_node.ensures
 
-same-length-4 : tie.Need-same-length-4
+same-length-4 : tie.Need-shape_of-out-in-Remove
 same-length-4 c = search rules
 
-returns-4 : tie.Need-returns-4
-returns-4 c = let x = c.before.before in matched _ _ _ _ x.before.before.before.call4.given.1 x.explain-remove.ensures
+returns-4 : tie.Need-returns-in-Remove
+returns-4 c = let x = c in matched _ _ _ _ x.in-Remove.is x.explain_remove.ensures
 
-same-length-5 : tie.Need-same-length-5
+same-length-5 : tie.Need-shape_of-out-in-PresentUpdate
 same-length-5 c = search rules
 
-returns-5 : tie.Need-returns-5
-returns-5 c = let x = c.before.before in matched _ _ _ _ x.before.before.before.call5.given.1 x.explain-present-update.ensures
+returns-5 : tie.Need-returns-in-PresentUpdate
+returns-5 c = let x = c in matched _ _ _ _ x.in-PresentUpdate.is x.explain_present_update.ensures
 
-same-length-6 : tie.Need-same-length-6
+same-length-6 : tie.Need-shape_of-out-in-PendingUpdate
 same-length-6 c = search rules
 
-returns-6 : tie.Need-returns-6
-returns-6 c = let x = c.before.before in matched _ _ _ _ x.before.before.before.call6.given.1 x.explain-pending-update.ensures
+returns-6 : tie.Need-returns-in-PendingUpdate
+returns-6 c = let x = c in matched _ _ _ _ x.in-PendingUpdate.is x.explain_pending_update.ensures
 
-same-length-7 : tie.Need-same-length-7
+same-length-7 : tie.Need-shape_of-out-in-AbsentInsert
 same-length-7 c = search rules
 
-returns-7 : tie.Need-returns-7
-returns-7 c = let x = c.before.before in matched _ _ _ _ x.before.before.before.call7.given.1 x.explain-absent-insert.ensures
+returns-7 : tie.Need-returns-in-AbsentInsert
+returns-7 c = let x = c in matched _ _ _ _ x.in-AbsentInsert.is x.explain_absent_insert.ensures
 
-pub explain-spec : {M : Type 1} → statement M
-explain-spec =
+pub explain_spec : {M : Type 1} → statement M
+explain_spec =
     tie.close
     (tie.spec
     enum-known-call

@@ -39,7 +39,7 @@ use Rattle.explain.proofs.explain_insert_or_update.Statement.{statement}
 use Rattle.explain.proofs.explain_insert_or_update.Tie as tie
 
 -- the call's arguments
-module _ (b : tie.After-begin-at) where
+module _ (b : tie.After-begin_at-start) where
   abbrev o : tie.Start
   o = b.before.before.before.before.before.before.before
 
@@ -74,8 +74,8 @@ module _ (b : tie.After-begin-at) where
   call = KeyCall.insert_or_update value state direction time session
 
   -- the codes, as they were tested
-  asked : (b.before.in_range.result && (leb state 1 && leb direction 1)) ≡ codes
-  asked = ap (λ (q : Bool). q && (leb state 1 && leb direction 1)) b.before.in_range.ensures
+  asked : (b.in_range.result && (leb state 1 && leb direction 1)) ≡ codes
+  asked = ap (λ (q : Bool). q && (leb state 1 && leb direction 1)) b.in_range.ensures
 
   -- what the call does to the key's bucket, and the reason, by the table filter's answer
   abbrev does : Bool → rules.BucketSettings → ℕ → rules.Bucket → Answer × rules.Bucket
@@ -85,209 +85,209 @@ module _ (b : tie.After-begin-at) where
   why fails bs u n x =
       cond fails (table_filter_reason n (value_of value) bs) (insert_or_update_reason u (record { key = n; value = value_of value; connected = is_one state; incoming = is_one direction }) x)
 
-in-range-requires : tie.Need-in-range-requires
+in-range-requires : tie.Need-in_range-requires
 in-range-requires c κs = search rules
 
-begin-at-requires : tie.Need-begin-at-requires
+begin-at-requires : tie.Need-begin_at-start-requires
 begin-at-requires c κs = search rules
 
-enum-known-start : tie.Need-enum-known-start
+enum-known-start : tie.Need-enum_known-start
 enum-known-start c = search rules
 
-enum_told : tie.Need-enum-told
+enum_told : tie.Need-enum_told-1
 enum_told c = search rules
 
 -- on the local key
-module _ (e : tie.After-enum-told) where
-  abbrev there : tie.After-begin-at
-  there = e.before.before
+module _ (e : tie.In-Local) where
+  abbrev there : tie.After-begin_at-start
+  there = e.before
 
   local : Opens (s there) (key there) (call there) (out there) Start.Local
-  local = opened (s there) (key there) (call there) (out there) (asked there) there.begin-at.ensures e.enum_told.given.1
+  local = opened (s there) (key there) (call there) (out there) (asked there) there.begin_at-start.ensures e.in-Local.is
 
-session-asked-requires : tie.Need-asked-requires
+session-asked-requires : tie.Need-asked-hours-requires
 session-asked-requires c κs = search rules
 
 -- the hours, as they were asked
-own-hours : (q : tie.After-asked) → first_failed (hours (s (there q.before)) (key (there q.before)) (call (there q.before))) ≡ refusal q.asked.result
+own-hours : (q : tie.After-asked-hours) → first_failed (hours (s (there q.before)) (key (there q.before)) (call (there q.before))) ≡ refusal q.asked-hours.result
 own-hours q =
     let b = there q.before in
-    ap (λ (x : EntryKind). first_failed (hours_questions (session b) (not (is_absent x)))) (kind_self (s b) (key b) (local q.before).1.1) ∙ q.asked.ensures
+    ap (λ (x : EntryKind). first_failed (hours_questions (session b) (not (is_absent x)))) (kind_self (s b) (key b) (local q.before).1.1) ∙ q.asked-hours.ensures
 
-ended-local-requires : tie.Need-ended-local-requires
+ended-local-requires : tie.Need-ended_local-requires
 ended-local-requires c κs =
-    let e = c.before.before in
-    let b = there e in
-    own_ready (s b) (key b) (call b) (out b) (local e)
+    let e = c in
+    let b = there e.before.before in
+    own_ready (s b) (key b) (call b) (out b) (local e.before.before)
 
-enum-known-start-2 : tie.Need-enum-known-start-2
+enum-known-start-2 : tie.Need-enum_known-start-in-At-1
 enum-known-start-2 c = search rules
 
 -- at the key's bucket
-module _ (k : tie.After-start2) where
-  abbrev began : tie.After-begin-at
-  began = k.before.before
+module _ (k : tie.In-At) where
+  abbrev began : tie.After-begin_at-start
+  began = k.before
 
-  opening : Opens (s began) (key began) (call began) (out began) (Start.At k.start2.given.0.0 k.start2.given.0.1.0)
-  opening = opened (s began) (key began) (call began) (out began) (asked began) began.begin-at.ensures k.start2.given.1
+  opening : Opens (s began) (key began) (call began) (out began) (Start.At k.in-At.k k.in-At.i)
+  opening = opened (s began) (key began) (call began) (out began) (asked began) began.begin_at-start.ensures k.in-At.is
 
-  at : AtBucket (s began) (key began) (codes began) (some (time began)) k.start2.given.0.0 k.start2.given.0.1.0
+  at : AtBucket (s began) (key began) (codes began) (some (time began)) k.in-At.k k.in-At.i
   at = opening.1
 
   in_range : codes began ≡ true
   in_range = (passed_five (s began) (key began) (codes began) (some (time began)) at.passed).in_range
 
-asked-filter-requires : tie.Need-asked-filter-requires
-asked-filter-requires c κs = let r = (at c.before).ready in (r.size, r.below, r.bucket)
+asked-filter-requires : tie.Need-asked_filter-filter-requires
+asked-filter-requires c κs = let r = (at c).ready in (r.size, r.below, r.bucket)
 
-is-malformed-requires : tie.Need-is-malformed-requires
+is-malformed-requires : tie.Need-is_malformed-requires
 is-malformed-requires c κs = search rules
 
 -- the table filter, as it was asked
-module _ (m : tie.After-is-malformed) where
-  abbrev filter : tie.After-asked-filter
+module _ (m : tie.After-is_malformed) where
+  abbrev filter : tie.After-asked_filter-filter
   filter = m.before
 
-  abbrev for-key : tie.After-start2
-  for-key = filter.before.before
+  abbrev for-key : tie.In-At
+  for-key = filter.before
 
   abbrev v : Value
   v = value_of (value (began for-key))
 
   abbrev index : ℕ
-  index = for-key.start2.given.0.1.0
+  index = for-key.in-At.i
 
   -- for the key as the bytes that were given
-  told-filter : AskedFilter (s (began for-key)) index (number (key (began for-key))) v filter.asked-filter.result
-  told-filter = subst (λ (n : ℕ). AskedFilter (s (began for-key)) index n v filter.asked-filter.result) (at for-key).key_is filter.asked-filter.ensures
+  told-filter : AskedFilter (s (began for-key)) index (number (key (began for-key))) v filter.asked_filter-filter.result
+  told-filter = subst (λ (n : ℕ). AskedFilter (s (began for-key)) index n v filter.asked_filter-filter.result) (at for-key).key_is filter.asked_filter-filter.ensures
 
-  is-bad : is_malformed filter.asked-filter.result ≡ m.is-malformed.result
-  is-bad = sym m.is-malformed.ensures
+  is-bad : is_malformed filter.asked_filter-filter.result ≡ m.is_malformed.result
+  is-bad = sym m.is_malformed.ensures
 
-returns : tie.Need-returns
+returns : tie.Need-returns-then-is_malformed
 returns c =
-    let m = c.before in
-    let k = for-key m in
+    let m = c in
+    let k = for-key m.before in
     let b = began k in
-    let d = malformed_read (s b) (index m) (number (key b)) (v m) (filter m).asked-filter.result (told-filter m) (is-bad m ∙ c.if1.true) in
+    let d = malformed_read (s b) (index m.before) (number (key b)) (v m.before) (filter m.before).asked_filter-filter.result (told-filter m.before) (is-bad m.before ∙ c.if-is_malformed.true) in
     refused_read (s b) (key b) (call b) (out b) (opening k) (reads_are (s b) (key b) (call b) (at k).index d)
 
-has-failed-requires : tie.Need-has-failed-requires
+has-failed-requires : tie.Need-has_failed-fails-requires
 has-failed-requires c κs = search rules
 
 -- what it answered
-module _ (h : tie.After-has-failed) where
-  abbrev asked-for : tie.After-is-malformed
+module _ (h : tie.After-has_failed-fails) where
+  abbrev asked-for : tie.After-is_malformed
   asked-for = h.before.before
 
-  abbrev here : tie.After-start2
+  abbrev here : tie.In-At
   here = for-key asked-for
 
   read : (buckets_formed (s (began here)) (filter_reads (table_of (s (began here))) (index asked-for) (number (key (began here))) (v asked-for)) ≡ true)
-      × (has_failed (filter asked-for).asked-filter.result ≡ fails_table_filter (table_of (s (began here))) (index asked-for) (number (key (began here))) (v asked-for))
-  read = answer_told (s (began here)) (index asked-for) (number (key (began here))) (v asked-for) (filter asked-for).asked-filter.result (told-filter asked-for) (is-bad asked-for ∙ h.before.if1.left)
+      × (has_failed (filter asked-for).asked_filter-filter.result ≡ fails_table_filter (table_of (s (began here))) (index asked-for) (number (key (began here))) (v asked-for))
+  read = answer_told (s (began here)) (index asked-for) (number (key (began here))) (v asked-for) (filter asked-for).asked_filter-filter.result (told-filter asked-for) (is-bad asked-for ∙ h.if-is_malformed.false)
 
-  table_formed : h.has-failed.result ≡ true → formed (s (began here)) ≡ true
+  table_formed : h.has_failed-fails.result ≡ true → formed (s (began here)) ≡ true
   table_formed e =
-      failed_formed (s (began here)) (index asked-for) (number (key (began here))) (v asked-for) (filter asked-for).asked-filter.result (told-filter asked-for) (sym h.has-failed.ensures ∙ e)
+      failed_formed (s (began here)) (index asked-for) (number (key (began here))) (v asked-for) (filter asked-for).asked_filter-filter.result (told-filter asked-for) (sym h.has_failed-fails.ensures ∙ e)
       (at here).ready.header
 
-apply-at-requires : tie.Need-apply-at-requires
+apply-at-requires : tie.Need-apply_at-a-requires
 apply-at-requires c κs =
     let k = here c in
     let b = began k in
     ((at k).ready, timely (s b) (key b) (codes b) (time b) (at k).passed)
 
-insert-or-update-in-requires : tie.Need-insert-or-update-in-requires
+insert-or-update-in-requires : tie.Need-insert_or_update_in-r-requires
 insert-or-update-in-requires c κs =
-    let a = c.before in
-    let k = here a.before in
+    let a = c in
+    let k = here a.before.before in
     let b = began k in
-    let z = a.apply_at.ensures.bucket in
+    let z = a.apply_at-a.ensures.bucket in
     (z.sound, (and_turned (value_in_range (value b)) (leb (state b) 1) (leb (direction b) 1) (in_range k), omega (arith, ap (λ (u : rules.BucketSettings). u.pending_timeout) z.settings, timely (s b) (key b) (codes b) (time b) (at k).passed)))
 
-record-of-requires : tie.Need-record-of-requires
-record-of-requires c κs = c.before.before.before.apply_at.ensures.codes
+record-of-requires : tie.Need-record_of-record-requires
+record-of-requires c κs = c.apply_at-a.ensures.codes
 
-asked-at-requires : tie.Need-asked-at-requires
+asked-at-requires : tie.Need-asked_at-hours-requires
 asked-at-requires c κs = (at (here c.before.before.before.before.before)).ready
 
 -- of the bucket as it is stored
-module _ (q : tie.After-asked-at) where
-  abbrev of_key_lem : tie.After-start2
+module _ (q : tie.After-asked_at-hours) where
+  abbrev of_key_lem : tie.In-At
   of_key_lem = here q.before.before.before.before.before.before
 
-  asked-hours : first_failed (hours (s (began of_key_lem)) (key (began of_key_lem)) (call (began of_key_lem))) ≡ refusal q.asked_at.result
+  asked-hours : first_failed (hours (s (began of_key_lem)) (key (began of_key_lem)) (call (began of_key_lem))) ≡ refusal q.asked_at-hours.result
   asked-hours =
       let b = began of_key_lem in
-      let i = of_key_lem.start2.given.0.1.0 in
+      let i = of_key_lem.in-At.i in
       ap (λ (x : EntryKind). first_failed (hours_questions (session b) (not (is_absent x))))
       (kind_at (s b) (key b) i (at of_key_lem).index ∙ ap (λ (n : ℕ). kind_of n ((table_of (s b)).buckets i)) (sym (at of_key_lem).key_is))
-      ∙ q.asked_at.ensures
+      ∙ q.asked_at-hours.ensures
 
-told-insert-or-update-requires : tie.Need-told-insert-or-update-requires
+told-insert-or-update-requires : tie.Need-told_insert_or_update-told-requires
 told-insert-or-update-requires c κs = search rules
 
-insert-or-update-why-requires : tie.Need-insert-or-update-why-requires
+insert-or-update-why-requires : tie.Need-insert_or_update_why-why-requires
 insert-or-update-why-requires c κs =
-    let a = c.before.before.before.before.before.before in
-    let k = here a.before in
+    let a = c in
+    let k = here a.before.before.before.before.before.before.before in
     let b = began k in
-    let z = a.apply_at.ensures.bucket in
+    let z = a.apply_at-a.ensures.bucket in
     (z.sound, and_turned (value_in_range (value b)) (leb (state b) 1) (leb (direction b) 1) (in_range k))
 
 ended-requires : tie.Need-ended-requires
 ended-requires c κs =
-    let w = c.before in
-    let r = w.before.before.before in
-    let m = r.before.before in
-    let a = m.before.before in
-    let k = here a.before in
+    let w = c in
+    let r = w in
+    let m = r in
+    let a = m in
+    let k = here a.before.before.before.before.before.before.before.before.before in
     let b = began k in
-    (((at k).ready.size, (at k).ready.header, filter_told w.insert-or-update-why.ensures (s b) a.before.has-failed.result (own_unless a.before.has-failed.result _ _ (own_insert_or_update _ _ _)) (table_formed a.before)), (w.insert-or-update-why.ensures.sound, leb-true explanation_room (length (out b)) (opening k).0))
+    (((at k).ready.size, (at k).ready.header, filter_told w.insert_or_update_why-why.ensures (s b) a.has_failed-fails.result (own_unless a.has_failed-fails.result _ _ (own_insert_or_update _ _ _)) (table_formed a.before.before.before.before.before.before.before.before.before)), (w.insert_or_update_why-why.ensures.sound, leb-true explanation_room (length (out b)) (opening k).0))
 
-returns-2 : tie.Need-returns-2
+returns-2 : tie.Need-returns-in-Refused
 returns-2 c =
-    let b = c.before.before.before in
-    refused_early (s b) (key b) (call b) (out b) (opened (s b) (key b) (call b) (out b) (asked b) b.begin-at.ensures c.before.start.given.1)
+    let b = c in
+    refused_early (s b.before) (key b.before) (call b.before) (out b.before) (opened (s b.before) (key b.before) (call b.before) (out b.before) (asked b.before) b.begin_at-start.ensures c.in-Refused.is)
 
-same_length : tie.Need-same-length
+same_length : tie.Need-shape_of-out-in-Local
 same_length c = search rules
 
-returns-3 : tie.Need-returns-3
+returns-3 : tie.Need-returns-in-Local
 returns-3 c =
-    let x = c.before.before in
-    let q = x.before.before in
-    let e = q.before in
-    let b = there e in
-    ends_local (s b) (key b) (call b) (out b) refl (λ _. sym (own-hours q)) (local e) refl refl x.ended-local.ensures
+    let x = c in
+    let q = x in
+    let e = q in
+    let b = there e.before.before.before.before.before in
+    ends_local (s b) (key b) (call b) (out b) refl (λ _. sym (own-hours q.before.before.before.before)) (local e.before.before.before.before.before) refl refl x.ended_local.ensures
 
-same-length-2 : tie.Need-same-length-2
+same-length-2 : tie.Need-shape_of-out-else-is_malformed
 same-length-2 c = search rules
 
-returns-4 : tie.Need-returns-4
+returns-4 : tie.Need-returns-else-is_malformed
 returns-4 c =
-    let x = c.before.before in
-    let w = x.before.before in
-    let r = w.before.before.before in
-    let m = r.before.before in
-    let a = m.before.before in
-    let k = here a.before in
+    let x = c in
+    let w = x in
+    let r = w in
+    let m = r in
+    let a = m in
+    let k = here a.before.before.before.before.before.before.before.before.before.before.before.before in
     let b = began k in
-    let g = a.before in
+    let g = a in
     let t = table_of (s b) in
-    let i = k.start2.given.0.1.0 in
+    let i = k.in-At.i in
     let u = t.settings.bucket in
     let y = (rules.apply_pending u (time b) (t.buckets i)).0 in
-    let f = g.has-failed.ensures ∙ (read g).1 in
-    let z = stepped a.apply_at.ensures.bucket (does b g.has-failed.result) (at k).key_is m.insert-or-update-in.ensures.0 m.insert-or-update-in.ensures.1 in
-    ends_at (s b) (key b) (call b) (out b) refl (λ _. sym (asked-hours w.before.before)) (opening k) (reads_are (s b) (key b) (call b) (at k).index (read g).0)
-    (insert_or_update_records _ (time b) _ _ m.insert-or-update-in.result.bucket a.apply_at.ensures.bucket a.apply_at.ensures.records (at k).key_is r.record_of.ensures.0 (fails_table_filter t i (number (key b)) (value_of (value b))) (node_of (key b) (value b) (state b) (direction b)) refl (z.bucket ∙ ap (λ (q : Bool). (does b q u (number (key b)) y).1) f))
-    (w.before.told-insert-or-update.ensures ∙ ap told (z.answer ∙ ap (λ (q : Bool). (does b q u (number (key b)) y).0) f))
-    (reason_told a.apply_at.ensures.bucket (why b g.has-failed.result) (at k).key_is w.insert-or-update-why.ensures _ ∙ ap (λ (q : Bool). why b q t.buckets u (number (key b)) y) f) x.ended.ensures
+    let f = g.has_failed-fails.ensures ∙ (read g.before.before.before.before.before.before.before.before.before.before.before.before).1 in
+    let z = stepped a.apply_at-a.ensures.bucket (does b g.has_failed-fails.result) (at k).key_is m.insert_or_update_in-r.ensures.0 m.insert_or_update_in-r.ensures.1 in
+    ends_at (s b) (key b) (call b) (out b) refl (λ _. sym (asked-hours w.before.before.before.before.before.before)) (opening k) (reads_are (s b) (key b) (call b) (at k).index (read g.before.before.before.before.before.before.before.before.before.before.before.before).0)
+    (insert_or_update_records _ (time b) _ _ m.insert_or_update_in-r.result.bucket a.apply_at-a.ensures.bucket a.apply_at-a.ensures.records (at k).key_is r.record_of-record.ensures.0 (fails_table_filter t i (number (key b)) (value_of (value b))) (node_of (key b) (value b) (state b) (direction b)) refl (z.bucket ∙ ap (λ (q : Bool). (does b q u (number (key b)) y).1) f))
+    (w.told_insert_or_update-told.ensures ∙ ap told (z.answer ∙ ap (λ (q : Bool). (does b q u (number (key b)) y).0) f))
+    (reason_told a.apply_at-a.ensures.bucket (why b g.has_failed-fails.result) (at k).key_is w.insert_or_update_why-why.ensures _ ∙ ap (λ (q : Bool). why b q t.buckets u (number (key b)) y) f) x.ended.ensures
 
-pub explain-insert-or-update-spec : {M : Type 1} → statement M
-explain-insert-or-update-spec =
+pub explain_insert_or_update_spec : {M : Type 1} → statement M
+explain_insert_or_update_spec =
     tie.close
     (tie.spec
     in-range-requires

@@ -34,7 +34,7 @@ use Rattle.explain.proofs.explain_update_node.Statement.{statement}
 use Rattle.explain.proofs.explain_update_node.Tie as tie
 
 -- the call's arguments
-module _ (b : tie.After-begin-at) where
+module _ (b : tie.After-begin_at-start) where
   abbrev o : tie.Start
   o = b.before.before.before.before.before
 
@@ -63,8 +63,8 @@ module _ (b : tie.After-begin-at) where
   call = KeyCall.update_node value state time
 
   -- the codes, as they were tested
-  asked : (b.before.in_range.result && leb state 2) ≡ codes
-  asked = ap (λ (q : Bool). q && leb state 2) b.before.in_range.ensures
+  asked : (b.in_range.result && leb state 2) ≡ codes
+  asked = ap (λ (q : Bool). q && leb state 2) b.in_range.ensures
 
   -- what the call does to the key's bucket, and the reason, by the table filter's answer
   abbrev does : Bool → rules.BucketSettings → ℕ → rules.Bucket → Answer × rules.Bucket
@@ -73,183 +73,183 @@ module _ (b : tie.After-begin-at) where
   abbrev why : Bool → (ℕ → rules.Bucket) → rules.BucketSettings → ℕ → rules.Bucket → model.Reason
   why fails bs u n x = cond fails (table_filter_reason n (value_of value) bs) (update_node_reason u n (value_of value) (optional state) x)
 
-in-range-requires : tie.Need-in-range-requires
+in-range-requires : tie.Need-in_range-requires
 in-range-requires c κs = search rules
 
-begin-at-requires : tie.Need-begin-at-requires
+begin-at-requires : tie.Need-begin_at-start-requires
 begin-at-requires c κs = search rules
 
-enum-known-start : tie.Need-enum-known-start
+enum-known-start : tie.Need-enum_known-start
 enum-known-start c = search rules
 
-enum_told : tie.Need-enum-told
+enum_told : tie.Need-enum_told-1
 enum_told c = search rules
 
 -- on the local key
-module _ (e : tie.After-enum-told) where
-  abbrev there : tie.After-begin-at
-  there = e.before.before
+module _ (e : tie.In-Local) where
+  abbrev there : tie.After-begin_at-start
+  there = e.before
 
   local : Opens (s there) (key there) (call there) (out there) Start.Local
-  local = opened (s there) (key there) (call there) (out there) (asked there) there.begin-at.ensures e.enum_told.given.1
+  local = opened (s there) (key there) (call there) (out there) (asked there) there.begin_at-start.ensures e.in-Local.is
 
-ended-local-requires : tie.Need-ended-local-requires
+ended-local-requires : tie.Need-ended_local-requires
 ended-local-requires c κs =
-    let e = c.before in
-    let b = there e in
-    own_ready (s b) (key b) (call b) (out b) (local e)
+    let e = c in
+    let b = there e.before in
+    own_ready (s b) (key b) (call b) (out b) (local e.before)
 
-enum-known-start-2 : tie.Need-enum-known-start-2
+enum-known-start-2 : tie.Need-enum_known-start-in-At-1
 enum-known-start-2 c = search rules
 
 -- at the key's bucket
-module _ (k : tie.After-start2) where
-  abbrev began : tie.After-begin-at
-  began = k.before.before
+module _ (k : tie.In-At) where
+  abbrev began : tie.After-begin_at-start
+  began = k.before
 
-  opening : Opens (s began) (key began) (call began) (out began) (Start.At k.start2.given.0.0 k.start2.given.0.1.0)
-  opening = opened (s began) (key began) (call began) (out began) (asked began) began.begin-at.ensures k.start2.given.1
+  opening : Opens (s began) (key began) (call began) (out began) (Start.At k.in-At.k k.in-At.i)
+  opening = opened (s began) (key began) (call began) (out began) (asked began) began.begin_at-start.ensures k.in-At.is
 
-  at : AtBucket (s began) (key began) (codes began) (some (time began)) k.start2.given.0.0 k.start2.given.0.1.0
+  at : AtBucket (s began) (key began) (codes began) (some (time began)) k.in-At.k k.in-At.i
   at = opening.1
 
   in_range : codes began ≡ true
   in_range = (passed_five (s began) (key began) (codes began) (some (time began)) at.passed).in_range
 
-asked-filter-requires : tie.Need-asked-filter-requires
-asked-filter-requires c κs = let r = (at c.before).ready in (r.size, r.below, r.bucket)
+asked-filter-requires : tie.Need-asked_filter-filter-requires
+asked-filter-requires c κs = let r = (at c).ready in (r.size, r.below, r.bucket)
 
-is-malformed-requires : tie.Need-is-malformed-requires
+is-malformed-requires : tie.Need-is_malformed-requires
 is-malformed-requires c κs = search rules
 
 -- the table filter, as it was asked
-module _ (m : tie.After-is-malformed) where
-  abbrev filter : tie.After-asked-filter
+module _ (m : tie.After-is_malformed) where
+  abbrev filter : tie.After-asked_filter-filter
   filter = m.before
 
-  abbrev for-key : tie.After-start2
-  for-key = filter.before.before
+  abbrev for-key : tie.In-At
+  for-key = filter.before
 
   abbrev v : Value
   v = value_of (value (began for-key))
 
   abbrev index : ℕ
-  index = for-key.start2.given.0.1.0
+  index = for-key.in-At.i
 
   -- for the key as the bytes that were given
-  told-filter : AskedFilter (s (began for-key)) index (number (key (began for-key))) v filter.asked-filter.result
-  told-filter = subst (λ (n : ℕ). AskedFilter (s (began for-key)) index n v filter.asked-filter.result) (at for-key).key_is filter.asked-filter.ensures
+  told-filter : AskedFilter (s (began for-key)) index (number (key (began for-key))) v filter.asked_filter-filter.result
+  told-filter = subst (λ (n : ℕ). AskedFilter (s (began for-key)) index n v filter.asked_filter-filter.result) (at for-key).key_is filter.asked_filter-filter.ensures
 
-  is-bad : is_malformed filter.asked-filter.result ≡ m.is-malformed.result
-  is-bad = sym m.is-malformed.ensures
+  is-bad : is_malformed filter.asked_filter-filter.result ≡ m.is_malformed.result
+  is-bad = sym m.is_malformed.ensures
 
-returns : tie.Need-returns
+returns : tie.Need-returns-then-is_malformed
 returns c =
-    let m = c.before in
-    let k = for-key m in
+    let m = c in
+    let k = for-key m.before in
     let b = began k in
-    let d = malformed_read (s b) (index m) (number (key b)) (v m) (filter m).asked-filter.result (told-filter m) (is-bad m ∙ c.if1.true) in
+    let d = malformed_read (s b) (index m.before) (number (key b)) (v m.before) (filter m.before).asked_filter-filter.result (told-filter m.before) (is-bad m.before ∙ c.if-is_malformed.true) in
     refused_read (s b) (key b) (call b) (out b) (opening k) (reads_are (s b) (key b) (call b) (at k).index d)
 
-has-failed-requires : tie.Need-has-failed-requires
+has-failed-requires : tie.Need-has_failed-fails-requires
 has-failed-requires c κs = search rules
 
 -- what it answered
-module _ (h : tie.After-has-failed) where
-  abbrev asked-for : tie.After-is-malformed
+module _ (h : tie.After-has_failed-fails) where
+  abbrev asked-for : tie.After-is_malformed
   asked-for = h.before.before
 
-  abbrev here : tie.After-start2
+  abbrev here : tie.In-At
   here = for-key asked-for
 
   read : (buckets_formed (s (began here)) (filter_reads (table_of (s (began here))) (index asked-for) (number (key (began here))) (v asked-for)) ≡ true)
-      × (has_failed (filter asked-for).asked-filter.result ≡ fails_table_filter (table_of (s (began here))) (index asked-for) (number (key (began here))) (v asked-for))
-  read = answer_told (s (began here)) (index asked-for) (number (key (began here))) (v asked-for) (filter asked-for).asked-filter.result (told-filter asked-for) (is-bad asked-for ∙ h.before.if1.left)
+      × (has_failed (filter asked-for).asked_filter-filter.result ≡ fails_table_filter (table_of (s (began here))) (index asked-for) (number (key (began here))) (v asked-for))
+  read = answer_told (s (began here)) (index asked-for) (number (key (began here))) (v asked-for) (filter asked-for).asked_filter-filter.result (told-filter asked-for) (is-bad asked-for ∙ h.if-is_malformed.false)
 
-  table_formed : h.has-failed.result ≡ true → formed (s (began here)) ≡ true
+  table_formed : h.has_failed-fails.result ≡ true → formed (s (began here)) ≡ true
   table_formed e =
-      failed_formed (s (began here)) (index asked-for) (number (key (began here))) (v asked-for) (filter asked-for).asked-filter.result (told-filter asked-for) (sym h.has-failed.ensures ∙ e)
+      failed_formed (s (began here)) (index asked-for) (number (key (began here))) (v asked-for) (filter asked-for).asked_filter-filter.result (told-filter asked-for) (sym h.has_failed-fails.ensures ∙ e)
       (at here).ready.header
 
-apply-at-requires : tie.Need-apply-at-requires
+apply-at-requires : tie.Need-apply_at-a-requires
 apply-at-requires c κs =
     let k = here c in
     let b = began k in
     ((at k).ready, timely (s b) (key b) (codes b) (time b) (at k).passed)
 
-update-node-in-requires : tie.Need-update-node-in-requires
+update-node-in-requires : tie.Need-update_node_in-r-requires
 update-node-in-requires c κs =
-    let a = c.before in
-    let k = here a.before in
+    let a = c in
+    let k = here a.before.before in
     let b = began k in
-    let z = a.apply_at.ensures.bucket in
+    let z = a.apply_at-a.ensures.bucket in
     (z.sound, (and_left (value_in_range (value b)) (leb (state b) 2) (in_range k), (leb-true (state b) 2 (and_right (value_in_range (value b)) (leb (state b) 2) (in_range k)), omega (arith, ap (λ (u : rules.BucketSettings). u.pending_timeout) z.settings, timely (s b) (key b) (codes b) (time b) (at k).passed))))
 
-record-of-requires : tie.Need-record-of-requires
-record-of-requires c κs = c.before.before.before.apply_at.ensures.codes
+record-of-requires : tie.Need-record_of-record-requires
+record-of-requires c κs = c.apply_at-a.ensures.codes
 
-told-update-requires : tie.Need-told-update-requires
+told-update-requires : tie.Need-told_update-told-requires
 told-update-requires c κs = search rules
 
-update-node-why-requires : tie.Need-update-node-why-requires
+update-node-why-requires : tie.Need-update_node_why-why-requires
 update-node-why-requires c κs =
-    let a = c.before.before.before.before.before in
-    let k = here a.before in
+    let a = c in
+    let k = here a.before.before.before.before.before.before in
     let b = began k in
-    let z = a.apply_at.ensures.bucket in
+    let z = a.apply_at-a.ensures.bucket in
     (z.sound, (and_left (value_in_range (value b)) (leb (state b) 2) (in_range k), leb-true (state b) 2 (and_right (value_in_range (value b)) (leb (state b) 2) (in_range k))))
 
 ended-requires : tie.Need-ended-requires
 ended-requires c κs =
-    let w = c.before in
-    let r = w.before.before in
-    let m = r.before.before in
-    let a = m.before.before in
-    let k = here a.before in
+    let w = c in
+    let r = w in
+    let m = r in
+    let a = m in
+    let k = here a.before.before.before.before.before.before.before.before in
     let b = began k in
-    (((at k).ready.size, (at k).ready.header, filter_told w.update-node-why.ensures (s b) a.before.has-failed.result (own_unless a.before.has-failed.result _ _ (own_update_node _ _ _ _ _)) (table_formed a.before)), (w.update-node-why.ensures.sound, leb-true explanation_room (length (out b)) (opening k).0))
+    (((at k).ready.size, (at k).ready.header, filter_told w.update_node_why-why.ensures (s b) a.has_failed-fails.result (own_unless a.has_failed-fails.result _ _ (own_update_node _ _ _ _ _)) (table_formed a.before.before.before.before.before.before.before.before)), (w.update_node_why-why.ensures.sound, leb-true explanation_room (length (out b)) (opening k).0))
 
-returns-2 : tie.Need-returns-2
+returns-2 : tie.Need-returns-in-Refused
 returns-2 c =
-    let b = c.before.before.before in
-    refused_early (s b) (key b) (call b) (out b) (opened (s b) (key b) (call b) (out b) (asked b) b.begin-at.ensures c.before.start.given.1)
+    let b = c in
+    refused_early (s b.before) (key b.before) (call b.before) (out b.before) (opened (s b.before) (key b.before) (call b.before) (out b.before) (asked b.before) b.begin_at-start.ensures c.in-Refused.is)
 
-same_length : tie.Need-same-length
+same_length : tie.Need-shape_of-out-in-Local
 same_length c = search rules
 
-returns-3 : tie.Need-returns-3
+returns-3 : tie.Need-returns-in-Local
 returns-3 c =
-    let x = c.before.before in
-    let e = x.before.before in
-    let b = there e in
-    ends_local (s b) (key b) (call b) (out b) refl (λ _. refl) (local e) refl refl x.ended-local.ensures
+    let x = c in
+    let e = x in
+    let b = there e.before.before.before.before in
+    ends_local (s b) (key b) (call b) (out b) refl (λ _. refl) (local e.before.before.before.before) refl refl x.ended_local.ensures
 
-same-length-2 : tie.Need-same-length-2
+same-length-2 : tie.Need-shape_of-out-else-is_malformed
 same-length-2 c = search rules
 
-returns-4 : tie.Need-returns-4
+returns-4 : tie.Need-returns-else-is_malformed
 returns-4 c =
-    let x = c.before.before in
-    let w = x.before.before in
-    let r = w.before.before in
-    let m = r.before.before in
-    let a = m.before.before in
-    let k = here a.before in
+    let x = c in
+    let w = x in
+    let r = w in
+    let m = r in
+    let a = m in
+    let k = here a.before.before.before.before.before.before.before.before.before.before.before in
     let b = began k in
-    let g = a.before in
+    let g = a in
     let t = table_of (s b) in
-    let i = k.start2.given.0.1.0 in
+    let i = k.in-At.i in
     let u = t.settings.bucket in
     let y = (rules.apply_pending u (time b) (t.buckets i)).0 in
-    let f = g.has-failed.ensures ∙ (read g).1 in
-    let z = stepped a.apply_at.ensures.bucket (does b g.has-failed.result) (at k).key_is m.update-node-in.ensures.0 m.update-node-in.ensures.1 in
-    ends_at (s b) (key b) (call b) (out b) refl (λ _. refl) (opening k) (reads_are (s b) (key b) (call b) (at k).index (read g).0)
-    (update_records _ (time b) _ _ m.update-node-in.result.bucket a.apply_at.ensures.bucket a.apply_at.ensures.records (at k).key_is r.record_of.ensures.0 (fails_table_filter t i (number (key b)) (value_of (value b))) (value_of (value b)) (optional (state b)) (z.bucket ∙ ap (λ (q : Bool). (does b q u (number (key b)) y).1) f))
-    (w.before.told-update.ensures ∙ ap told (z.answer ∙ ap (λ (q : Bool). (does b q u (number (key b)) y).0) f))
-    (reason_told a.apply_at.ensures.bucket (why b g.has-failed.result) (at k).key_is w.update-node-why.ensures _ ∙ ap (λ (q : Bool). why b q t.buckets u (number (key b)) y) f) x.ended.ensures
+    let f = g.has_failed-fails.ensures ∙ (read g.before.before.before.before.before.before.before.before.before.before.before).1 in
+    let z = stepped a.apply_at-a.ensures.bucket (does b g.has_failed-fails.result) (at k).key_is m.update_node_in-r.ensures.0 m.update_node_in-r.ensures.1 in
+    ends_at (s b) (key b) (call b) (out b) refl (λ _. refl) (opening k) (reads_are (s b) (key b) (call b) (at k).index (read g.before.before.before.before.before.before.before.before.before.before.before).0)
+    (update_records _ (time b) _ _ m.update_node_in-r.result.bucket a.apply_at-a.ensures.bucket a.apply_at-a.ensures.records (at k).key_is r.record_of-record.ensures.0 (fails_table_filter t i (number (key b)) (value_of (value b))) (value_of (value b)) (optional (state b)) (z.bucket ∙ ap (λ (q : Bool). (does b q u (number (key b)) y).1) f))
+    (w.told_update-told.ensures ∙ ap told (z.answer ∙ ap (λ (q : Bool). (does b q u (number (key b)) y).0) f))
+    (reason_told a.apply_at-a.ensures.bucket (why b g.has_failed-fails.result) (at k).key_is w.update_node_why-why.ensures _ ∙ ap (λ (q : Bool). why b q t.buckets u (number (key b)) y) f) x.ended.ensures
 
-pub explain-update-node-spec : {M : Type 1} → statement M
-explain-update-node-spec =
+pub explain_update_node_spec : {M : Type 1} → statement M
+explain_update_node_spec =
     tie.close
     (tie.spec
     in-range-requires

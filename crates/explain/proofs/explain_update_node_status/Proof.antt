@@ -24,7 +24,7 @@ use Rattle.explain.proofs.explain_update_node_status.Statement.{statement}
 use Rattle.explain.proofs.explain_update_node_status.Tie as tie
 
 -- the call's arguments
-module _ (b : tie.After-begin-at) where
+module _ (b : tie.After-begin_at-start) where
   abbrev o : tie.Start
   o = b.before.before.before.before
 
@@ -52,41 +52,41 @@ module _ (b : tie.After-begin-at) where
   abbrev call : KeyCall
   call = KeyCall.update_node_status state direction time
 
-begin-at-requires : tie.Need-begin-at-requires
+begin-at-requires : tie.Need-begin_at-start-requires
 begin-at-requires c κs = search rules
 
-enum-known-start : tie.Need-enum-known-start
+enum-known-start : tie.Need-enum_known-start
 enum-known-start c = search rules
 
-enum_told : tie.Need-enum-told
+enum_told : tie.Need-enum_told-1
 enum_told c = search rules
 
 -- on the local key
-module _ (e : tie.After-enum-told) where
-  abbrev there : tie.After-begin-at
-  there = e.before.before
+module _ (e : tie.In-Local) where
+  abbrev there : tie.After-begin_at-start
+  there = e.before
 
   local : Opens (s there) (key there) (call there) (out there) Start.Local
-  local = opened (s there) (key there) (call there) (out there) refl there.begin-at.ensures e.enum_told.given.1
+  local = opened (s there) (key there) (call there) (out there) refl there.begin_at-start.ensures e.in-Local.is
 
-ended-local-requires : tie.Need-ended-local-requires
+ended-local-requires : tie.Need-ended_local-requires
 ended-local-requires c κs =
-    let e = c.before in
-    let b = there e in
-    own_ready (s b) (key b) (call b) (out b) (local e)
+    let e = c in
+    let b = there e.before in
+    own_ready (s b) (key b) (call b) (out b) (local e.before)
 
-enum-known-start-2 : tie.Need-enum-known-start-2
+enum-known-start-2 : tie.Need-enum_known-start-in-At-1
 enum-known-start-2 c = search rules
 
 -- at the key's bucket
-module _ (k : tie.After-start2) where
-  abbrev began : tie.After-begin-at
-  began = k.before.before
+module _ (k : tie.In-At) where
+  abbrev began : tie.After-begin_at-start
+  began = k.before
 
-  opening : Opens (s began) (key began) (call began) (out began) (Start.At k.start2.given.0.0 k.start2.given.0.1.0)
-  opening = opened (s began) (key began) (call began) (out began) refl began.begin-at.ensures k.start2.given.1
+  opening : Opens (s began) (key began) (call began) (out began) (Start.At k.in-At.k k.in-At.i)
+  opening = opened (s began) (key began) (call began) (out began) refl began.begin_at-start.ensures k.in-At.is
 
-  at : AtBucket (s began) (key began) (codes began) (some (time began)) k.start2.given.0.0 k.start2.given.0.1.0
+  at : AtBucket (s began) (key began) (codes began) (some (time began)) k.in-At.k k.in-At.i
   at = opening.1
 
   in_range : codes began ≡ true
@@ -98,76 +98,76 @@ module _ (k : tie.After-start2) where
   low-direction : direction began ≤ 2
   low-direction = leb-true (direction began) 2 (and_right (leb (state began) 1) (leb (direction began) 2) in_range)
 
-apply-at-requires : tie.Need-apply-at-requires
+apply-at-requires : tie.Need-apply_at-a-requires
 apply-at-requires c κs =
-    let k = c.before in
+    let k = c in
     let b = began k in
     ((at k).ready, timely (s b) (key b) (codes b) (time b) (at k).passed)
 
-update-status-sound-requires : tie.Need-update-status-sound-requires
+update-status-sound-requires : tie.Need-update_status_sound-r-requires
 update-status-sound-requires c κs =
-    let a = c.before in
-    let k = a.before.before in
-    let z = a.apply_at.ensures.bucket in
-    (z.sound, (omega (arith, low-state k), omega (arith, low-direction k)))
+    let a = c in
+    let k = a in
+    let z = a.apply_at-a.ensures.bucket in
+    (z.sound, (omega (arith, low-state k.before.before), omega (arith, low-direction k.before.before)))
 
-record-of-requires : tie.Need-record-of-requires
-record-of-requires c κs = c.before.before.before.apply_at.ensures.codes
+record-of-requires : tie.Need-record_of-record-requires
+record-of-requires c κs = c.apply_at-a.ensures.codes
 
-told-update-requires : tie.Need-told-update-requires
+told-update-requires : tie.Need-told_update-told-requires
 told-update-requires c κs = search rules
 
-status-reason-requires : tie.Need-status-reason-requires
+status-reason-requires : tie.Need-status_reason-why-requires
 status-reason-requires c κs =
-    let a = c.before.before.before.before.before in
-    let k = a.before.before in
-    let z = a.apply_at.ensures.bucket in
-    (z.sound, (omega (arith, low-state k), omega (arith, low-direction k)))
+    let a = c in
+    let k = a in
+    let z = a.apply_at-a.ensures.bucket in
+    (z.sound, (omega (arith, low-state k.before.before.before.before.before.before), omega (arith, low-direction k.before.before.before.before.before.before)))
 
 ended-requires : tie.Need-ended-requires
 ended-requires c κs =
-    let w = c.before in
-    let r = w.before.before in
-    let m = r.before.before in
-    let a = m.before.before in
-    let k = a.before.before in
-    let b = began k in
-    (((at k).ready.size, (at k).ready.header, own_told w.status-reason.ensures (s b) (own_status _ _ _ _ _)), (w.status-reason.ensures.sound, leb-true explanation_room (length (out b)) (opening k).0))
+    let w = c in
+    let r = w in
+    let m = r in
+    let a = m in
+    let k = a in
+    let b = began k.before.before.before.before.before.before.before.before in
+    (((at k.before.before.before.before.before.before.before.before).ready.size, (at k.before.before.before.before.before.before.before.before).ready.header, own_told w.status_reason-why.ensures (s b) (own_status _ _ _ _ _)), (w.status_reason-why.ensures.sound, leb-true explanation_room (length (out b)) (opening k.before.before.before.before.before.before.before.before).0))
 
-returns : tie.Need-returns
+returns : tie.Need-returns-in-Refused
 returns c =
-    let b = c.before.before.before in
-    refused_early (s b) (key b) (call b) (out b) (opened (s b) (key b) (call b) (out b) refl b.begin-at.ensures c.before.start.given.1)
+    let b = c in
+    refused_early (s b.before) (key b.before) (call b.before) (out b.before) (opened (s b.before) (key b.before) (call b.before) (out b.before) refl b.begin_at-start.ensures c.in-Refused.is)
 
-same_length : tie.Need-same-length
+same_length : tie.Need-shape_of-out-in-Local
 same_length c = search rules
 
-returns-2 : tie.Need-returns-2
+returns-2 : tie.Need-returns-in-Local
 returns-2 c =
-    let x = c.before.before in
-    let e = x.before.before in
-    let b = there e in
-    ends_local (s b) (key b) (call b) (out b) refl (λ _. refl) (local e) refl refl x.ended-local.ensures
+    let x = c in
+    let e = x in
+    let b = there e.before.before.before.before in
+    ends_local (s b) (key b) (call b) (out b) refl (λ _. refl) (local e.before.before.before.before) refl refl x.ended_local.ensures
 
-same-length-2 : tie.Need-same-length-2
+same-length-2 : tie.Need-shape_of-out-in-At
 same-length-2 c = search rules
 
-returns-3 : tie.Need-returns-3
+returns-3 : tie.Need-returns-in-At
 returns-3 c =
-    let x = c.before.before in
-    let w = x.before.before in
-    let r = w.before.before in
-    let m = r.before.before in
-    let a = m.before.before in
-    let k = a.before.before in
-    let b = began k in
-    let z = stepped a.apply_at.ensures.bucket (λ (u : rules.BucketSettings) (n : ℕ) (y : rules.Bucket). rules.update_status u n (is_one (state b)) (optional (direction b)) y) (at k).key_is m.update-status-sound.ensures.0 m.update-status-sound.ensures.1 in
-    ends_at (s b) (key b) (call b) (out b) refl (λ _. refl) (opening k) (own_formed (s b) (key b) (call b) (at k) refl)
-    (status_records _ (time b) _ _ m.update-status-sound.result.bucket a.apply_at.ensures.bucket a.apply_at.ensures.records (at k).key_is r.record_of.ensures.0 (is_one (state b)) (optional (direction b)) z.bucket)
-    (w.before.told-update.ensures ∙ ap told_update z.answer) (reason_told a.apply_at.ensures.bucket (λ (bs : ℕ → rules.Bucket) (u : rules.BucketSettings) (n : ℕ) (y : rules.Bucket). status_reason u n (is_one (state b)) (optional (direction b)) y) (at k).key_is w.status-reason.ensures _) x.ended.ensures
+    let x = c in
+    let w = x in
+    let r = w in
+    let m = r in
+    let a = m in
+    let k = a in
+    let b = began k.before.before.before.before.before.before.before.before.before.before.before in
+    let z = stepped a.apply_at-a.ensures.bucket (λ (u : rules.BucketSettings) (n : ℕ) (y : rules.Bucket). rules.update_status u n (is_one (state b)) (optional (direction b)) y) (at k.before.before.before.before.before.before.before.before.before.before.before).key_is m.update_status_sound-r.ensures.0 m.update_status_sound-r.ensures.1 in
+    ends_at (s b) (key b) (call b) (out b) refl (λ _. refl) (opening k.before.before.before.before.before.before.before.before.before.before.before) (own_formed (s b) (key b) (call b) (at k.before.before.before.before.before.before.before.before.before.before.before) refl)
+    (status_records _ (time b) _ _ m.update_status_sound-r.result.bucket a.apply_at-a.ensures.bucket a.apply_at-a.ensures.records (at k.before.before.before.before.before.before.before.before.before.before.before).key_is r.record_of-record.ensures.0 (is_one (state b)) (optional (direction b)) z.bucket)
+    (w.told_update-told.ensures ∙ ap told_update z.answer) (reason_told a.apply_at-a.ensures.bucket (λ (bs : ℕ → rules.Bucket) (u : rules.BucketSettings) (n : ℕ) (y : rules.Bucket). status_reason u n (is_one (state b)) (optional (direction b)) y) (at k.before.before.before.before.before.before.before.before.before.before.before).key_is w.status_reason-why.ensures _) x.ended.ensures
 
-pub explain-update-node-status-spec : {M : Type 1} → statement M
-explain-update-node-status-spec =
+pub explain_update_node_status_spec : {M : Type 1} → statement M
+explain_update_node_status_spec =
     tie.close
     (tie.spec
     begin-at-requires

@@ -9,14 +9,14 @@ use borrow.Author.Rules.{rules}
 use Rattle.explain.proofs.local_why.Statement.{statement}
 use Rattle.explain.proofs.local_why.Tie as tie
 
-zero-requires : tie.Need-zero-requires
+zero-requires : tie.Need-zero-z-requires
 zero-requires c κs = search rules
 
-empty-requires : tie.Need-empty-requires
+empty-requires : tie.Need-empty-b-requires
 empty-requires c κs = search rules
 
 returns : tie.Need-returns
-returns c = tells _ (becomes (record { pending_timeout = 0; max_incoming = 0; filter = false }) empty_bucket _ c.empty.ensures (empty_formed 0) (omega arith)).sound _ (λ bs. refl)
+returns c = tells _ (becomes (record { pending_timeout = 0; max_incoming = 0; filter = false }) empty_bucket _ c.empty-b.ensures (empty_formed 0) (omega arith)).sound _ (λ bs. refl)
 
-pub local-why-spec : {M : Type 1} → statement M
-local-why-spec = tie.close (tie.spec zero-requires empty-requires returns)
+pub local_why_spec : {M : Type 1} → statement M
+local_why_spec = tie.close (tie.spec zero-requires empty-requires returns)

@@ -2,39 +2,31 @@ use borrow.Author.Rules.{rules}
 use Rattle.explanation.proofs.put_flag.Statement.{statement}
 use Rattle.explanation.proofs.put_flag.Tie as tie
 
-slice-aggregate-put-word : tie.Need-slice-aggregate-put-word
-slice-aggregate-put-word c = search rules
-
-put-word-requires : tie.Need-put-word-requires
+put-word-requires : tie.Need-put_word-requires
 put-word-requires c κs = search rules
 
-same_length : tie.Need-same-length
+same_length : tie.Need-shape_of-out-then-flag
 same_length c = search rules
 
-returns : tie.Need-returns
-returns c = rw c.before.before.before.before.before.if1.true c.before.before.put_word.ensures
+returns : tie.Need-returns-then-flag
+returns c = rw c.if-flag.true c.put_word.ensures
 
-slice-aggregate-put-word-2 : tie.Need-slice-aggregate-put-word-2
-slice-aggregate-put-word-2 c = search rules
-
-put-word-requires-2 : tie.Need-put-word-requires-2
+put-word-requires-2 : tie.Need-put_word-requires-2
 put-word-requires-2 c κs = search rules
 
-same-length-2 : tie.Need-same-length-2
+same-length-2 : tie.Need-shape_of-out
 same-length-2 c = search rules
 
-returns-2 : tie.Need-returns-2
-returns-2 c = rw c.before.before.before.before.before.if1.false c.before.before.put-word2.ensures
+returns-2 : tie.Need-returns
+returns-2 c = rw c.if-flag.false c.put_word-2.ensures
 
-pub put-flag-spec : {M : Type 1} → statement M
-put-flag-spec =
+pub put_flag_spec : {M : Type 1} → statement M
+put_flag_spec =
     tie.close
     (tie.spec
-    slice-aggregate-put-word
     put-word-requires
     same_length
     returns
-    slice-aggregate-put-word-2
     put-word-requires-2
     same-length-2
     returns-2)

@@ -11,27 +11,24 @@ use Rattle.explanation.proofs.Keys.{filter_text}
 use Rattle.explanation.proofs.put_table_filter.Statement.{statement}
 use Rattle.explanation.proofs.put_table_filter.Tie as tie
 
-slice-aggregate-put-word : tie.Need-slice-aggregate-put-word
-slice-aggregate-put-word c = search rules
-
-put-word-requires : tie.Need-put-word-requires
+put-word-requires : tie.Need-put_word-next-requires
 put-word-requires c κs = search rules
 
-put-table-requires : tie.Need-put-table-requires
+put-table-requires : tie.Need-put_table-end-requires
 put-table-requires c κs = search rules
 
-same_length : tie.Need-same-length
+same_length : tie.Need-shape_of-out
 same_length c = search rules
 
 returns : tie.Need-returns
 unfolding why_text
 returns c =
-    let a = c.before.before.before.before.before.before.before.before.before.before.before.args in
+    let a = c.args in
     let bs = (table_of a.s.now).buckets in
-    filter_text max_nodes_per_subnet_table (value_of a.value) (other_nodes (num a.key) bs) c.before.before.before.before.before.before.put_word.ensures
-    (rw (counted_others (num a.key) (value_of a.value) (held_nodes num_buckets bs)) c.before.before.put-table.ensures.text) (omega arith)
+    filter_text max_nodes_per_subnet_table (value_of a.value) (other_nodes (num a.key) bs) c.put_word-next.ensures
+    (rw (counted_others (num a.key) (value_of a.value) (held_nodes num_buckets bs)) c.put_table-end.ensures.text) (omega arith)
 
-pub put-table-filter-spec : {M : Type 1} → statement M
-put-table-filter-spec =
+pub put_table_filter_spec : {M : Type 1} → statement M
+put_table_filter_spec =
     tie.close
-    (tie.spec slice-aggregate-put-word put-word-requires put-table-requires same_length returns)
+    (tie.spec put-word-requires put-table-requires same_length returns)

@@ -10,5 +10,5 @@ returns : tie.Need-returns
 unfolding table_of settings_in
 returns c = c.load.ensures
 
-pub local-key-spec : {M : Type 1} → statement M
-local-key-spec = tie.close (tie.spec load-requires returns)
+pub local_key_spec : {M : Type 1} → statement M
+local_key_spec = tie.close (tie.spec load-requires returns)

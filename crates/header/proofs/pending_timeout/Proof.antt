@@ -3,12 +3,12 @@ use borrow.Author.Rules.{rules}
 use Rattle.header.proofs.pending_timeout.Statement.{statement}
 use Rattle.header.proofs.pending_timeout.Tie as tie
 
-get-u64-requires : tie.Need-get-u64-requires
+get-u64-requires : tie.Need-get_u64-requires
 get-u64-requires c κs = search rules
 
 returns : tie.Need-returns
 unfolding table_of settings_in
-returns c = c.get-u64.ensures
+returns c = c.get_u64.ensures
 
-pub pending-timeout-spec : {M : Type 1} → statement M
-pending-timeout-spec = tie.close (tie.spec get-u64-requires returns)
+pub pending_timeout_spec : {M : Type 1} → statement M
+pending_timeout_spec = tie.close (tie.spec get-u64-requires returns)

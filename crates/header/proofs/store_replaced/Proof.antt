@@ -10,32 +10,32 @@ use Rattle.header.proofs.store_replaced.Tie as tie
 store-requires : tie.Need-store-requires
 store-requires c κs = search rules
 
-add-put-byte : tie.Need-overflow-add-put-byte
+add-put-byte : tie.Need-overflow_add-at
 add-put-byte c = search rules
 
-put-byte-requires : tie.Need-put-byte-requires
+put-byte-requires : tie.Need-put_byte-requires
 put-byte-requires c κs = search rules
 
-add-store-node : tie.Need-overflow-add-store-node
+add-store-node : tie.Need-overflow_add-store_node
 add-store-node c = search rules
 
-add-store-node-2 : tie.Need-overflow-add-store-node-2
+add-store-node-2 : tie.Need-overflow_add-at-2
 add-store-node-2 c = search rules
 
-store-node-requires : tie.Need-store-node-requires
+store-node-requires : tie.Need-store_node-requires
 store-node-requires c κs = search rules
 
-same_length : tie.Need-same-length
+same_length : tie.Need-shape_of-s
 same_length c = search rules
 
 returns : tie.Need-returns
 returns c =
-    let st = c.before.before.before.before.before.before.before.before.before.before.before.before.before in
+    let st = c in
     let a = st.args in
     cc (record_put a.s.now a.at (num a.key) evicting_kind (node_bytes (node_of a.node)) (length_node (node_of a.node)) st.requires.0)
 
-pub store-replaced-spec : {M : Type 1} → statement M
-store-replaced-spec =
+pub store_replaced_spec : {M : Type 1} → statement M
+store_replaced_spec =
     tie.close
     (tie.spec
     store-requires

@@ -15,60 +15,60 @@ use mathlib.Core.Path.{◌≡◌, ap, ◌∙◌}
 use Rattle.held.proofs.counted.Statement.{statement}
 use Rattle.held.proofs.counted.Tie as tie
 
-abbrev invariant-loop : tie.invariant-loop
+abbrev invariant-loop : tie.invariant-loop-j
 invariant-loop s at count skip value n₀ j₀ n j = (j ≤ count) × ((n ≤ j) × (n ≡ length (counted (value_of value) (others s at j skip))))
 
-abbrev decreases-loop : tie.decreases-loop
+abbrev decreases-loop : tie.decreases-loop-j
 decreases-loop s at count skip value n₀ j₀ n j = count - j
 
-loop-holds : tie.Need-loop-init invariant-loop decreases-loop
-loop-holds c = let a = c.before.args in (omega arith, (omega arith, count_none (λ (x : Node). counts (value_of a.value) x.value) a.s.now a.at a.skip))
+loop-holds : tie.Need-loop-j-init invariant-loop decreases-loop
+loop-holds c = let a = c.args in (omega arith, (omega arith, count_none (λ (x : Node). counts (value_of a.value) x.value) a.s.now a.at a.skip))
 
-mul-load-value : tie.Need-overflow-mul-load-value invariant-loop decreases-loop
+mul-load-value : tie.Need-overflow_mul-j invariant-loop decreases-loop
 mul-load-value c = search rules
 
-add-load-value : tie.Need-overflow-add-load-value invariant-loop decreases-loop
+add-load-value : tie.Need-overflow_add-j invariant-loop decreases-loop
 add-load-value c = search rules
 
-add-load-value-2 : tie.Need-overflow-add-load-value-2 invariant-loop decreases-loop
+add-load-value-2 : tie.Need-overflow_add-j-in-loop-j invariant-loop decreases-loop
 add-load-value-2 c = search rules
 
-add-load-value-3 : tie.Need-overflow-add-load-value-3 invariant-loop decreases-loop
+add-load-value-3 : tie.Need-overflow_add-at invariant-loop decreases-loop
 add-load-value-3 c = search rules
 
-load-value-requires : tie.Need-load-value-requires invariant-loop decreases-loop
+load-value-requires : tie.Need-load_value-other-requires invariant-loop decreases-loop
 load-value-requires c κs = search rules
 
 counts-requires : tie.Need-counts-requires invariant-loop decreases-loop
 counts-requires c κs = search rules
 
-one-requires : tie.Need-one-requires invariant-loop decreases-loop
+one-requires : tie.Need-one-n-requires invariant-loop decreases-loop
 one-requires c κs = search rules
 
-add-n : tie.Need-overflow-add-n invariant-loop decreases-loop
+add-n : tie.Need-overflow_add-n invariant-loop decreases-loop
 add-n c = search rules
 
-add-j : tie.Need-overflow-add-j invariant-loop decreases-loop
+add-j : tie.Need-overflow_add-j-in-loop-j-2 invariant-loop decreases-loop
 add-j c = search rules
 
-loop-less : tie.Need-loop-smaller invariant-loop decreases-loop
+loop-less : tie.Need-loop-j-smaller invariant-loop decreases-loop
 loop-less c = search rules
 
-loop-again : tie.Need-loop-preserved invariant-loop decreases-loop
+loop-again : tie.Need-loop-j-preserved invariant-loop decreases-loop
 loop-again c =
-    let l = c.before.before.before.before in
-    let a = c.before.before.before.before.before.before.args in
-    let v : value_of c.before.before.load_value.result ≡ (node_at (part a.s.now a.at bucket_size) l.loop.j).value =
-    ap value_of c.before.before.load_value.ensures ∙ place_value a.s.now a.at l.loop.j (omega arith) in
-    let e : counts (value_of a.value) (value_of c.before.before.load_value.result) ≡ counts (value_of a.value) (node_at (part a.s.now a.at bucket_size) l.loop.j).value =
+    let l = c in
+    let a = c.args in
+    let v : value_of c.load_value-other.result ≡ (node_at (part a.s.now a.at bucket_size) l.loop-j.j).value =
+    ap value_of c.load_value-other.ensures ∙ place_value a.s.now a.at l.loop-j.j (omega arith) in
+    let e : counts (value_of a.value) (value_of c.load_value-other.result) ≡ counts (value_of a.value) (node_at (part a.s.now a.at bucket_size) l.loop-j.j).value =
     ap (counts (value_of a.value)) v in
-    (omega arith, (omega arith, rw (others_more (λ (x : Node). counts (value_of a.value) x.value) a.s.now a.at a.skip l.loop.j) (cc)))
+    (omega arith, (omega arith, rw (others_more (λ (x : Node). counts (value_of a.value) x.value) a.s.now a.at a.skip l.loop-j.j) (cc)))
 
 returns : tie.Need-returns invariant-loop decreases-loop
 returns c =
-    let l = c.before in
-    let e : l.loop.j ≡ c.before.before.before.args.count = omega arith in
-    rw (← e) l.loop.invariant.1.1
+    let l = c in
+    let e : l.loop-j.j ≡ c.args.count = omega arith in
+    rw (← e) l.loop-j.invariant.1.1
 
 pub counted_spec : {M : Type 1} → statement M
 counted_spec =

@@ -11,23 +11,23 @@ use borrow.Author.Rules.{rules}
 use Rattle.held_update.proofs.insert_or_update.Statement.{statement}
 use Rattle.held_update.proofs.insert_or_update.Tie as tie
 
-remove-requires : tie.Need-remove-requires
-remove-requires c κs = c.before.before.before.before.requires.0
+remove-requires : tie.Need-remove-found-requires
+remove-requires c κs = c.requires.0
 
-same_length : tie.Need-same-length
+same_length : tie.Need-shape_of-s-then-fails
 same_length c = search rules
 
-returns : tie.Need-returns
+returns : tie.Need-returns-then-fails
 returns c =
-    let r = c.before.before in
-    let t = r.before.before.before in
-    let st = t.before.before in
+    let r = c in
+    let t = r in
+    let st = t in
     let a = st.args in
-    filtered_does a.s.now a.at (node_of a.node) a.time t.if1.true (r.remove.ensures (settings_here a.s.now) a.time)
+    filtered_does a.s.now a.at (node_of a.node) a.time t.if-fails.true (r.remove-found.ensures (settings_here a.s.now) a.time)
 
-update-held-requires : tie.Need-update-held-requires
+update-held-requires : tie.Need-update_held-requires
 update-held-requires c κs =
-    let st = c.before.before.before.before in
+    let st = c in
     let a = st.args in
     let few = count_few a.s.now a.at st.requires.0.1 in (
       (st.requires.0.0, omega (arith, few, st.requires.1.1.0), omega arith),
@@ -37,19 +37,19 @@ update-held-requires c κs =
       ),
     )
 
-same-length-2 : tie.Need-same-length-2
+same-length-2 : tie.Need-shape_of-s-then-pos-count
 same-length-2 c = search rules
 
-returns-2 : tie.Need-returns-2
+returns-2 : tie.Need-returns-then-pos-count
 returns-2 c =
-    let h = c.before.before in
-    let e = h.before.before.before in
-    let a = e.before.before.args in
-    held_does a.s.now a.at (node_of a.node) a.time e.if1.false (h.update-held.ensures a.time)
+    let h = c in
+    let e = h in
+    let a = e.args in
+    held_does a.s.now a.at (node_of a.node) a.time e.if-fails.false (h.update_held.ensures a.time)
 
-insert-new-requires : tie.Need-insert-new-requires
+insert-new-requires : tie.Need-insert_new-r-requires
 insert-new-requires c κs =
-    let st = c.before.before.before.before in
+    let st = c in
     let a = st.args in
     let few = count_few a.s.now a.at st.requires.0.1 in
     let e = at_place a.s.now a.at st.requires.0.1 st.requires.0.0 a.count st.requires.1.1.0 (num a.node.key) a.pos st.requires.1.1.1 in
@@ -60,21 +60,21 @@ insert-new-requires c κs =
 inserts-requires : tie.Need-inserts-requires
 inserts-requires c κs = search rules
 
-same-length-3 : tie.Need-same-length-3
+same-length-3 : tie.Need-shape_of-s
 same-length-3 c = search rules
 
-returns-3 : tie.Need-returns-3
+returns-3 : tie.Need-returns
 returns-3 c =
-    let w = c.before.before.before in
-    let e = w.before.before.before in
-    let st = e.before.before in
+    let w = c in
+    let e = w in
+    let st = e in
     let a = st.args in
-    inserted_does a.s.now a.at (node_of a.node) a.time e.if1.false
+    inserted_does a.s.now a.at (node_of a.node) a.time e.if-fails.false
     (ap is_some (absent_get a.s.now a.at st.requires.0.1 st.requires.0.0 a.count st.requires.1.1.0 (num a.node.key) a.pos st.requires.1.1.1 (omega arith)))
-    c.inserts.ensures w.insert_new.ensures
+    c.inserts.ensures w.insert_new-r.ensures
 
-pub insert-or-update-spec : {M : Type 1} → statement M
-insert-or-update-spec =
+pub insert_or_update_spec : {M : Type 1} → statement M
+insert_or_update_spec =
     tie.close
     (tie.spec
     remove-requires

@@ -33,68 +33,68 @@ module _ (st : tie.Start) where
   abbrev u : Option Bool
   u = optional st.args.state
 
-remove-requires : tie.Need-remove-requires
-remove-requires c κs = c.before.before.before.requires.0
+remove-requires : tie.Need-remove-found-requires
+remove-requires c κs = c.requires.0
 
-same_length : tie.Need-same-length
+same_length : tie.Need-shape_of-s-then-fails
 same_length c = search rules
 
-returns : tie.Need-returns
+returns : tie.Need-returns-then-fails
 returns c =
-    let r = c.before.before in
-    let t = r.before.before in
-    let o = t.before.before in
-    λ time. out_does (s o) (at o) time (k o) (v o) (u o) t.if1.true (r.remove.ensures (settings_here (s o)) time)
+    let r = c in
+    let t = r in
+    let o = t in
+    λ time. out_does (s o.before.before.before.before.before.before) (at o.before.before.before.before.before.before) time (k o.before.before.before.before.before.before) (v o.before.before.before.before.before.before) (u o.before.before.before.before.before.before) t.if-fails.true (r.remove-found.ensures (settings_here (s o.before.before.before.before.before.before)) time)
 
-slice-read-count : tie.Need-slice-read-count
-slice-read-count c = let y = c.before.before.before.requires.0.0 in search rules
+slice-read-count : tie.Need-bounds-s-at
+slice-read-count c = let y = c.requires.0.0 in search rules
 
-cast-count : tie.Need-overflow-cast-count
-cast-count c = record { fits = omega (arith, c.slice-known3.given c.before.before.before.args.at) }
+cast-count : tie.Need-overflow_cast-count
+cast-count c = record { fits = omega (arith, c.slice_known-2-1.given c.args.at) }
 
-position-requires : tie.Need-position-requires
-position-requires c κs = let o = c.before.before.before.before in (o.requires.0.0, count_few (s o) (at o) o.requires.0.1)
+position-requires : tie.Need-position-pos-requires
+position-requires c κs = let o = c in (o.requires.0.0, count_few (s o.before.before.before) (at o.before.before.before) o.requires.0.1)
 
 -- the key was looked for
-module _ (p : tie.After-position) where
-  abbrev kept : tie.Else1
-  kept = p.before.before.before
+module _ (p : tie.After-position-pos) where
+  abbrev kept : tie.Else-fails
+  kept = p.before.before
 
   abbrev start : tie.Start
   start = kept.before.before
 
-same-length-2 : tie.Need-same-length-2
+same-length-2 : tie.Need-shape_of-s-then-count-pos
 same-length-2 c = search rules
 
-returns-2 : tie.Need-returns-2
+returns-2 : tie.Need-returns-then-count-pos
 returns-2 c =
-    let p = c.before in
-    let o = start p in
+    let p = c in
+    let o = start p.before in
     λ time.
-    kept_does (s o) (at o) time (k o) (v o) (u o) (kept p).if1.false
+    kept_does (s o) (at o) time (k o) (v o) (u o) (kept p.before).if-fails.false
     (value_failed (s o) (at o) time (k o) (v o) (u o)
-    (value_none (s o) (at o) o.pre.0.1 o.pre.0.0 _ refl (k o) p.position.result p.position.ensures (v o) (omega arith)) refl)
+    (value_none (s o) (at o) o.requires.0.1 o.requires.0.0 _ refl (k o) p.position-pos.result p.position-pos.ensures (v o) (omega arith)) refl)
 
-update-at-requires : tie.Need-update-at-requires
+update-at-requires : tie.Need-update_at-requires
 update-at-requires c κs =
-    let p = c.before.before in
-    let o = start p in
-    ((o.pre.0.0, count_few (s o) (at o) o.pre.0.1, omega arith), ((refl, o.pre.0.1), o.pre.1))
+    let p = c in
+    let o = start p.before.before in
+    ((o.requires.0.0, count_few (s o) (at o) o.requires.0.1, omega arith), ((refl, o.requires.0.1), o.requires.1))
 
-same-length-3 : tie.Need-same-length-3
+same-length-3 : tie.Need-shape_of-s
 same-length-3 c = search rules
 
-returns-3 : tie.Need-returns-3
+returns-3 : tie.Need-returns
 returns-3 c =
-    let w = c.before.before in
-    let p = w.before.before.before in
-    let o = start p in
+    let w = c in
+    let p = w in
+    let o = start p.before.before.before.before.before in
     λ time.
-    kept_does (s o) (at o) time (k o) (v o) (u o) (kept p).if1.false
-    (w.update-at.ensures time (k o) (at_place (s o) (at o) o.pre.0.1 o.pre.0.0 _ refl (k o) p.position.result p.position.ensures))
+    kept_does (s o) (at o) time (k o) (v o) (u o) (kept p.before.before.before.before.before).if-fails.false
+    (w.update_at.ensures time (k o) (at_place (s o) (at o) o.requires.0.1 o.requires.0.0 _ refl (k o) p.position-pos.result p.position-pos.ensures))
 
-pub update-node-spec : {M : Type 1} → statement M
-update-node-spec =
+pub update_node_spec : {M : Type 1} → statement M
+update_node_spec =
     tie.close
     (tie.spec
     remove-requires

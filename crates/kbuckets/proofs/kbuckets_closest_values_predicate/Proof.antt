@@ -4,29 +4,29 @@ use borrow.Author.Rules.{rules}
 use Rattle.kbuckets.proofs.kbuckets_closest_values_predicate.Statement.{statement}
 use Rattle.kbuckets.proofs.kbuckets_closest_values_predicate.Tie as tie
 
-closest-values-predicate-requires : tie.Need-closest-values-predicate-requires
+closest-values-predicate-requires : tie.Need-closest_values_predicate-answer-requires
 closest-values-predicate-requires c κs = search rules
 
-list-code-requires : tie.Need-list-code-requires
+list-code-requires : tie.Need-list_code-requires
 list-code-requires c κs =
-    let x = c.before.before.before.before in
-    let a = x.before.before.before.before.before.before.args in
-    few (Listing.closest_values_predicate a.target.now (record { predicate = a.predicate; a = a.a; b = a.b; c = a.c; slot = a.slot })) a.n a.time a.output.now a.storage.now x.closest_values_predicate.result x.closest_values_predicate.ensures.answer
+    let x = c in
+    let a = x.args in
+    few (Listing.closest_values_predicate a.target.now (record { predicate = a.predicate; a = a.a; b = a.b; c = a.c; slot = a.slot })) a.n a.time a.output.now a.storage.now x.closest_values_predicate-answer.result x.closest_values_predicate-answer.ensures.answer
 
-same_length : tie.Need-same-length
+same_length : tie.Need-shape_of-storage
 same_length c = search rules
 
-same-length-2 : tie.Need-same-length-2
+same-length-2 : tie.Need-shape_of-output
 same-length-2 c = search rules
 
 returns : tie.Need-returns
 returns c =
-    let x = c.before.before.before.before.before in
-    let a = x.before.before.before.before.before.before.args in
-    listed (Listing.closest_values_predicate a.target.now (record { predicate = a.predicate; a = a.a; b = a.b; c = a.c; slot = a.slot })) a.n a.time a.output.now a.storage.now x.closest_values_predicate.result x.closest_values_predicate.ensures c.List-code.ensures
+    let x = c in
+    let a = x.args in
+    listed (Listing.closest_values_predicate a.target.now (record { predicate = a.predicate; a = a.a; b = a.b; c = a.c; slot = a.slot })) a.n a.time a.output.now a.storage.now x.closest_values_predicate-answer.result x.closest_values_predicate-answer.ensures c.list_code.ensures
 
-pub kbuckets-closest-values-predicate-spec : {M : Type 1} → statement M
-kbuckets-closest-values-predicate-spec =
+pub kbuckets_closest_values_predicate_spec : {M : Type 1} → statement M
+kbuckets_closest_values_predicate_spec =
     tie.close
     (tie.spec
     closest-values-predicate-requires

@@ -6,25 +6,25 @@ use borrow.Author.Rules.{rules}
 use Rattle.kbuckets.proofs.kbuckets_explain_absent_insert.Statement.{statement}
 use Rattle.kbuckets.proofs.kbuckets_explain_absent_insert.Tie as tie
 
-explain-absent-insert-requires : tie.Need-explain-absent-insert-requires
+explain-absent-insert-requires : tie.Need-explain_absent_insert-answer-requires
 explain-absent-insert-requires c κs = search rules
 
-explain-code-requires : tie.Need-explain-code-requires
+explain-code-requires : tie.Need-explain_code-requires
 explain-code-requires c κs =
-    let x = c.before.before in
-    let k = x.before.before.before.before.before.before in
-    let a = k.before.args in
-    short a.key.now (KeyCall.absent_insert (record { flag = a.flag; a = a.a; b = a.b; c = a.c; d = a.d; slot = a.slot }) a.state a.direction a.time (session_of a.windows.now a.closed.now (record { year = a.year; month = a.month; day = a.day; minute = a.minute }))) a.output.now a.storage.now (λ i. (k.shared-slice-known.given i).fits) x.explain-absent-insert.result x.explain-absent-insert.ensures.answer
+    let x = c in
+    let k = x in
+    let a = k.args in
+    short a.key.now (KeyCall.absent_insert (record { flag = a.flag; a = a.a; b = a.b; c = a.c; d = a.d; slot = a.slot }) a.state a.direction a.time (session_of a.windows.now a.closed.now (record { year = a.year; month = a.month; day = a.day; minute = a.minute }))) a.output.now a.storage.now (λ i. (k.shared_slice_known-1.given i).fits) x.explain_absent_insert-answer.result x.explain_absent_insert-answer.ensures.answer
 
-same_length : tie.Need-same-length
+same_length : tie.Need-shape_of-output
 same_length c = search rules
 
 returns : tie.Need-returns
 returns c =
-    let x = c.before.before.before in
-    let a = x.before.before.before.before.before.before.before.args in
-    told x.explain-absent-insert.ensures c.explain-code.ensures
+    let x = c in
+    let a = x.args in
+    told x.explain_absent_insert-answer.ensures c.explain_code.ensures
 
-pub kbuckets-explain-absent-insert-spec : {M : Type 1} → statement M
-kbuckets-explain-absent-insert-spec =
+pub kbuckets_explain_absent_insert_spec : {M : Type 1} → statement M
+kbuckets_explain_absent_insert_spec =
     tie.close (tie.spec explain-absent-insert-requires explain-code-requires same_length returns)

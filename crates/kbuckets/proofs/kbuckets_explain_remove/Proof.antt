@@ -5,25 +5,25 @@ use borrow.Author.Rules.{rules}
 use Rattle.kbuckets.proofs.kbuckets_explain_remove.Statement.{statement}
 use Rattle.kbuckets.proofs.kbuckets_explain_remove.Tie as tie
 
-explain-remove-requires : tie.Need-explain-remove-requires
+explain-remove-requires : tie.Need-explain_remove-answer-requires
 explain-remove-requires c κs = search rules
 
-explain-code-requires : tie.Need-explain-code-requires
+explain-code-requires : tie.Need-explain_code-requires
 explain-code-requires c κs =
-    let x = c.before.before in
-    let k = x.before.before.before.before in
-    let a = k.before.args in
-    short a.key.now (KeyCall.remove a.time) a.output.now a.storage.now (λ i. (k.shared-slice-known.given i).fits) x.explain-remove.result x.explain-remove.ensures.answer
+    let x = c in
+    let k = x in
+    let a = k.args in
+    short a.key.now (KeyCall.remove a.time) a.output.now a.storage.now (λ i. (k.shared_slice_known-1.given i).fits) x.explain_remove-answer.result x.explain_remove-answer.ensures.answer
 
-same_length : tie.Need-same-length
+same_length : tie.Need-shape_of-output
 same_length c = search rules
 
 returns : tie.Need-returns
 returns c =
-    let x = c.before.before.before in
-    let a = x.before.before.before.before.before.args in
-    told x.explain-remove.ensures c.explain-code.ensures
+    let x = c in
+    let a = x.args in
+    told x.explain_remove-answer.ensures c.explain_code.ensures
 
-pub kbuckets-explain-remove-spec : {M : Type 1} → statement M
-kbuckets-explain-remove-spec =
+pub kbuckets_explain_remove_spec : {M : Type 1} → statement M
+kbuckets_explain_remove_spec =
     tie.close (tie.spec explain-remove-requires explain-code-requires same_length returns)

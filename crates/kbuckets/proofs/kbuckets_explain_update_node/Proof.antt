@@ -5,25 +5,25 @@ use borrow.Author.Rules.{rules}
 use Rattle.kbuckets.proofs.kbuckets_explain_update_node.Statement.{statement}
 use Rattle.kbuckets.proofs.kbuckets_explain_update_node.Tie as tie
 
-explain-update-node-requires : tie.Need-explain-update-node-requires
+explain-update-node-requires : tie.Need-explain_update_node-answer-requires
 explain-update-node-requires c κs = search rules
 
-explain-code-requires : tie.Need-explain-code-requires
+explain-code-requires : tie.Need-explain_code-requires
 explain-code-requires c κs =
-    let x = c.before.before in
-    let k = x.before.before.before.before in
-    let a = k.before.args in
-    short a.key.now (KeyCall.update_node (record { flag = a.flag; a = a.a; b = a.b; c = a.c; d = a.d; slot = a.slot }) a.state a.time) a.output.now a.storage.now (λ i. (k.shared-slice-known.given i).fits) x.explain-update-node.result x.explain-update-node.ensures.answer
+    let x = c in
+    let k = x in
+    let a = k.args in
+    short a.key.now (KeyCall.update_node (record { flag = a.flag; a = a.a; b = a.b; c = a.c; d = a.d; slot = a.slot }) a.state a.time) a.output.now a.storage.now (λ i. (k.shared_slice_known-1.given i).fits) x.explain_update_node-answer.result x.explain_update_node-answer.ensures.answer
 
-same_length : tie.Need-same-length
+same_length : tie.Need-shape_of-output
 same_length c = search rules
 
 returns : tie.Need-returns
 returns c =
-    let x = c.before.before.before in
-    let a = x.before.before.before.before.before.args in
-    told x.explain-update-node.ensures c.explain-code.ensures
+    let x = c in
+    let a = x.args in
+    told x.explain_update_node-answer.ensures c.explain_code.ensures
 
-pub kbuckets-explain-update-node-spec : {M : Type 1} → statement M
-kbuckets-explain-update-node-spec =
+pub kbuckets_explain_update_node_spec : {M : Type 1} → statement M
+kbuckets_explain_update_node_spec =
     tie.close (tie.spec explain-update-node-requires explain-code-requires same_length returns)

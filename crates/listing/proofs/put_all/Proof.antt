@@ -15,43 +15,43 @@ use Rattle.listing.proofs.put_all.Tie as tie
 abbrev Asked : (s : List ℕ) (n : ℕ) → List ℕ → Type 0
 Asked s n is = buckets_formed s (visited (count_in (table_of s)) n is) ≡ true
 
-enum_told : tie.Need-enum-told
+enum_told : tie.Need-enum_told-1
 enum_told c = search rules
 
-put-in-turn-requires : tie.Need-put-in-turn-requires
+put-in-turn-requires : tie.Need-put_in_turn-requires
 put-in-turn-requires c κs =
-    let e = c.before in
-    let o = e.before.before.before.before in
-    (o.requires.0, (subst (Asked o.args.s.now o.args.n) (ap order e.enum_told.given.1) o.requires.1.1.0, o.requires.1.1.1))
+    let e = c in
+    let o = e in
+    (o.requires.0, (subst (Asked o.args.s.now o.args.n) (ap order e.in-InTurn.is) o.requires.1.1.0, o.requires.1.1.1))
 
-enum-known-visit : tie.Need-enum-known-visit
+enum-known-visit : tie.Need-enum_known-visit
 enum-known-visit c = search rules
 
-put-nearest-requires : tie.Need-put-nearest-requires
+put-nearest-requires : tie.Need-put_nearest-requires
 put-nearest-requires c κs =
-    let v = c.before.before in
-    let o = v.before.before.before.before in
-    let q = ap order v.visit.given.1 in
+    let v = c in
+    let o = v in
+    let q = ap order v.in-Nearest.is in
     (o.requires.0, (subst Visitable q o.requires.1.0, (subst (Asked o.args.s.now o.args.n) q o.requires.1.1.0, o.requires.1.1.1)))
 
-same_length : tie.Need-same-length
+same_length : tie.Need-shape_of-out-in-InTurn
 same_length c = search rules
 
-returns : tie.Need-returns
+returns : tie.Need-returns-in-InTurn
 returns c =
-    let z = c.before.before in
-    rw (ap order z.before.before.enum_told.given.1) z.put-in-turn.ensures
+    let z = c in
+    rw (ap order z.in-InTurn.is) z.put_in_turn.ensures
 
-same-length-2 : tie.Need-same-length-2
+same-length-2 : tie.Need-shape_of-out-in-Nearest
 same-length-2 c = search rules
 
-returns-2 : tie.Need-returns-2
+returns-2 : tie.Need-returns-in-Nearest
 returns-2 c =
-    let z = c.before.before in
-    rw (ap order z.before.before.before.visit.given.1) z.put-nearest.ensures
+    let z = c in
+    rw (ap order z.in-Nearest.is) z.put_nearest.ensures
 
-pub put-all-spec : {M : Type 1} → statement M
-put-all-spec =
+pub put_all_spec : {M : Type 1} → statement M
+put_all_spec =
     tie.close
     (tie.spec
     enum_told

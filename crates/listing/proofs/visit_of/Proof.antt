@@ -8,13 +8,13 @@ use borrow.Author.Rules.{rules}
 use Rattle.listing.proofs.visit_of.Statement.{statement}
 use Rattle.listing.proofs.visit_of.Tie as tie
 
-enum_told : tie.Need-enum-told
+enum_told : tie.Need-enum_told-1
 enum_told c = search rules
 
-enum-known-shape : tie.Need-enum-known-shape
+enum-known-shape : tie.Need-enum_known-shape
 enum-known-shape c = search rules
 
-local-key-requires : tie.Need-local-key-requires
+local-key-requires : tie.Need-local_key-local-requires
 local-key-requires c κs = search rules
 
 distance-requires : tie.Need-distance-requires
@@ -23,21 +23,21 @@ distance-requires c κs = search rules
 new-requires : tie.Need-new-requires
 new-requires c κs = search rules
 
-returns : tie.Need-returns
+returns : tie.Need-returns-in-Nodes
 unfolding visit_order_by
-returns c = let e = c.enum_told.given.1 in rw e
+returns c = let e = c.in-Nodes.is in rw e
 
-returns-2 : tie.Need-returns-2
+returns-2 : tie.Need-returns-in-Closest
 unfolding visit_order_by
 returns-2 c =
-    let d = c.before in
-    let k = d.before in
-    let f = k.before.before in
-    let e = f.shape.given.1 in
-    c.new.ensures ∙ ap visits (d.distance.ensures ∙ ap (λ (x : ℕ). distance x (num f.shape.given.0.0)) k.local-key.ensures) ∙ (rw e)
+    let d = c in
+    let k = d in
+    let f = k in
+    let e = f.in-Closest.is in
+    c.new.ensures ∙ ap visits (d.distance.ensures ∙ ap (λ (x : ℕ). distance x (num f.in-Closest.target)) k.local_key-local.ensures) ∙ (rw e)
 
-pub visit-of-spec : {M : Type 1} → statement M
-visit-of-spec =
+pub visit_of_spec : {M : Type 1} → statement M
+visit_of_spec =
     tie.close
     (tie.spec
     enum_told

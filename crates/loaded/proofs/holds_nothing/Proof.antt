@@ -11,67 +11,67 @@ use borrow.Author.Rules.{rules}
 use Rattle.loaded.proofs.holds_nothing.Statement.{statement}
 use Rattle.loaded.proofs.holds_nothing.Tie as tie
 
-abbrev invariant-loop : tie.invariant-loop
+abbrev invariant-loop : tie.invariant-loop-i
 invariant-loop s i₀ i = (i ≤ num_buckets) × (all_below i (empty_at s) ≡ true)
 
-abbrev decreases-loop : tie.decreases-loop
+abbrev decreases-loop : tie.decreases-loop-i
 decreases-loop s i₀ i = num_buckets - i
 
-shared-slice-read-if1 : tie.Need-shared-slice-read-if1 invariant-loop decreases-loop
+shared-slice-read-if1 : tie.Need-bounds-s-43 invariant-loop decreases-loop
 shared-slice-read-if1 c = search rules
 
-returns : tie.Need-returns invariant-loop decreases-loop
+returns : tie.Need-returns-then-s-ne0 invariant-loop decreases-loop
 returns c =
-    let o = c.before.before in
-    holds_records o.args.s.now o.requires.0 o.requires.1 c.if1.true
+    let o = c in
+    holds_records o.args.s.now o.requires.0 o.requires.1 c.if-s-ne0.true
 
-loop-holds : tie.Need-loop-init invariant-loop decreases-loop
+loop-holds : tie.Need-loop-i-init invariant-loop decreases-loop
 loop-holds c = (omega arith, all_none _)
 
-mul_at : tie.Need-overflow-mul-at invariant-loop decreases-loop
+mul_at : tie.Need-overflow_mul-at invariant-loop decreases-loop
 mul_at c = search rules
 
-add_at : tie.Need-overflow-add-at invariant-loop decreases-loop
+add_at : tie.Need-overflow_add-at invariant-loop decreases-loop
 add_at c = search rules
 
-shared-slice-read-if2 : tie.Need-shared-slice-read-if2 invariant-loop decreases-loop
+shared-slice-read-if2 : tie.Need-bounds-s-at invariant-loop decreases-loop
 shared-slice-read-if2 c = search rules
 
-add-if2 : tie.Need-overflow-add-if2 invariant-loop decreases-loop
+add-if2 : tie.Need-overflow_add-at-in-loop-i invariant-loop decreases-loop
 add-if2 c = search rules
 
-shared-slice-read-if2-2 : tie.Need-shared-slice-read-if2-2 invariant-loop decreases-loop
+shared-slice-read-if2-2 : tie.Need-bounds-s-at-in-loop-i invariant-loop decreases-loop
 shared-slice-read-if2-2 c = search rules
 
-returns-2 : tie.Need-returns-2 invariant-loop decreases-loop
+returns-2 : tie.Need-returns-then-not-s-at invariant-loop decreases-loop
 unfolding empty_at
 returns-2 c =
-    let n = c.before.before.before in
-    let l = n.before in
-    let o = l.before.before.before in
-    holds_bucket o.args.s.now o.requires.0 o.requires.1 l.loop.i n.loop-test.true (not-true _ c.if2.true)
+    let n = c in
+    let l = n in
+    let o = l in
+    holds_bucket o.args.s.now o.requires.0 o.requires.1 l.loop-i.i n.loop-i-test.true (not-true _ c.if-not-s-at.true-raw)
 
-add-i : tie.Need-overflow-add-i invariant-loop decreases-loop
+add-i : tie.Need-overflow_add-i invariant-loop decreases-loop
 add-i c = search rules
 
-loop-less : tie.Need-loop-smaller invariant-loop decreases-loop
+loop-less : tie.Need-loop-i-smaller invariant-loop decreases-loop
 loop-less c = search rules
 
-loop-again : tie.Need-loop-preserved invariant-loop decreases-loop
+loop-again : tie.Need-loop-i-preserved invariant-loop decreases-loop
 unfolding empty_at
 loop-again c =
-    let l = c.before.before.before.before in
-    (omega arith, rw (all_more, l.loop.invariant.1) (not-false _ c.if2.false))
+    let l = c in
+    (omega arith, rw (all_more, l.loop-i.invariant.1) (not-false _ c.if-not-s-at.false-raw))
 
-returns-3 : tie.Need-returns-3 invariant-loop decreases-loop
+returns-3 : tie.Need-returns invariant-loop decreases-loop
 returns-3 c =
-    let l = c.before in
-    let o = l.before.before.before in
-    let e : l.loop.i ≡ num_buckets = omega arith in
-    holds_none o.args.s.now o.requires.0 o.requires.1 l.before.if1.false (rw e at l.loop.invariant.1)
+    let l = c in
+    let o = l in
+    let e : l.loop-i.i ≡ num_buckets = omega arith in
+    holds_none o.args.s.now o.requires.0 o.requires.1 l.if-s-ne0.false (rw e at l.loop-i.invariant.1)
 
-pub holds-nothing-spec : {M : Type 1} → statement M
-holds-nothing-spec =
+pub holds_nothing_spec : {M : Type 1} → statement M
+holds_nothing_spec =
     tie.close
     (tie.spec
     invariant-loop

@@ -10,72 +10,72 @@ use borrow.Author.Rules.{rules}
 use Rattle.loaded.proofs.load_fits.Statement.{statement}
 use Rattle.loaded.proofs.load_fits.Tie as tie
 
-holds-nothing-requires : tie.Need-holds-nothing-requires
+holds-nothing-requires : tie.Need-holds_nothing-requires
 holds-nothing-requires c κs = search rules
 
-returns : tie.Need-returns
+returns : tie.Need-returns-then-not-holds_nothing
 returns c =
-    let h = c.before in
-    let a = h.before.before.before.args in
-    fits_nothing a.s.now a.bytes.now (sym h.holds-nothing.ensures ∙ not-true _ c.if1.true)
+    let h = c in
+    let a = h.args in
+    fits_nothing a.s.now a.bytes.now (sym h.holds_nothing.ensures ∙ not-true _ c.if-not-holds_nothing.true-raw)
 
-returns-2 : tie.Need-returns-2
+returns-2 : tie.Need-returns-then-bytes-lt-NUM_BUCKETS
 returns-2 c =
-    let f = c.before in
-    let h = f.before in
-    let a = h.before.before.before.args in
-    fits_length a.s.now a.bytes.now (sym h.holds-nothing.ensures ∙ not-false _ f.if1.false) (λ q. omega (arith, q, c.if2.true))
+    let f = c in
+    let h = f in
+    let a = h.args in
+    fits_length a.s.now a.bytes.now (sym h.holds_nothing.ensures ∙ not-false _ f.if-not-holds_nothing.false-raw) (λ q. omega (arith, q, c.if-bytes-lt-NUM_BUCKETS.true))
 
-saved-nodes-requires : tie.Need-saved-nodes-requires
+saved-nodes-requires : tie.Need-saved_nodes-nodes-requires
 saved-nodes-requires c κs = search rules
 
-mul-if3 : tie.Need-overflow-mul-if3
+mul-if3 : tie.Need-overflow_mul-nodes
 mul-if3 c = search rules
 
-add-if3 : tie.Need-overflow-add-if3
+add-if3 : tie.Need-overflow_add-nodes
 add-if3 c = search rules
 
-returns-3 : tie.Need-returns-3
+returns-3 : tie.Need-returns-then-bytes-nodes
 returns-3 c =
-    let n = c.before in
-    let f = n.before.before in
-    let h = f.before in
-    let a = h.before.before.before.args in
-    fits_length a.s.now a.bytes.now (sym h.holds-nothing.ensures ∙ not-false _ f.if1.false)
-    (λ q. c.if3.true (q ∙ ap (λ (k : ℕ). num_buckets + k * node_size) (sym n.saved-nodes.ensures.0)))
+    let n = c in
+    let f = n in
+    let h = f in
+    let a = h.args in
+    fits_length a.s.now a.bytes.now (sym h.holds_nothing.ensures ∙ not-false _ f.if-not-holds_nothing.false-raw)
+    (λ q. c.if-bytes-nodes.true (q ∙ ap (λ (k : ℕ). num_buckets + k * node_size) (sym n.saved_nodes-nodes.ensures.0)))
 
-local-key-requires : tie.Need-local-key-requires
+local-key-requires : tie.Need-local_key-local-requires
 local-key-requires c κs = search rules
 
-shared-slice-read-size : tie.Need-shared-slice-read-size
+shared-slice-read-size : tie.Need-bounds-s-40
 shared-slice-read-size c = search rules
 
-size-requires : tie.Need-size-requires
+size-requires : tie.Need-size-max_incoming-requires
 size-requires c κs = search rules
 
-shared-slice-read-buckets-fit : tie.Need-shared-slice-read-buckets-fit
+shared-slice-read-buckets-fit : tie.Need-bounds-s-42
 shared-slice-read-buckets-fit c = search rules
 
-buckets-fit-requires : tie.Need-buckets-fit-requires
+buckets-fit-requires : tie.Need-buckets_fit-requires
 buckets-fit-requires c κs =
-    let g = c.before.before.before.before in
-    record { nodes_are = g.before.saved-nodes.ensures.0; size = g.if3.false }
+    let g = c in
+    record { nodes_are = g.saved_nodes-nodes.ensures.0; size = g.if-bytes-nodes.false }
 
-returns-4 : tie.Need-returns-4
+returns-4 : tie.Need-returns
 returns-4 c =
-    let z = c.before.before in
-    let k = z.before.before in
-    let g = k.before in
-    let n = g.before in
-    let f = n.before.before in
-    let h = f.before in
-    let a = h.before.before.before.args in
+    let z = c in
+    let k = z in
+    let g = k in
+    let n = g in
+    let f = n in
+    let h = f in
+    let a = h.args in
     c.buckets_fit.ensures
-    ∙ fits_by a.s.now a.bytes.now (num k.local-key.result) z.size.result k.local-key.ensures z.size.ensures (sym h.holds-nothing.ensures ∙ not-false _ f.if1.false)
-    (g.if3.false ∙ ap (λ (j : ℕ). num_buckets + j * node_size) n.saved-nodes.ensures.0)
+    ∙ fits_by a.s.now a.bytes.now (num k.local_key-local.result) z.size-max_incoming.result k.local_key-local.ensures z.size-max_incoming.ensures (sym h.holds_nothing.ensures ∙ not-false _ f.if-not-holds_nothing.false-raw)
+    (g.if-bytes-nodes.false ∙ ap (λ (j : ℕ). num_buckets + j * node_size) n.saved_nodes-nodes.ensures.0)
 
-pub load-fits-spec : {M : Type 1} → statement M
-load-fits-spec =
+pub load_fits_spec : {M : Type 1} → statement M
+load_fits_spec =
     tie.close
     (tie.spec
     holds-nothing-requires

@@ -6,31 +6,31 @@ use borrow.Author.Rules.{rules}
 use Rattle.on_key.proofs.asked.Statement.{statement}
 use Rattle.on_key.proofs.asked.Tie as tie
 
-asked-storage-requires : tie.Need-asked-storage-requires
+asked-storage-requires : tie.Need-asked_storage-q-requires
 asked-storage-requires c κs = search rules
 
-returns : tie.Need-returns
+returns : tie.Need-returns-then-q-ne0
 returns c =
-    let a = c.before.before.before.before.args in
-    passed_on _ c.before.asked-storage.ensures c.if1.true (λ n e. fails_two a.s.now a.key.now a.codes none n e)
+    let a = c.args in
+    passed_on _ c.asked_storage-q.ensures c.if-q-ne0.true (λ n e. fails_two a.s.now a.key.now a.codes none n e)
 
-returns-2 : tie.Need-returns-2
+returns-2 : tie.Need-returns-then-key-ne-KEY
 returns-2 c =
-    let i = c.before.before in
-    let a = i.before.before.before.args in
-    fails_key a.s.now a.key.now a.codes none (refusal_none _ i.asked-storage.ensures c.before.if1.false) (ne_eqb _ _ c.if2.true)
+    let i = c in
+    let a = i.args in
+    fails_key a.s.now a.key.now a.codes none (refusal_none _ i.asked_storage-q.ensures c.if-q-ne0.false) (ne_eqb _ _ c.if-key-ne-KEY.true)
 
-returns-3 : tie.Need-returns-3
+returns-3 : tie.Need-returns-then-not-codes
 returns-3 c =
-    let i = c.before.before.before in
-    let a = i.before.before.before.args in
-    fails_codes a.s.now a.key.now a.codes none (refusal_none _ i.asked-storage.ensures c.before.before.if1.false) (eq-eqb _ _ c.before.if2.false) (not-true _ c.if3.true)
+    let i = c in
+    let a = i.args in
+    fails_codes a.s.now a.key.now a.codes none (refusal_none _ i.asked_storage-q.ensures c.if-q-ne0.false) (eq-eqb _ _ c.if-key-ne-KEY.false) (not-true _ c.if-not-codes.true-raw)
 
-returns-4 : tie.Need-returns-4
+returns-4 : tie.Need-returns
 returns-4 c =
-    let i = c.before.before.before in
-    let a = i.before.before.before.args in
-    passes_five a.s.now a.key.now a.codes none (refusal_none _ i.asked-storage.ensures c.before.before.if1.false) (eq-eqb _ _ c.before.if2.false) (not-false _ c.if3.false) refl
+    let i = c in
+    let a = i.args in
+    passes_five a.s.now a.key.now a.codes none (refusal_none _ i.asked_storage-q.ensures c.if-q-ne0.false) (eq-eqb _ _ c.if-key-ne-KEY.false) (not-false _ c.if-not-codes.false-raw) refl
 
-pub asked-spec : {M : Type 1} → statement M
-asked-spec = tie.close (tie.spec asked-storage-requires returns returns-2 returns-3 returns-4)
+pub asked_spec : {M : Type 1} → statement M
+asked_spec = tie.close (tie.spec asked-storage-requires returns returns-2 returns-3 returns-4)

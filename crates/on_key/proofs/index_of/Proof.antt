@@ -7,16 +7,16 @@ use Rattle.on_key.proofs.index_of.Statement.{statement}
 use Rattle.on_key.proofs.index_of.Tie as tie
 
 -- src/lib.rt:84:9
-local-key-requires : tie.Need-local-key-requires
+local-key-requires : tie.Need-local_key-local-requires
 local-key-requires c κs = search rules
 
 -- src/lib.rt:85:5
-bucket-index-requires : tie.Need-bucket-index-requires
+bucket-index-requires : tie.Need-bucket_index-requires
 bucket-index-requires c κs = search rules
 
 -- src/lib.rt:80:1
 returns : tie.Need-returns
-returns c = c.bucket_index_lem.ensures ∙ ap (λ (k : ℕ). bucket_index k (num c.before.before.before.args.key)) c.before.local-key.ensures
+returns c = c.bucket_index.ensures ∙ ap (λ (k : ℕ). bucket_index k (num c.args.key)) c.local_key-local.ensures
 
-pub index-of-spec : {M : Type 1} → statement M
-index-of-spec = tie.close (tie.spec local-key-requires bucket-index-requires returns)
+pub index_of_spec : {M : Type 1} → statement M
+index_of_spec = tie.close (tie.spec local-key-requires bucket-index-requires returns)

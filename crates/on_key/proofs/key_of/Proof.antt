@@ -14,8 +14,8 @@ load-requires c κs = search rules
 -- src/lib.rt:72:1
 returns : tie.Need-returns
 returns c =
-    let o = c.before.before in
+    let o = c in
     c.load.ensures ∙ ap number (part_all o.args.key.now key_size (omega (arith, o.requires)))
 
-pub key-of-spec : {M : Type 1} → statement M
-key-of-spec = tie.close (tie.spec load-requires returns)
+pub key_of_spec : {M : Type 1} → statement M
+key_of_spec = tie.close (tie.spec load-requires returns)

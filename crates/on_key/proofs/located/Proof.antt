@@ -12,69 +12,69 @@ use Rattle.on_key.proofs.Steps.{index_told, key_formed_lem}
 use Rattle.on_key.proofs.located.Statement.{statement}
 use Rattle.on_key.proofs.located.Tie as tie
 
-key-of-requires : tie.Need-key-of-requires
+key-of-requires : tie.Need-key_of-k-requires
 key-of-requires c κs = search rules
 
-index-of-requires : tie.Need-index-of-requires
+index-of-requires : tie.Need-index_of-index-requires
 index-of-requires c κs = search rules
 
-enum_told : tie.Need-enum-told
+enum_told : tie.Need-enum_told-1
 enum_told c = search rules
 
-enum-known-index : tie.Need-enum-known-index
+enum-known-index : tie.Need-enum_known-index
 enum-known-index c = search rules
 
 -- the key's bucket
-module _ (c : tie.After-index) where
-  abbrev found : tie.After-index-of
-  found = c.before.before
+module _ (c : tie.In-At) where
+  abbrev found : tie.After-index_of-index
+  found = c.before
 
   abbrev o : tie.Start
   o = found.before.before.before.before
 
   abbrev i : ℕ
-  i = c.index.given.0.0
+  i = c.in-At.i
 
   at : index_in (table_of o.args.s.now) (number o.args.key.now) ≡ some i
-  at = index_told o.args.s.now o.args.key.now found.before.key_of.ensures found.index_of.ensures c.index.given.1
+  at = index_told o.args.s.now o.args.key.now found.key_of-k.ensures found.index_of-index.ensures c.in-At.is
 
   below : i < num_buckets
   below = bucket_index_below (table_of o.args.s.now).settings.local_key (number o.args.key.now) i at
 
-bucket-formed-at-requires : tie.Need-bucket-formed-at-requires
-bucket-formed-at-requires c κs = (omega (arith, (o c.before).pre.0.0), below c.before)
+bucket-formed-at-requires : tie.Need-bucket_formed_at-requires
+bucket-formed-at-requires c κs = (omega (arith, (o c).requires.0.0), below c)
 
-returns : tie.Need-returns
+returns : tie.Need-returns-then-not-bucket_formed_at
 returns c =
-    let b = c.before in
-    let n = b.before.before in
-    let a = (o n).args in
-    (refl, key_formed_lem a.s.now a.key.now (at n) (sym (not-true _ c.if1.true) ∙ b.bucket-formed-at.ensures))
+    let b = c in
+    let n = b in
+    let a = (o n.before.before).args in
+    (refl, key_formed_lem a.s.now a.key.now (at n.before.before) (sym (not-true _ c.if-not-bucket_formed_at.true-raw) ∙ b.bucket_formed_at.ensures))
 
-returns-2 : tie.Need-returns-2
+returns-2 : tie.Need-returns-in-Nothing
 returns-2 c =
-    let x = c.before.before in
-    let a = x.before.before.before.before.args in
-    index_told a.s.now a.key.now x.before.key_of.ensures x.index_of.ensures c.enum_told.given.1
+    let x = c in
+    let a = x.args in
+    index_told a.s.now a.key.now x.key_of-k.ensures x.index_of-index.ensures c.in-Nothing.is
 
-returns-3 : tie.Need-returns-3
+returns-3 : tie.Need-returns-else-not-bucket_formed_at
 returns-3 c =
-    let b = c.before in
-    let n = b.before.before in
+    let b = c in
+    let n = b in
     record {
-      key_is = (found n).before.key_of.ensures;
-      index = at n;
+      key_is = (found n.before.before).key_of-k.ensures;
+      index = at n.before.before;
       ready =
           record {
-            size = (o n).requires.0.0;
-            header = (o n).requires.0.1;
-            below = below n;
-            bucket = sym b.bucket-formed-at.ensures ∙ not-false _ c.if1.false;
+            size = (o n.before.before).requires.0.0;
+            header = (o n.before.before).requires.0.1;
+            below = below n.before.before;
+            bucket = sym b.bucket_formed_at.ensures ∙ not-false _ c.if-not-bucket_formed_at.false-raw;
           };
     }
 
-pub located-spec : {M : Type 1} → statement M
-located-spec =
+pub located_spec : {M : Type 1} → statement M
+located_spec =
     tie.close
     (tie.spec
     key-of-requires

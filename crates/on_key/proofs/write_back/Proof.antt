@@ -13,34 +13,34 @@ use Rattle.on_key.proofs.write_back.Statement.{statement}
 use Rattle.on_key.proofs.write_back.Tie as tie
 
 -- src/lib.rt:126:5
-push-record-requires : tie.Need-push-record-requires
+push-record-requires : tie.Need-push_record-requires
 push-record-requires c κs =
-    let o = c.before.before in
+    let o = c in
     (o.requires.0.size, (o.requires.0.header, (room o.args.s.now (records_of o.args.applied) o.requires.1.0, o.requires.1.1.0)))
 
 -- src/lib.rt:127:5
-store-bucket-requires : tie.Need-store-bucket-requires
+store-bucket-requires : tie.Need-store_bucket-requires
 store-bucket-requires c κs =
-    let p = c.before.before.before in
-    let o = p.before.before.before in
+    let p = c in
+    let o = p in
     let s = o.args.s.now in
     let rs = records_of o.args.applied in
-    (ap length p.push-record.ensures ∙ length_pushed s rs o.requires.0.size (room s rs o.requires.1.0), (o.requires.0.below, o.requires.1.1.1))
+    (ap length p.push_record.ensures ∙ length_pushed s rs o.requires.0.size (room s rs o.requires.1.0), (o.requires.0.below, o.requires.1.1.1))
 
 -- src/lib.rt:119:1
-same_length : tie.Need-same-length
+same_length : tie.Need-shape_of-s
 same_length c = search rules
 
 -- src/lib.rt:119:1
 returns : tie.Need-returns
 returns c =
-    let p = c.before.before.before.before.before.before in
-    let o = p.before.before.before in
+    let p = c in
+    let o = p in
     let s = o.args.s.now in
     let rs = records_of o.args.applied in
-    c.before.before.store-bucket.ensures ∙ ap (λ (r : List ℕ). splice r (bucket_at o.args.i) (bucket_bytes (bucket_of o.args.b))) p.push-record.ensures
+    c.store_bucket.ensures ∙ ap (λ (r : List ℕ). splice r (bucket_at o.args.i) (bucket_bytes (bucket_of o.args.b))) p.push_record.ensures
     ∙ written_back s rs o.args.i (bucket_of o.args.b)
 
-pub write-back-spec : {M : Type 1} → statement M
-write-back-spec =
+pub write_back_spec : {M : Type 1} → statement M
+write_back_spec =
     tie.close (tie.spec push-record-requires store-bucket-requires same_length returns)

@@ -5,7 +5,7 @@ use Rattle.places.proofs.has_state.Statement.{statement}
 use Rattle.places.proofs.has_state.Tie as tie
 
 -- src/lib.rt:114:9
-in-range-requires : tie.Need-in-range-requires
+in-range-requires : tie.Need-in_range-fits-requires
 in-range-requires c κs = search rules
 
 words : (s : tie.Start) → Words s.args.node.key
@@ -15,5 +15,5 @@ words s = omega arith
 returns : tie.Need-returns
 returns c = (cc, words c.before.before)
 
-pub has-state-spec : {M : Type 1} → statement M
-has-state-spec = tie.close (tie.spec in-range-requires returns)
+pub has_state_spec : {M : Type 1} → statement M
+has_state_spec = tie.close (tie.spec in-range-requires returns)

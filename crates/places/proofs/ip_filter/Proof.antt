@@ -15,32 +15,32 @@ use Rattle.places.proofs.Laws.{flag≤1, passing_step, passing_select, passes_pl
 use Rattle.places.proofs.ip_filter.Statement.{statement}
 use Rattle.places.proofs.ip_filter.Tie as tie
 
-abbrev invariant-loop : tie.invariant-loop
+abbrev invariant-loop : tie.invariant-loop-i
 invariant-loop count value limit nodes n found₀ i₀ found i = (i ≤ n) × (found ≤ i) × (passing (λ (n : Node). counts (value_of value) (node_of n).value) (take n nodes) ≡ found + passing (λ (n : Node). counts (value_of value) (node_of n).value) (slice i n nodes))
 
-abbrev decreases-loop : tie.decreases-loop
+abbrev decreases-loop : tie.decreases-loop-i
 decreases-loop count value limit nodes n found₀ i₀ found i = n - i
 
 -- src/lib.rt:58:9
-returns : tie.Need-returns invariant-loop decreases-loop
+returns : tie.Need-returns-then-value-ne1 invariant-loop decreases-loop
 returns c =
-    let a = c.before.before.args in
-    passes_plain a.value a.limit (map node_of (take a.count a.t1)) (ne_eqb _ _ c.if1.true)
+    let a = c.args in
+    passes_plain a.value a.limit (map node_of (take a.count a.nodes)) (ne_eqb _ _ c.if-value-ne1.true)
 
 -- src/lib.rt:60:9
-within-requires : tie.Need-within-requires invariant-loop decreases-loop
+within-requires : tie.Need-within-n-requires invariant-loop decreases-loop
 within-requires c κs = search rules
 
 -- src/lib.rt:63:5
-loop-holds : tie.Need-loop-init invariant-loop decreases-loop
+loop-holds : tie.Need-loop-i-init invariant-loop decreases-loop
 loop-holds c = search rules
 
 -- src/lib.rt:64:20
-mul-node : tie.Need-overflow-mul-node invariant-loop decreases-loop
+mul-node : tie.Need-offset_bounds-nodes-i invariant-loop decreases-loop
 mul-node c = search rules
 
 -- src/lib.rt:64:20
-array-copy-out-node : tie.Need-array-copy-out-node invariant-loop decreases-loop
+array-copy-out-node : tie.Need-bounds-nodes-i invariant-loop decreases-loop
 array-copy-out-node c = search rules
 
 -- src/lib.rt:65:18
@@ -48,49 +48,49 @@ counts-requires : tie.Need-counts-requires invariant-loop decreases-loop
 counts-requires c κs = search rules
 
 -- src/lib.rt:65:18
-cast-found : tie.Need-overflow-cast-found invariant-loop decreases-loop
+cast-found : tie.Need-overflow_cast-found invariant-loop decreases-loop
 cast-found c = search rules
 
 -- src/lib.rt:65:9
-add-found : tie.Need-overflow-add-found invariant-loop decreases-loop
+add-found : tie.Need-overflow_add-found invariant-loop decreases-loop
 add-found c = omega (arith, flag≤1 c.counts.result)
 
 -- src/lib.rt:66:9
-add-i : tie.Need-overflow-add-i invariant-loop decreases-loop
+add-i : tie.Need-overflow_add-i invariant-loop decreases-loop
 add-i c = search rules
 
 -- src/lib.rt:63:5
-loop-less : tie.Need-loop-smaller invariant-loop decreases-loop
+loop-less : tie.Need-loop-i-smaller invariant-loop decreases-loop
 loop-less c = search rules
 
 -- src/lib.rt:63:5
-loop-again : tie.Need-loop-preserved invariant-loop decreases-loop
+loop-again : tie.Need-loop-i-preserved invariant-loop decreases-loop
 loop-again c =
     let b = c.before.before.before in
     let w = b.before in
-    let a = w.before.before.before.args in
-    let n = w.within.result in
-    let len : length a.t1 ≡ 16 = search rules in
-    let step = passing_step (λ (n : Node). counts (value_of a.value) (node_of n).value) a.t1 n b.loop.i _ _ (omega arith) (omega arith) c.counts.ensures in
+    let a = w.args in
+    let n = w.within-n.result in
+    let len : length a.nodes ≡ 16 = search rules in
+    let step = passing_step (λ (n : Node). counts (value_of a.value) (node_of n).value) a.nodes n b.loop-i.i _ _ (omega arith) (omega arith) c.counts.ensures in
     omega (arith, flag≤1 c.counts.result)
 
 -- src/lib.rt:54:1
-returns-2 : tie.Need-returns-2 invariant-loop decreases-loop
+returns-2 : tie.Need-returns invariant-loop decreases-loop
 returns-2 c =
     let b = c.before in
     let w = b.before in
-    let a = w.before.before.before.args in
-    let n = w.within.result in
-    let len : length a.t1 ≡ 16 = search rules in
-    let i-n : b.loop.i ≡ n = omega arith in
-    let end : passing (λ (n : Node). counts (value_of a.value) (node_of n).value) (slice b.loop.i n a.t1) ≡ 0 = rw (i-n, slice_empty) in
-    let all : passing (λ (n : Node). counts (value_of a.value) (node_of n).value) (take n a.t1) ≡ b.loop.found = omega arith in
-    passes_counted a.value a.limit (map node_of (take a.count a.t1)) (eq-eqb _ _ w.before.if1.false) b.loop.found
-    (sym all ∙ passing_select (λ (n : model.Node). counts (value_of a.value) n.value) node_of (take n a.t1)
-    ∙ ap (λ (ns : List Node). length (counted (value_of a.value) (map node_of ns))) (w.within.ensures.1 a.t1 len))
+    let a = w.args in
+    let n = w.within-n.result in
+    let len : length a.nodes ≡ 16 = search rules in
+    let i-n : b.loop-i.i ≡ n = omega arith in
+    let end : passing (λ (n : Node). counts (value_of a.value) (node_of n).value) (slice b.loop-i.i n a.nodes) ≡ 0 = rw (i-n, slice_empty) in
+    let all : passing (λ (n : Node). counts (value_of a.value) (node_of n).value) (take n a.nodes) ≡ b.loop-i.found = omega arith in
+    passes_counted a.value a.limit (map node_of (take a.count a.nodes)) (eq-eqb _ _ w.if-value-ne1.false) b.loop-i.found
+    (sym all ∙ passing_select (λ (n : model.Node). counts (value_of a.value) n.value) node_of (take n a.nodes)
+    ∙ ap (λ (ns : List Node). length (counted (value_of a.value) (map node_of ns))) (w.within-n.ensures.1 a.nodes len))
 
-pub ip-filter-spec : {M : Type 1} → statement M
-ip-filter-spec =
+pub ip_filter_spec : {M : Type 1} → statement M
+ip_filter_spec =
     tie.close
     (tie.spec
     invariant-loop

@@ -29,12 +29,12 @@ module _ (o : tie.Start) where
   direction = o.args.node.status.direction
 
   low-state : state ≤ 1
-  low-state = leb-true state 1 (and_left (leb state 1) (leb direction 1 && value_codes o.args.node.value) o.pre.1)
+  low-state = leb-true state 1 (and_left (leb state 1) (leb direction 1 && value_codes o.args.node.value) o.requires.1)
 
   low-direction : direction ≤ 1
   low-direction =
       leb-true direction 1
-      (and_left (leb direction 1) (value_codes o.args.node.value) (and_right (leb state 1) (leb direction 1 && value_codes o.args.node.value) o.pre.1))
+      (and_left (leb direction 1) (value_codes o.args.node.value) (and_right (leb state 1) (leb direction 1 && value_codes o.args.node.value) o.requires.1))
 
   given : optional direction ≡ some (is_one direction)
   given = given_direction direction low-direction
@@ -42,25 +42,25 @@ module _ (o : tie.Start) where
 holds-requires : tie.Need-holds-requires
 holds-requires c κs = search rules
 
-insert-reason-requires : tie.Need-insert-reason-requires
+insert-reason-requires : tie.Need-insert_reason-requires
 insert-reason-requires c κs = search rules
 
-returns : tie.Need-returns
+returns : tie.Need-returns-then-not-holds
 returns c =
-    let h = c.before.before in
-    let o = h.before.before in
+    let h = c in
+    let o = h in
     let b = o.args.b in
-    tells_as _ (inserts (settings_of b) (node_of o.args.node) (bucket_of b) (sym h.holds.ensures ∙ not-true _ c.before.if1.true)) c.insert-reason.ensures
+    tells_as _ (inserts (settings_of b) (node_of o.args.node) (bucket_of b) (sym h.holds.ensures ∙ not-true _ c.if-not-holds.true-raw)) c.insert_reason.ensures
 
-update-status-sound-requires : tie.Need-update-status-sound-requires
-update-status-sound-requires c κs = let o = c.before.before.before in (o.requires.0, (low-state o, omega (arith, low-direction o)))
+update-status-sound-requires : tie.Need-update_status_sound-u-requires
+update-status-sound-requires c κs = let o = c in (o.requires.0, (low-state o.before.before.before, omega (arith, low-direction o.before.before.before)))
 
-is-failed-requires : tie.Need-is-failed-requires
+is-failed-requires : tie.Need-is_failed-requires
 is-failed-requires c κs = search rules
 
 -- the status's step failed, as it was tested
-module _ (f : tie.After-is-failed) where
-  abbrev tested : tie.Else1
+module _ (f : tie.After-is_failed) where
+  abbrev tested : tie.Else-not-holds
   tested = f.before.before.before
 
   abbrev start : tie.Start
@@ -76,42 +76,42 @@ module _ (f : tie.After-is-failed) where
   step d = rules.update_status settings (num start.args.node.key) (is_one (state start)) d bucket
 
   held : rules.holds (num start.args.node.key) bucket ≡ true
-  held = sym tested.before.holds.ensures ∙ not-false _ tested.if1.left
+  held = sym tested.holds.ensures ∙ not-false _ tested.if-not-holds.false-raw
 
-  failed : (t : Bool) → f.is-failed.result ≡ t → is_failed (step (some (is_one (direction start)))).0 ≡ t
+  failed : (t : Bool) → f.is_failed.result ≡ t → is_failed (step (some (is_one (direction start)))).0 ≡ t
   failed t e =
-      ap (λ (d : Option Bool). is_failed (step d).0) (sym (given start)) ∙ ap is_failed (sym f.before.before.update-status-sound.ensures.0) ∙ sym f.is-failed.ensures ∙ e
+      ap (λ (d : Option Bool). is_failed (step d).0) (sym (given start)) ∙ ap is_failed (sym f.update_status_sound-u.ensures.0) ∙ sym f.is_failed.ensures ∙ e
 
-status-reason-requires : tie.Need-status-reason-requires
-status-reason-requires c κs = let o = start c.before in (o.pre.0, (low-state o, omega (arith, low-direction o)))
+status-reason-requires : tie.Need-status_reason-requires
+status-reason-requires c κs = let o = start c.before in (o.requires.0, (low-state o, omega (arith, low-direction o)))
 
-returns-2 : tie.Need-returns-2
+returns-2 : tie.Need-returns-then-is_failed
 returns-2 c =
-    let f = c.before.before in
-    let o = start f in
+    let f = c in
+    let o = start f.before.before in
     tells_as _
-    (ap (λ (d : Option Bool). status_reason (settings f) (num o.args.node.key) (is_one (state o)) d (bucket f)) (given o)
-    ∙ updates_failed (settings f) (node_of o.args.node) (bucket f) (held f) (failed f _ c.before.if2.true))
-    c.status-reason.ensures
+    (ap (λ (d : Option Bool). status_reason (settings f.before.before) (num o.args.node.key) (is_one (state o)) d (bucket f.before.before)) (given o)
+    ∙ updates_failed (settings f.before.before) (node_of o.args.node) (bucket f.before.before) (held f.before.before) (failed f.before.before _ c.if-is_failed.true))
+    c.status_reason.ensures
 
-value-reason-requires : tie.Need-value-reason-requires
+value-reason-requires : tie.Need-value_reason-requires
 value-reason-requires c κs = search rules
 
-returns-3 : tie.Need-returns-3
+returns-3 : tie.Need-returns
 returns-3 c =
-    let e = c.before.before in
-    let f = e.before in
-    let o = start f in
+    let e = c in
+    let f = e in
+    let o = start f.before.before.before in
     let k = num o.args.node.key in
     let v = value_of o.args.node.value in
     tells_as _
-    (told f.before.before.update-status-sound.ensures.1 (λ (s : rules.BucketSettings) (m : rules.Bucket). value_reason s k v m)
-    ∙ ap (λ (d : Option Bool). value_reason (settings f) k v (step f d).1) (given o)
-    ∙ updates (settings f) (node_of o.args.node) (bucket f) (held f) (failed f _ e.if2.false))
-    c.value-reason.ensures
+    (told f.update_status_sound-u.ensures.1 (λ (s : rules.BucketSettings) (m : rules.Bucket). value_reason s k v m)
+    ∙ ap (λ (d : Option Bool). value_reason (settings f.before.before.before) k v (step f.before.before.before d).1) (given o)
+    ∙ updates (settings f.before.before.before) (node_of o.args.node) (bucket f.before.before.before) (held f.before.before.before) (failed f.before.before.before _ e.if-is_failed.false))
+    c.value_reason.ensures
 
-pub insert-or-update-reason-spec : {M : Type 1} → statement M
-insert-or-update-reason-spec =
+pub insert_or_update_reason_spec : {M : Type 1} → statement M
+insert_or_update_reason_spec =
     tie.close
     (tie.spec
     holds-requires

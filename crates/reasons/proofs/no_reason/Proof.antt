@@ -4,11 +4,11 @@ use borrow.Author.Rules.{rules}
 use Rattle.reasons.proofs.no_reason.Statement.{statement}
 use Rattle.reasons.proofs.no_reason.Tie as tie
 
-zero-requires : tie.Need-zero-requires
+zero-requires : tie.Need-zero-z-requires
 zero-requires c κs = search rules
 
 returns : tie.Need-returns
-returns c = tells _ c.before.before.requires _ (λ bs. refl)
+returns c = tells _ c.requires _ (λ bs. refl)
 
-pub no-reason-spec : {M : Type 1} → statement M
-no-reason-spec = tie.close (tie.spec zero-requires returns)
+pub no_reason_spec : {M : Type 1} → statement M
+no_reason_spec = tie.close (tie.spec zero-requires returns)

@@ -12,34 +12,34 @@ use borrow.Author.Rules.{rules}
 use Rattle.reasons.proofs.value_reason.Statement.{statement}
 use Rattle.reasons.proofs.value_reason.Tie as tie
 
-position-requires : tie.Need-position-requires
+position-requires : tie.Need-position-pos-requires
 position-requires c κs = search rules
 
-value-reason-at-requires : tie.Need-value-reason-at-requires
+value-reason-at-requires : tie.Need-value_reason_at-requires
 value-reason-at-requires c κs = search rules
 
-returns : tie.Need-returns
+returns : tie.Need-returns-then-pos-count
 returns c =
-    let i = c.before.before in
-    let o = i.before.before in
+    let i = c in
+    let o = i in
     let b = o.args.b in
     let k = num o.args.key in
-    let e : i.position.result ≡ position k (held_of b) = omega (arith, i.position.ensures) in
-    tells_as _ (ap (λ (j : ℕ). value_reason (settings_of b) j (value_of o.args.value) (bucket_of b)) (found_at b o.requires k i.position.result e c.before.if1.true)) c.value-reason-at.ensures
+    let e : i.position-pos.result ≡ position k (held_of b) = omega (arith, i.position-pos.ensures) in
+    tells_as _ (ap (λ (j : ℕ). value_reason (settings_of b) j (value_of o.args.value) (bucket_of b)) (found_at b o.requires k i.position-pos.result e c.if-pos-count.true)) c.value_reason_at.ensures
 
-pending-reason-requires : tie.Need-pending-reason-requires
+pending-reason-requires : tie.Need-pending_reason-requires
 pending-reason-requires c κs = search rules
 
-returns-2 : tie.Need-returns-2
+returns-2 : tie.Need-returns
 returns-2 c =
-    let i = c.before.before in
-    let o = i.before.before in
+    let i = c in
+    let o = i in
     let b = o.args.b in
     let k = num o.args.key in
-    let e : i.position.result ≡ position k (held_of b) = omega (arith, i.position.ensures) in
-    tells_as _ (value_absent (settings_of b) k (value_of o.args.value) (bucket_of b) (absent_at b o.requires k i.position.result e c.before.if1.false)) c.pending-reason.ensures
+    let e : i.position-pos.result ≡ position k (held_of b) = omega (arith, i.position-pos.ensures) in
+    tells_as _ (value_absent (settings_of b) k (value_of o.args.value) (bucket_of b) (absent_at b o.requires k i.position-pos.result e c.if-pos-count.false)) c.pending_reason.ensures
 
-pub value-reason-spec : {M : Type 1} → statement M
-value-reason-spec =
+pub value_reason_spec : {M : Type 1} → statement M
+value_reason_spec =
     tie.close
     (tie.spec position-requires value-reason-at-requires returns pending-reason-requires returns-2)

@@ -14,75 +14,75 @@ use borrow.Author.Rules.{rules}
 use Rattle.saved.proofs.write.Statement.{statement}
 use Rattle.saved.proofs.write.Tie as tie
 
-asked-table-requires : tie.Need-asked-table-requires
+asked-table-requires : tie.Need-asked_table-q-requires
 asked-table-requires c κs = search rules
 
-returns : tie.Need-returns
+returns : tie.Need-returns-then-q-ne0
 returns c =
-    let i = c.before in
-    let a = i.before.before.before.args in
-    refused_early a.out.now a.s.now (refusal_some _ i.asked-table.ensures c.if1.true)
+    let i = c in
+    let a = i.args in
+    refused_early a.out.now a.s.now (refusal_some _ i.asked_table-q.ensures c.if-q-ne0.true)
 
 -- questions 1 and 2 passed
-two : (c : tie.Else1) → failed_of_table c.before.before.before.before.args.s.now ≡ none
-two c = refusal_none _ c.before.asked-table.ensures c.if1.false
+two : (c : tie.Else-q-ne0) → failed_of_table c.args.s.now ≡ none
+two c = refusal_none _ c.asked_table-q.ensures c.if-q-ne0.false
 
-passed : (c : tie.Else1) → PassedTable c.before.before.before.before.args.s.now
+passed : (c : tie.Else-q-ne0) → PassedTable c.args.s.now
 passed c = passed_table _ (two c)
 
-total-requires : tie.Need-total-requires
+total-requires : tie.Need-total-n-requires
 total-requires c κs =
     let p = passed c in
     (p.size, p.formed)
 
-mul-if2 : tie.Need-overflow-mul-if2
+mul-if2 : tie.Need-overflow_mul-n
 mul-if2 c = search rules
 
-add-if2 : tie.Need-overflow-add-if2
+add-if2 : tie.Need-overflow_add-n
 add-if2 c = search rules
 
-returns-2 : tie.Need-returns-2
+returns-2 : tie.Need-returns-then-out-n
 returns-2 c =
-    let n = c.before in
-    let a = n.before.before.before.before.before.args in
-    refused_short a.out.now a.s.now (two n.before) (rw (← n.total.ensures.0) c.if2.true)
+    let n = c in
+    let a = n.args in
+    refused_short a.out.now a.s.now (two n.before.before) (rw (← n.total-n.ensures.0) c.if-out-n.true)
 
 -- and question 6
-room : (c : tie.Else2)
-    → let a = c.before.before.before.before.before.before.args in num_buckets + length (all_nodes (table_of a.s.now)) * node_size ≤ length a.out.now
-room c = rw (← c.before.total.ensures.0) c.if2.false
+room : (c : tie.Else-out-n)
+    → let a = c.args in num_buckets + length (all_nodes (table_of a.s.now)) * node_size ≤ length a.out.now
+room c = rw (← c.total-n.ensures.0) c.if-out-n.false
 
-put-sizes-requires : tie.Need-put-sizes-requires
+put-sizes-requires : tie.Need-put_sizes-requires
 put-sizes-requires c κs =
-    let e = c.before in
-    ((passed e.before.before).size, omega (arith, room e))
+    let e = c in
+    ((passed e.before.before.before).size, omega (arith, room e.before))
 
-put-all-requires : tie.Need-put-all-requires
+put-all-requires : tie.Need-put_all-next-requires
 put-all-requires c κs =
-    let e = c.before.before.before.before.before in
-    let p = passed e.before.before in
-    ((p.size, p.formed), omega (arith, keys_fit _ _ (room e)))
+    let e = c in
+    let p = passed e.before.before.before.before.before.before.before in
+    ((p.size, p.formed), omega (arith, keys_fit _ _ (room e.before.before.before.before.before)))
 
-put-all-requires-2 : tie.Need-put-all-requires-2
+put-all-requires-2 : tie.Need-put_all-requires
 put-all-requires-2 c κs =
-    let k = c.before.before.before in
-    let e = k.before.before.before.before.before.before in
-    let p = passed e.before.before in
-    ((p.size, p.formed), omega (arith, entries_fit _ _ _ (room e) k.put_all_lem.ensures.ends))
+    let k = c in
+    let e = k in
+    let p = passed e.before.before.before.before.before.before.before.before.before.before.before in
+    ((p.size, p.formed), omega (arith, entries_fit _ _ _ (room e.before.before.before.before.before.before.before.before.before) k.put_all-next.ensures.ends))
 
-same_length : tie.Need-same-length
+same_length : tie.Need-shape_of-out
 same_length c = search rules
 
-returns-3 : tie.Need-returns-3
+returns-3 : tie.Need-returns
 returns-3 c =
-    let y = c.before.before in
-    let k = y.before.before.before.before in
-    let z = k.before.before.before.before in
-    let e = z.before.before in
-    let n = e.before in
-    let a = n.before.before.before.before.before.args in
-    answered a.out.now a.s.now (two n.before) (room e) n.total.ensures.0
-    (saved_put (table_of a.s.now) a.out.now (room e) z.put-sizes.ensures k.put_all_lem.ensures y.put-all2.ensures)
+    let y = c in
+    let k = y in
+    let z = k in
+    let e = z in
+    let n = e in
+    let a = n.args in
+    answered a.out.now a.s.now (two n.before.before.before.before.before.before.before.before.before.before.before.before.before.before) (room e.before.before.before.before.before.before.before.before.before.before.before.before) n.total-n.ensures.0
+    (saved_put (table_of a.s.now) a.out.now (room e.before.before.before.before.before.before.before.before.before.before.before.before) z.put_sizes.ensures k.put_all-next.ensures y.put_all.ensures)
 
 pub write_spec : {M : Type 1} → statement M
 write_spec =

@@ -3,14 +3,14 @@ use borrow.Author.Rules.{rules}
 use Rattle.session.proofs.are_threes.Statement.{statement}
 use Rattle.session.proofs.are_threes.Tie as tie
 
-returns : tie.Need-returns
-returns c = rw (ne_eqb _ _ c.if1.true)
+returns : tie.Need-returns-then-numbers-ne0
+returns c = rw (ne_eqb _ _ c.if-numbers-ne0.true)
 
-mul-result : tie.Need-overflow-mul-result
+mul-result : tie.Need-overflow_mul-result
 mul-result c = search rules
 
-returns-2 : tie.Need-returns-2
-returns-2 c = rw (eq-eqb _ _ c.if1.false)
+returns-2 : tie.Need-returns
+returns-2 c = rw (eq-eqb _ _ c.if-numbers-ne0.false)
 
-pub are-threes-spec : {M : Type 1} → statement M
-are-threes-spec = tie.close (tie.spec returns mul-result returns-2)
+pub are_threes_spec : {M : Type 1} → statement M
+are_threes_spec = tie.close (tie.spec returns mul-result returns-2)

@@ -9,46 +9,46 @@ use Rattle.session.proofs.Threes.{Whole, whole_start, whole_entry, whole_next, a
 use Rattle.session.proofs.is_closed.Statement.{statement}
 use Rattle.session.proofs.is_closed.Tie as tie
 
-abbrev invariant-loop : tie.invariant-loop
+abbrev invariant-loop : tie.invariant-loop-i
 invariant-loop closed year month day i₀ i = Whole closed i × (any_of (same_date (date_of year month day)) (dates_of closed) ≡ any_of (same_date (date_of year month day)) (dates_of (drop i closed)))
 
-abbrev decreases-loop : tie.decreases-loop
+abbrev decreases-loop : tie.decreases-loop-i
 decreases-loop closed year month day i₀ i = length closed - i
 
-loop-holds : tie.Need-loop-init invariant-loop decreases-loop
-loop-holds c = (whole_start max_closed c.before.args.closed.now c.before.requires, refl)
+loop-holds : tie.Need-loop-i-init invariant-loop decreases-loop
+loop-holds c = (whole_start max_closed c.args.closed.now c.requires, refl)
 
-is-closed-at-requires : tie.Need-is-closed-at-requires invariant-loop decreases-loop
-is-closed-at-requires c κs = whole_entry c.before.loop.invariant.0 c.loop-test.true
+is-closed-at-requires : tie.Need-is_closed_at-requires invariant-loop decreases-loop
+is-closed-at-requires c κs = whole_entry c.loop-i.invariant.0 c.loop-i-test.true
 
-returns : tie.Need-returns invariant-loop decreases-loop
+returns : tie.Need-returns-then-is_closed_at invariant-loop decreases-loop
 returns c =
-    let o = c.before.before in
-    let l = o.before.loop in
-    let a = o.before.before.before.args in
-    sym (any_passes date_of (same_date (date_of a.year a.month a.day)) a.closed.now l.i l.invariant.1 (whole_entry l.invariant.0 o.loop-test.true) (sym c.before.is-closed-at.ensures ∙ c.if1.true))
+    let o = c in
+    let l = o.loop-i in
+    let a = o.args in
+    sym (any_passes date_of (same_date (date_of a.year a.month a.day)) a.closed.now l.i l.invariant.1 (whole_entry l.invariant.0 o.loop-i-test.true) (sym c.is_closed_at.ensures ∙ c.if-is_closed_at.true))
 
-add-i : tie.Need-overflow-add-i invariant-loop decreases-loop
-add-i c = let o = c.before.before in omega (arith, whole_entry o.before.loop.invariant.0 o.loop-test.true)
+add-i : tie.Need-overflow_add-i invariant-loop decreases-loop
+add-i c = let o = c in omega (arith, whole_entry o.loop-i.invariant.0 o.loop-i-test.true)
 
-loop-less : tie.Need-loop-smaller invariant-loop decreases-loop
-loop-less c = let o = c.before.before in omega (arith, whole_entry o.before.loop.invariant.0 o.loop-test.true)
+loop-less : tie.Need-loop-i-smaller invariant-loop decreases-loop
+loop-less c = let o = c in omega (arith, whole_entry o.loop-i.invariant.0 o.loop-i-test.true)
 
-loop-again : tie.Need-loop-preserved invariant-loop decreases-loop
+loop-again : tie.Need-loop-i-preserved invariant-loop decreases-loop
 loop-again c =
-    let o = c.before.before in
-    let l = o.before.loop in
-    let a = o.before.before.before.args in
-    (whole_next l.invariant.0 o.loop-test.true, any_fails date_of (same_date (date_of a.year a.month a.day)) a.closed.now l.i l.invariant.1 (whole_entry l.invariant.0 o.loop-test.true) (sym c.before.is-closed-at.ensures ∙ c.if1.false))
+    let o = c in
+    let l = o.loop-i in
+    let a = o.args in
+    (whole_next l.invariant.0 o.loop-i-test.true, any_fails date_of (same_date (date_of a.year a.month a.day)) a.closed.now l.i l.invariant.1 (whole_entry l.invariant.0 o.loop-i-test.true) (sym c.is_closed_at.ensures ∙ c.if-is_closed_at.false))
 
-returns-2 : tie.Need-returns-2 invariant-loop decreases-loop
+returns-2 : tie.Need-returns invariant-loop decreases-loop
 returns-2 c =
-    let l = c.before.loop in
-    let a = c.before.before.before.args in
-    sym (any_ends date_of (same_date (date_of a.year a.month a.day)) a.closed.now l.i l.invariant.1 c.loop-test.false)
+    let l = c.loop-i in
+    let a = c.args in
+    sym (any_ends date_of (same_date (date_of a.year a.month a.day)) a.closed.now l.i l.invariant.1 c.loop-i-test.false)
 
-pub is-closed-spec : {M : Type 1} → statement M
-is-closed-spec =
+pub is_closed_spec : {M : Type 1} → statement M
+is_closed_spec =
     tie.close
     (tie.spec
     invariant-loop

@@ -3,27 +3,27 @@ use borrow.Author.Rules.{rules}
 use Rattle.session.proofs.is_date.Statement.{statement}
 use Rattle.session.proofs.is_date.Tie as tie
 
-returns : tie.Need-returns
-returns c = rw (lt-leb _ _ c.if1.true)
+returns : tie.Need-returns-then-year-lt-FIRST_YEAR
+returns c = rw (lt-leb _ _ c.if-year-lt-FIRST_YEAR.true)
 
-returns-2 : tie.Need-returns-2
-returns-2 c = rw (le-leb _ _ c.before.if1.false, lt-leb _ _ c.if2.true)
+returns-2 : tie.Need-returns-then-year-gt-LAST_YEAR
+returns-2 c = rw (le-leb _ _ c.if-year-lt-FIRST_YEAR.false, lt-leb _ _ c.if-year-gt-LAST_YEAR.true)
 
-returns-3 : tie.Need-returns-3
-returns-3 c = rw (le-leb _ _ c.before.before.if1.false, le-leb _ _ c.before.if2.false, lt-leb _ _ c.if3.true)
+returns-3 : tie.Need-returns-then-month-lt1
+returns-3 c = rw (le-leb _ _ c.if-year-lt-FIRST_YEAR.false, le-leb _ _ c.if-year-gt-LAST_YEAR.false, lt-leb _ _ c.if-month-lt1.true)
 
-returns-4 : tie.Need-returns-4
-returns-4 c = rw (le-leb _ _ c.before.before.before.if1.false, le-leb _ _ c.before.before.if2.false, le-leb _ _ c.before.if3.false, lt-leb _ _ c.if4.true)
+returns-4 : tie.Need-returns-then-month-gt12
+returns-4 c = rw (le-leb _ _ c.if-year-lt-FIRST_YEAR.false, le-leb _ _ c.if-year-gt-LAST_YEAR.false, le-leb _ _ c.if-month-lt1.false, lt-leb _ _ c.if-month-gt12.true)
 
-returns-5 : tie.Need-returns-5
-returns-5 c = rw (le-leb _ _ c.before.before.before.before.if1.false, le-leb _ _ c.before.before.before.if2.false, le-leb _ _ c.before.before.if3.false, le-leb _ _ c.before.if4.false, lt-leb _ _ c.if5.true)
+returns-5 : tie.Need-returns-then-day-lt1
+returns-5 c = rw (le-leb _ _ c.if-year-lt-FIRST_YEAR.false, le-leb _ _ c.if-year-gt-LAST_YEAR.false, le-leb _ _ c.if-month-lt1.false, le-leb _ _ c.if-month-gt12.false, lt-leb _ _ c.if-day-lt1.true)
 
-days-in-requires : tie.Need-days-in-requires
+days-in-requires : tie.Need-days_in-requires
 days-in-requires c κs = search rules
 
-returns-6 : tie.Need-returns-6
-returns-6 c = let st = c.before.before.before.before.before.before in rw (le-leb _ _ c.before.before.before.before.before.if1.false, le-leb _ _ c.before.before.before.before.if2.false, le-leb _ _ c.before.before.before.if3.false, le-leb _ _ c.before.before.if4.false, le-leb _ _ c.before.if5.false, ← c.days-in.ensures)
+returns-6 : tie.Need-returns
+returns-6 c = let st = c in rw (le-leb _ _ c.if-year-lt-FIRST_YEAR.false, le-leb _ _ c.if-year-gt-LAST_YEAR.false, le-leb _ _ c.if-month-lt1.false, le-leb _ _ c.if-month-gt12.false, le-leb _ _ c.if-day-lt1.false, ← c.days_in.ensures)
 
-pub is-date-spec : {M : Type 1} → statement M
-is-date-spec =
+pub is_date_spec : {M : Type 1} → statement M
+is_date_spec =
     tie.close (tie.spec returns returns-2 returns-3 returns-4 returns-5 days-in-requires returns-6)

@@ -3,17 +3,17 @@ use Rattle.model.specs.Base.{same}
 use Rattle.session.proofs.is_same_date.Statement.{statement}
 use Rattle.session.proofs.is_same_date.Tie as tie
 
-returns : tie.Need-returns
+returns : tie.Need-returns-then-year-y
 unfolding same
-returns c = rw (ne_eqb _ _ c.if1.true)
+returns c = rw (ne_eqb _ _ c.if-year-y.true)
 
-returns-2 : tie.Need-returns-2
+returns-2 : tie.Need-returns-then-month-m
 unfolding same
-returns-2 c = rw (eq-eqb _ _ c.before.if1.false, ne_eqb _ _ c.if2.true)
+returns-2 c = rw (eq-eqb _ _ c.if-year-y.false, ne_eqb _ _ c.if-month-m.true)
 
-returns-3 : tie.Need-returns-3
+returns-3 : tie.Need-returns
 unfolding same
-returns-3 c = rw (eq-eqb _ _ c.before.if1.false, eq-eqb _ _ c.if2.false)
+returns-3 c = rw (eq-eqb _ _ c.if-year-y.false, eq-eqb _ _ c.if-month-m.false)
 
-pub is-same-date-spec : {M : Type 1} → statement M
-is-same-date-spec = tie.close (tie.spec returns returns-2 returns-3)
+pub is_same_date_spec : {M : Type 1} → statement M
+is_same_date_spec = tie.close (tie.spec returns returns-2 returns-3)

@@ -10,37 +10,37 @@ use borrow.Author.Rules.{rules}
 use Rattle.storage.proofs.load_node.Statement.{statement}
 use Rattle.storage.proofs.load_node.Tie as tie
 
-load-requires : tie.Need-load-requires
+load-requires : tie.Need-load-key-requires
 load-requires c κs = search rules
 
-add-load-value : tie.Need-overflow-add-load-value
+add-load-value : tie.Need-overflow_add-at
 add-load-value c = search rules
 
-load-value-requires : tie.Need-load-value-requires
+load-value-requires : tie.Need-load_value-value-requires
 load-value-requires c κs = search rules
 
-add-t6 : tie.Need-overflow-add-t6
+add-t6 : tie.Need-overflow_add-status
 add-t6 c = search rules
 
-shared-slice-read-t8 : tie.Need-shared-slice-read-t8
+shared-slice-read-t8 : tie.Need-bounds-s-at
 shared-slice-read-t8 c = search rules
 
-add-t9 : tie.Need-overflow-add-t9
+add-t9 : tie.Need-overflow_add-status-2
 add-t9 c = search rules
 
-shared-slice-read-t11 : tie.Need-shared-slice-read-t11
+shared-slice-read-t11 : tie.Need-bounds-s-at-2
 shared-slice-read-t11 c = search rules
 
 returns : tie.Need-returns
 returns c =
-    let a = c.before.before.before.before.before.args in
-    let l = c.before.before.before.load in
+    let a = c.args in
+    let l = c.load-key in
     let w : Words l.result = omega arith in
     let k : l.result ≡ key_of (number (part a.s.now a.at key_size)) = sym (key_of_num l.result w) ∙ ap key_of l.ensures in
     rw (node_at a.s.now a.at) (cc)
 
-pub load-node-spec : {M : Type 1} → statement M
-load-node-spec =
+pub load_node_spec : {M : Type 1} → statement M
+load_node_spec =
     tie.close
     (tie.spec
     load-requires

@@ -7,27 +7,27 @@ use Rattle.storage.proofs.store_node.Tie as tie
 store-requires : tie.Need-store-requires
 store-requires c κs = search rules
 
-add-put-byte : tie.Need-overflow-add-put-byte
+add-put-byte : tie.Need-overflow_add-at
 add-put-byte c = search rules
 
-put-byte-requires : tie.Need-put-byte-requires
+put-byte-requires : tie.Need-put_byte-requires
 put-byte-requires c κs = search rules
 
-add-put-byte-2 : tie.Need-overflow-add-put-byte-2
+add-put-byte-2 : tie.Need-overflow_add-at-2
 add-put-byte-2 c = search rules
 
-put-byte-requires-2 : tie.Need-put-byte-requires-2
+put-byte-requires-2 : tie.Need-put_byte-requires-2
 put-byte-requires-2 c κs = search rules
 
-add-store-value : tie.Need-overflow-add-store-value
+add-store-value : tie.Need-overflow_add-at-3
 add-store-value c = search rules
 
-store-value-requires : tie.Need-store-value-requires
+store-value-requires : tie.Need-store_value-requires
 store-value-requires c κs =
     let st = c.before.before.before.before.before.before.before.before.before.before.before.before.before.before.before.before in
     (omega arith, codes_value st.args.n st.requires.1)
 
-same_length : tie.Need-same-length
+same_length : tie.Need-shape_of-s
 same_length c = search rules
 
 returns : tie.Need-returns
@@ -36,8 +36,8 @@ returns c =
     let a = st.args in
     cc (node_put a.s.now a.at a.n st.requires.1 st.requires.0)
 
-pub store-node-spec : {M : Type 1} → statement M
-store-node-spec =
+pub store_node_spec : {M : Type 1} → statement M
+store_node_spec =
     tie.close
     (tie.spec
     store-requires

@@ -14,53 +14,53 @@ use Rattle.table.proofs.Whole.{new_size, new_key, new_codes, new_made}
 use Rattle.table.proofs.new.Statement.{statement}
 use Rattle.table.proofs.new.Tie as tie
 
-returns : tie.Need-returns
+returns : tie.Need-returns-then-s-ne-STORAGE
 returns c =
-    let a = c.before.before.before.args in
-    new_size a.s.now a.local-key.now a.pending-timeout a.max-incoming a.table_filter a.bucket-filter (ne_eqb _ _ c.if1.true)
+    let a = c.args in
+    new_size a.s.now a.local_key.now a.pending_timeout a.max_incoming a.table_filter a.bucket_filter (ne_eqb _ _ c.if-s-ne-STORAGE.true)
 
-returns-2 : tie.Need-returns-2
+returns-2 : tie.Need-returns-then-local_key-ne-KEY
 returns-2 c =
-    let e = c.before in
-    let a = e.before.before.before.args in
-    new_key a.s.now a.local-key.now a.pending-timeout a.max-incoming a.table_filter a.bucket-filter (eq-eqb _ _ e.if1.false) (ne_eqb _ _ c.if2.true)
+    let e = c in
+    let a = e.args in
+    new_key a.s.now a.local_key.now a.pending_timeout a.max_incoming a.table_filter a.bucket_filter (eq-eqb _ _ e.if-s-ne-STORAGE.false) (ne_eqb _ _ c.if-local_key-ne-KEY.true)
 
-returns-3 : tie.Need-returns-3
+returns-3 : tie.Need-returns-then-not-max_incoming-table_filter
 returns-3 c =
-    let f = c.before in
-    let e = f.before in
-    let a = e.before.before.before.args in
-    new_codes a.s.now a.local-key.now a.pending-timeout a.max-incoming a.table_filter a.bucket-filter (eq-eqb _ _ e.if1.false) (eq-eqb _ _ f.if2.false) (not-true _ c.if3.true)
+    let f = c in
+    let e = f in
+    let a = e.args in
+    new_codes a.s.now a.local_key.now a.pending_timeout a.max_incoming a.table_filter a.bucket_filter (eq-eqb _ _ e.if-s-ne-STORAGE.false) (eq-eqb _ _ f.if-local_key-ne-KEY.false) (not-true _ c.if-not-max_incoming-table_filter.true-raw)
 
-key-of-requires : tie.Need-key-of-requires
+key-of-requires : tie.Need-key_of-k-requires
 key-of-requires c κs = search rules
 
 clear-requires : tie.Need-clear-requires
 clear-requires c κs =
-    let g = c.before.before in
-    let e = g.before.before in
-    let a = e.before.before.before.args in
-    let filters : (leb a.table_filter 1 && leb a.bucket-filter 1) ≡ true = and_right (leb a.max-incoming 16) (leb a.table_filter 1 && leb a.bucket-filter 1) (not-false _ g.if3.false) in
-    (e.if1.false, (and_left (leb a.table_filter 1) (leb a.bucket-filter 1) filters, and_right (leb a.table_filter 1) (leb a.bucket-filter 1) filters))
+    let g = c in
+    let e = g in
+    let a = e.args in
+    let filters : (leb a.table_filter 1 && leb a.bucket_filter 1) ≡ true = and_right (leb a.max_incoming 16) (leb a.table_filter 1 && leb a.bucket_filter 1) (not-false _ g.if-not-max_incoming-table_filter.false-raw) in
+    (e.if-s-ne-STORAGE.false, (and_left (leb a.table_filter 1) (leb a.bucket_filter 1) filters, and_right (leb a.table_filter 1) (leb a.bucket_filter 1) filters))
 
-same_length : tie.Need-same-length
+same_length : tie.Need-shape_of-s
 same_length c = search rules
 
-returns-4 : tie.Need-returns-4
+returns-4 : tie.Need-returns
 returns-4 c =
-    let r = c.before.before in
-    let k = r.before.before in
-    let g = k.before in
-    let f = g.before in
-    let e = f.before in
-    let b = e.before in
-    let o = b.before.before in
+    let r = c in
+    let k = r in
+    let g = k in
+    let f = g in
+    let e = f in
+    let b = e in
+    let o = b in
     let a = o.args in
-    let word : a.pending-timeout < 256 ^ time_size = omega arith in
-    new_made a.s.now a.local-key.now a.pending-timeout a.max-incoming a.table_filter a.bucket-filter (eq-eqb _ _ e.if1.false) (eq-eqb _ _ f.if2.false) (not-false _ g.if3.false)
-    e.if1.false ((λ i. (b.shared-slice-known.given i).fits), word) _
+    let word : a.pending_timeout < 256 ^ time_size = omega arith in
+    new_made a.s.now a.local_key.now a.pending_timeout a.max_incoming a.table_filter a.bucket_filter (eq-eqb _ _ e.if-s-ne-STORAGE.false) (eq-eqb _ _ f.if-local_key-ne-KEY.false) (not-false _ g.if-not-max_incoming-table_filter.false-raw)
+    e.if-s-ne-STORAGE.false ((λ i. (b.shared_slice_known-1.given i).fits), word) _
     (r.clear.ensures
-    ∙ ap (λ (n : ℕ). bytes_of (empty_table (settings_of n a.pending-timeout a.max-incoming a.table_filter a.bucket-filter))) k.key_of.ensures)
+    ∙ ap (λ (n : ℕ). bytes_of (empty_table (settings_of n a.pending_timeout a.max_incoming a.table_filter a.bucket_filter))) k.key_of-k.ensures)
 
 pub new_spec : {M : Type 1} → statement M
 new_spec =

@@ -29,9 +29,9 @@ use Rattle.table.proofs.update_node_status.Statement.{statement}
 use Rattle.table.proofs.update_node_status.Tie as tie
 
 -- the call's arguments
-module _ (b : tie.After-begin-at) where
+module _ (b : tie.After-begin_at-start) where
   abbrev o : tie.Start
-  o = b.before.before.before.before
+  o = b.before.before.before
 
   abbrev s : List ℕ
   s = o.args.s.now
@@ -51,41 +51,41 @@ module _ (b : tie.After-begin-at) where
   abbrev codes : Bool
   codes = leb state 1 && leb direction 2
 
-begin-at-requires : tie.Need-begin-at-requires
+begin-at-requires : tie.Need-begin_at-start-requires
 begin-at-requires c κs = search rules
 
-enum-known-start : tie.Need-enum-known-start
+enum-known-start : tie.Need-enum_known-start
 enum-known-start c = search rules
 
-enum_told : tie.Need-enum-told
+enum_told : tie.Need-enum_told-1
 enum_told c = search rules
 
-enum-known-start-2 : tie.Need-enum-known-start-2
+enum-known-start-2 : tie.Need-enum_known-start-in-At-1
 enum-known-start-2 c = search rules
 
 -- at the key's bucket
-module _ (k : tie.After-start2) where
-  abbrev began : tie.After-begin-at
-  began = k.before.before
+module _ (k : tie.In-At) where
+  abbrev began : tie.After-begin_at-start
+  began = k.before
 
-  at : AtBucket (s began) (key began) (codes began) (some (time began)) k.start2.given.0.0 k.start2.given.0.1.0
-  at = begun (s began) (key began) (some (time began)) refl began.begin-at.ensures k.start2.given.1
+  at : AtBucket (s began) (key began) (codes began) (some (time began)) k.in-At.k k.in-At.i
+  at = begun (s began) (key began) (some (time began)) refl began.begin_at-start.ensures k.in-At.is
 
-mul_at : tie.Need-overflow-mul-at
-mul_at c = let y = (at c.before).ready.below in search rules
+mul_at : tie.Need-overflow_mul-at
+mul_at c = let y = (at c).ready.below in search rules
 
-add_at : tie.Need-overflow-add-at
-add_at c = let y = (at c.before).ready.below in search rules
+add_at : tie.Need-overflow_add-at
+add_at c = let y = (at c).ready.below in search rules
 
-is-quiet-requires : tie.Need-is-quiet-requires
-is-quiet-requires c κs = let y = (at c.before.before).ready in omega (arith, y.size, y.below)
+is-quiet-requires : tie.Need-is_quiet-requires
+is-quiet-requires c κs = let y = (at c).ready in omega (arith, y.size, y.below)
 
 -- where it was asked whether the bucket has a pending
-module _ (n : tie.After-is-quiet) where
-  abbrev here : tie.After-start2
-  here = n.before.before.before
+module _ (n : tie.After-is_quiet) where
+  abbrev here : tie.In-At
+  here = n.before
 
-  abbrev b : tie.After-begin-at
+  abbrev b : tie.After-begin_at-start
   b = began here
 
   abbrev call : KeyCall
@@ -94,111 +94,111 @@ module _ (n : tie.After-is-quiet) where
   abbrev formed : ReadFormed (s b) (key b) call
   formed = own_formed (s b) (key b) call (at here) refl
 
-  quiet : n.is-quiet.result ≡ true → Quiet (part (s b) (bucket_at here.start2.given.0.1.0) bucket_size)
-  quiet t = n.is-quiet.ensures _ _ (at here).ready.bucket t
+  quiet : n.is_quiet.result ≡ true → Quiet (part (s b) (bucket_at here.in-At.i) bucket_size)
+  quiet t = n.is_quiet.ensures _ _ (at here).ready.bucket t
 
   in_range : (state b ≤ 1) × (direction b ≤ 2)
   in_range =
       let p = (passed_five (s b) (key b) (codes b) (some (time b)) (at here).passed).in_range in
       (leb-true (state b) 1 (and_left (leb (state b) 1) (leb (direction b) 2) p), leb-true (direction b) 2 (and_right (leb (state b) 1) (leb (direction b) 2) p))
 
-update-status-requires : tie.Need-update-status-requires
+update-status-requires : tie.Need-update_status-result-requires
 update-status-requires c κs =
-    let n = c.before.before in
-    let y = (at (here n)).ready in
-    ((omega (arith, y.size, y.below), quiet n c.before.if1.true), in_range n)
+    let n = c in
+    let y = (at (here n.before.before)).ready in
+    ((omega (arith, y.size, y.below), quiet n.before.before c.if-is_quiet.true), in_range n.before.before)
 
-same_length : tie.Need-same-length
+same_length : tie.Need-shape_of-s-then-is_quiet
 same_length c = search rules
 
 -- in place
-returns : tie.Need-returns
+returns : tie.Need-returns-then-is_quiet
 returns c =
-    let r = c.before.before in
-    let n = r.before.before.before in
-    in_place_at (s (b n)) (key (b n)) (call n) (at (here n)) (formed n) refl (λ j. ((b n).before.before.before.slice-known.given j).fits) (quiet n r.before.before.if1.true)
-    (λ (u : rules.BucketSettings) (m : ℕ) (x : rules.Bucket). rules.update_status u m (is_one (state (b n))) (optional (direction (b n))) x) r.update-status.ensures Answer.Update (time (b n)) refl refl
+    let r = c in
+    let n = r in
+    in_place_at (s (b n.before.before.before.before.before)) (key (b n.before.before.before.before.before)) (call n.before.before.before.before.before) (at (here n.before.before.before.before.before)) (formed n.before.before.before.before.before) refl (λ j. ((b n.before.before.before.before.before).slice_known-1.given j).fits) (quiet n.before.before.before.before.before r.if-is_quiet.true)
+    (λ (u : rules.BucketSettings) (m : ℕ) (x : rules.Bucket). rules.update_status u m (is_one (state (b n.before.before.before.before.before))) (optional (direction (b n.before.before.before.before.before))) x) r.update_status-result.ensures Answer.Update (time (b n.before.before.before.before.before)) refl refl
 
-apply-at-requires : tie.Need-apply-at-requires
+apply-at-requires : tie.Need-apply_at-a-requires
 apply-at-requires c κs =
-    let n = c.before.before in
-    ((at (here n)).ready, timely (s (b n)) (key (b n)) (codes (b n)) (time (b n)) (at (here n)).passed)
+    let n = c in
+    ((at (here n.before)).ready, timely (s (b n.before)) (key (b n.before)) (codes (b n.before)) (time (b n.before)) (at (here n.before)).passed)
 
-update-status-sound-requires : tie.Need-update-status-sound-requires
+update-status-sound-requires : tie.Need-update_status_sound-r-requires
 update-status-sound-requires c κs =
-    let a = c.before in
-    (a.apply_at.ensures.bucket.sound, in_range a.before.before.before)
+    let a = c in
+    (a.apply_at-a.ensures.bucket.sound, in_range a.before.before.before)
 
-record-of-requires : tie.Need-record-of-requires
-record-of-requires c κs = c.before.before.before.apply_at.ensures.codes
+record-of-requires : tie.Need-record_of-record-requires
+record-of-requires c κs = c.apply_at-a.ensures.codes
 
 -- the bucket that the status step leaves, and the call's records
-module _ (r : tie.After-record-of) where
-  abbrev did : tie.After-update-status-sound
+module _ (r : tie.After-record_of-record) where
+  abbrev did : tie.After-update_status_sound-r
   did = r.before.before
 
-  abbrev applied : tie.After-apply-at
+  abbrev applied : tie.After-apply_at-a
   applied = did.before.before
 
-  abbrev asked : tie.After-is-quiet
-  asked = applied.before.before.before
+  abbrev asked : tie.After-is_quiet
+  asked = applied.before.before
 
   abbrev i : ℕ
-  i = (here asked).start2.given.0.1.0
+  i = (here asked).in-At.i
 
   abbrev does : Effect
   does = effect (call asked) (key (b asked)) (table_of (s (b asked))) i ((table_of (s (b asked))).buckets i)
 
-  step : Stepped UpdateResult (rules.update_status (table_of (s (b asked))).settings.bucket (number (key (b asked))) (is_one (state (b asked))) (optional (direction (b asked))) (rules.apply_pending (table_of (s (b asked))).settings.bucket (time (b asked)) ((table_of (s (b asked))).buckets i)).0) (update_result_of did.update-status-sound.result.result) did.update-status-sound.result.bucket
-  step = stepped applied.apply_at.ensures.bucket (λ (u : rules.BucketSettings) (n : ℕ) (x : rules.Bucket). rules.update_status u n (is_one (state (b asked))) (optional (direction (b asked))) x) (at (here asked)).key_is did.update-status-sound.ensures.0 did.update-status-sound.ensures.1
+  step : Stepped UpdateResult (rules.update_status (table_of (s (b asked))).settings.bucket (number (key (b asked))) (is_one (state (b asked))) (optional (direction (b asked))) (rules.apply_pending (table_of (s (b asked))).settings.bucket (time (b asked)) ((table_of (s (b asked))).buckets i)).0) (update_result_of did.update_status_sound-r.result.result) did.update_status_sound-r.result.bucket
+  step = stepped applied.apply_at-a.ensures.bucket (λ (u : rules.BucketSettings) (n : ℕ) (x : rules.Bucket). rules.update_status u n (is_one (state (b asked))) (optional (direction (b asked))) x) (at (here asked)).key_is did.update_status_sound-r.ensures.0 did.update_status_sound-r.ensures.1
 
-  records : records_of r.record_of.result ≡ does.records
-  records = status_records _ (time (b asked)) _ _ did.update-status-sound.result.bucket applied.apply_at.ensures.bucket applied.apply_at.ensures.records (at (here asked)).key_is r.record_of.ensures.0 (is_one (state (b asked))) (optional (direction (b asked))) step.bucket
+  records : records_of r.record_of-record.result ≡ does.records
+  records = status_records _ (time (b asked)) _ _ did.update_status_sound-r.result.bucket applied.apply_at-a.ensures.bucket applied.apply_at-a.ensures.records (at (here asked)).key_is r.record_of-record.ensures.0 (is_one (state (b asked))) (optional (direction (b asked))) step.bucket
 
 finish-requires : tie.Need-finish-requires
 finish-requires c κs =
-    let r = c.before in
-    ((at (here (asked r))).ready, (r.record_of.ensures.1, (did r).update-status-sound.ensures.1.sound))
+    let r = c in
+    ((at (here (asked r.before))).ready, (r.record_of-record.ensures.1, (did r.before).update_status_sound-r.ensures.1.sound))
 
-same-length-2 : tie.Need-same-length-2
+same-length-2 : tie.Need-shape_of-s-then-not-finish
 same-length-2 c = search rules
 
-returns-2 : tie.Need-returns-2
+returns-2 : tie.Need-returns-then-not-finish
 returns-2 c =
-    let f = c.before.before.before in
-    let r = f.before.before in
-    let n = asked r in
-    ends_full (s (b n)) (key (b n)) (call n) (at (here n)) (formed n) refl _ f.finish.ensures (records r) c.if2.true
+    let f = c in
+    let r = f in
+    let n = asked r.before.before.before.before.before in
+    ends_full (s (b n)) (key (b n)) (call n) (at (here n)) (formed n) refl _ f.finish.ensures (records r.before.before.before.before.before) c.if-not-finish.true-raw
 
-same-length-3 : tie.Need-same-length-3
+same-length-3 : tie.Need-shape_of-s-in-Refused
 same-length-3 c = search rules
 
-returns-3 : tie.Need-returns-3
+returns-3 : tie.Need-returns-in-Refused
 returns-3 c =
-    let b = c.before.before.before in
-    refused_early (s b) (key b) (KeyCall.update_node_status (state b) (direction b) (time b)) _ (begun (s b) (key b) (some (time b)) refl b.begin-at.ensures c.before.start.given.1)
+    let b = c in
+    refused_early (s b.before) (key b.before) (KeyCall.update_node_status (state b.before) (direction b.before) (time b.before)) _ (begun (s b.before) (key b.before) (some (time b.before)) refl b.begin_at-start.ensures c.in-Refused.is)
 
-same-length-4 : tie.Need-same-length-4
+same-length-4 : tie.Need-shape_of-s-in-Local
 same-length-4 c = search rules
 
-returns-4 : tie.Need-returns-4
+returns-4 : tie.Need-returns-in-Local
 returns-4 c =
-    let b = c.before.before in
-    let y = begun (s b) (key b) (some (time b)) refl b.begin-at.ensures c.enum_told.given.1 in
-    answers_self (s b) (key b) (KeyCall.update_node_status (state b) (direction b) (time b)) y.0 refl (λ j. (b.before.before.before.slice-known.given j).fits) y.1
+    let b = c in
+    let y = begun (s b.before) (key b.before) (some (time b.before)) refl b.begin_at-start.ensures c.in-Local.is in
+    answers_self (s b.before) (key b.before) (KeyCall.update_node_status (state b.before) (direction b.before) (time b.before)) y.0 refl (λ j. (b.slice_known-1.given j).fits) y.1
 
-same-length-5 : tie.Need-same-length-5
+same-length-5 : tie.Need-shape_of-s-else-not-finish
 same-length-5 c = search rules
 
-returns-5 : tie.Need-returns-5
+returns-5 : tie.Need-returns-else-not-finish
 returns-5 c =
-    let f = c.before.before.before in
-    let r = f.before.before in
-    let n = asked r in
-    ends (s (b n)) (key (b n)) (call n) (at (here n)) (formed n) refl _ f.finish.ensures (records r) c.if2.false (ap Answer.Update (step r).answer) (step r).bucket
+    let f = c in
+    let r = f in
+    let n = asked r.before.before.before.before.before in
+    ends (s (b n)) (key (b n)) (call n) (at (here n)) (formed n) refl _ f.finish.ensures (records r.before.before.before.before.before) c.if-not-finish.false-raw (ap Answer.Update (step r.before.before.before.before.before).answer) (step r.before.before.before.before.before).bucket
 
-pub update-node-status-spec : {M : Type 1} → statement M
-update-node-status-spec =
+pub update_node_status_spec : {M : Type 1} → statement M
+update_node_status_spec =
     tie.close
     (tie.spec
     begin-at-requires

@@ -13,37 +13,37 @@ use borrow.Author.Rules.{rules}
 use Rattle.table_filter.proofs.asked_filter.Statement.{statement}
 use Rattle.table_filter.proofs.asked_filter.Tie as tie
 
-shared-slice-read-if1 : tie.Need-shared-slice-read-if1
+shared-slice-read-if1 : tie.Need-bounds-s-41
 shared-slice-read-if1 c = search rules
 
-returns : tie.Need-returns
+returns : tie.Need-returns-then-s-ne1
 returns c =
-    let o = c.before.before.before in
+    let o = c in
     let a = o.args in
-    not_run a.s.now a.i (num a.key) (value_of a.value) o.requires.2 (rw (table_filter, ne_eqb (get_or a.s.now table_filter_at 0) 1 c.if1.true))
+    not_run a.s.now a.i (num a.key) (value_of a.value) o.requires.2 (rw (table_filter, ne_eqb (get_or a.s.now table_filter_at 0) 1 c.if-s-ne1.true))
 
-is-duplicate-requires : tie.Need-is-duplicate-requires
+is-duplicate-requires : tie.Need-is_duplicate-requires
 is-duplicate-requires c κs = search rules
 
-returns-2 : tie.Need-returns-2
+returns-2 : tie.Need-returns-then-is_duplicate
 returns-2 c =
-    let o = c.before.before.before.before.before in
+    let o = c in
     let a = o.args in
-    let d = sym c.before.is-duplicate.ensures ∙ c.if2.true in
-    not_run a.s.now a.i (num a.key) (value_of a.value) o.requires.2 (rw (table_filter, c.before.before.if1.false, d))
+    let d = sym c.is_duplicate.ensures ∙ c.if-is_duplicate.true in
+    not_run a.s.now a.i (num a.key) (value_of a.value) o.requires.2 (rw (table_filter, c.if-s-ne1.false, d))
 
 walked-requires : tie.Need-walked-requires
 walked-requires c κs = search rules
 
-returns-3 : tie.Need-returns-3
+returns-3 : tie.Need-returns
 returns-3 c =
-    let e = c.before in
-    let a = e.before.before.before.before.before.args in
-    let on : (table_of a.s.now).settings.table_filter ≡ true = rw (table_filter, e.before.before.if1.false) in
-    is_run a.s.now a.i (num a.key) (value_of a.value) on (sym e.before.is-duplicate.ensures ∙ e.if2.false) c.walked.result c.walked.ensures
+    let e = c in
+    let a = e.args in
+    let on : (table_of a.s.now).settings.table_filter ≡ true = rw (table_filter, e.if-s-ne1.false) in
+    is_run a.s.now a.i (num a.key) (value_of a.value) on (sym e.is_duplicate.ensures ∙ e.if-is_duplicate.false) c.walked.result c.walked.ensures
 
-pub asked-filter-spec : {M : Type 1} → statement M
-asked-filter-spec =
+pub asked_filter_spec : {M : Type 1} → statement M
+asked_filter_spec =
     tie.close
     (tie.spec
     shared-slice-read-if1

@@ -4,13 +4,13 @@ use borrow.Author.Rules.{rules}
 use Rattle.table_filter.proofs.counted.Statement.{statement}
 use Rattle.table_filter.proofs.counted.Tie as tie
 
-shared-slice-read-counted-below : tie.Need-shared-slice-read-counted-below
+shared-slice-read-counted-below : tie.Need-bounds-s-at
 shared-slice-read-counted-below c = search rules
 
-cast-counted-below : tie.Need-overflow-cast-counted-below
+cast-counted-below : tie.Need-overflow_cast-s
 cast-counted-below c = search rules
 
-counted-below-requires : tie.Need-counted-below-requires
+counted-below-requires : tie.Need-counted_below-requires
 counted-below-requires c κs = search rules
 
 returns : tie.Need-returns

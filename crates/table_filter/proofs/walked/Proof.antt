@@ -23,108 +23,108 @@ use Rattle.table_filter.proofs.walked.Statement.{statement}
 use Rattle.table_filter.proofs.walked.Tie as tie
 
 -- the buckets below i were asked and counted
-abbrev invariant-loop : tie.invariant-loop
+abbrev invariant-loop : tie.invariant-loop-i
 invariant-loop s key value n₀ i₀ n i =
     (i ≤ num_buckets)
     × ((n ≤ i * max_nodes_per_bucket)
     × ((all_below i (bucket_formed_at s) ≡ true) × (n ≡ length (select (counts_other (num key) (value_of value)) (held_nodes i (table_of s).buckets)))))
 
-abbrev decreases-loop : tie.decreases-loop
+abbrev decreases-loop : tie.decreases-loop-i
 decreases-loop s key value n₀ i₀ n i = num_buckets - i
 
-abbrev start : tie.At-loop invariant-loop decreases-loop → tie.Start invariant-loop decreases-loop
+abbrev start : tie.At-loop-i invariant-loop decreases-loop → tie.Start invariant-loop decreases-loop
 start l = l.before.before.before.before
 
-buckets-formed-requires : tie.Need-buckets-formed-requires invariant-loop decreases-loop
+buckets-formed-requires : tie.Need-buckets_formed-requires invariant-loop decreases-loop
 buckets-formed-requires c κs = search rules
 
 -- against a value without an address none counts
-returns : tie.Need-returns invariant-loop decreases-loop
+returns : tie.Need-returns-then-buckets_formed invariant-loop decreases-loop
 unfolding bucket_at_formed
 returns c =
-    let b = c.before in
-    let a = b.before.before.before.before.args in
-    (every_formed a.s.now ∙ sym b.buckets-formed.ensures ∙ c.if2.true, filter_no_address max_nodes_per_subnet_table (value_of a.value) _ (no_address a.value b.before.if1.true))
+    let b = c in
+    let a = b.args in
+    (every_formed a.s.now ∙ sym b.buckets_formed.ensures ∙ c.if-buckets_formed.true, filter_no_address max_nodes_per_subnet_table (value_of a.value) _ (no_address a.value b.if-value-ne1.true))
 
-returns-2 : tie.Need-returns-2 invariant-loop decreases-loop
+returns-2 : tie.Need-returns-then-value-ne1 invariant-loop decreases-loop
 unfolding bucket_at_formed
 returns-2 c =
-    let b = c.before in
-    every_formed b.before.before.before.before.args.s.now ∙ sym b.buckets-formed.ensures ∙ c.if2.false
+    let b = c in
+    every_formed b.args.s.now ∙ sym b.buckets_formed.ensures ∙ c.if-buckets_formed.false
 
-loop-holds : tie.Need-loop-init invariant-loop decreases-loop
+loop-holds : tie.Need-loop-i-init invariant-loop decreases-loop
 unfolding held_nodes
 loop-holds c = (omega arith, (omega arith, (all_none _, refl)))
 
-bucket-formed-at-requires : tie.Need-bucket-formed-at-requires invariant-loop decreases-loop
+bucket-formed-at-requires : tie.Need-bucket_formed_at-requires invariant-loop decreases-loop
 bucket-formed-at-requires c κs = search rules
 
-returns-3 : tie.Need-returns-3 invariant-loop decreases-loop
+returns-3 : tie.Need-returns-then-not-bucket_formed_at invariant-loop decreases-loop
 returns-3 c =
-    let b = c.before in
-    let l = b.before.before in
-    let a = (start l).args in
-    every_formed a.s.now ∙ all_fails num_buckets (bucket_formed_at a.s.now) l.loop.i (omega arith) (sym b.bucket-formed-at.ensures ∙ not-true _ c.if3.true)
+    let b = c in
+    let l = b in
+    let a = (start l.before.before.before).args in
+    every_formed a.s.now ∙ all_fails num_buckets (bucket_formed_at a.s.now) l.loop-i.i (omega arith) (sym b.bucket_formed_at.ensures ∙ not-true _ c.if-not-bucket_formed_at.true-raw)
 
-mul-counted : tie.Need-overflow-mul-counted invariant-loop decreases-loop
+mul-counted : tie.Need-overflow_mul-i invariant-loop decreases-loop
 mul-counted c = search rules
 
-add-counted : tie.Need-overflow-add-counted invariant-loop decreases-loop
+add-counted : tie.Need-overflow_add-i invariant-loop decreases-loop
 add-counted c = search rules
 
-counted-requires : tie.Need-counted-requires invariant-loop decreases-loop
+counted-requires : tie.Need-counted-n-requires invariant-loop decreases-loop
 counted-requires c κs =
-    let b = c.before in
-    let l = b.before.before in
-    let a = (start l).args in
-    (omega arith, own_count a.s.now l.loop.i (sym b.bucket-formed-at.ensures ∙ not-false _ c.if3.false))
+    let b = c in
+    let l = b in
+    let a = (start l.before.before.before).args in
+    (omega arith, own_count a.s.now l.loop-i.i (sym b.bucket_formed_at.ensures ∙ not-false _ c.if-not-bucket_formed_at.false-raw))
 
-add-n : tie.Need-overflow-add-n invariant-loop decreases-loop
+add-n : tie.Need-overflow_add-n invariant-loop decreases-loop
 add-n c = search rules
 
-add-i : tie.Need-overflow-add-i invariant-loop decreases-loop
+add-i : tie.Need-overflow_add-i-in-loop-i invariant-loop decreases-loop
 add-i c = search rules
 
-loop-less : tie.Need-loop-smaller invariant-loop decreases-loop
+loop-less : tie.Need-loop-i-smaller invariant-loop decreases-loop
 loop-less c = search rules
 
-loop-again : tie.Need-loop-preserved invariant-loop decreases-loop
+loop-again : tie.Need-loop-i-preserved invariant-loop decreases-loop
 loop-again c =
-    let e = c.before in
-    let b = e.before in
-    let l = b.before.before in
-    let a = (start l).args in
+    let e = c in
+    let b = e in
+    let l = b in
+    let a = (start l.before.before.before.before).args in
     let p = counts_other (num a.key) (value_of a.value) in
     let bs = (table_of a.s.now).buckets in
-    let more = counted_bucket p bs l.loop.i in
-    let here : c.counted.result ≡ length (select p (nodes (bs l.loop.i))) = rw table_bucket c.counted.ensures.0 in
-    let asked : bucket_formed_at a.s.now l.loop.i ≡ true = sym b.bucket-formed-at.ensures ∙ not-false _ e.if3.false in
-    (omega arith, (omega arith, (rw (all_more, l.loop.invariant.1.1.0, asked), omega arith)))
+    let more = counted_bucket p bs l.loop-i.i in
+    let here : c.counted-n.result ≡ length (select p (nodes (bs l.loop-i.i))) = rw table_bucket c.counted-n.ensures.0 in
+    let asked : bucket_formed_at a.s.now l.loop-i.i ≡ true = sym b.bucket_formed_at.ensures ∙ not-false _ e.if-not-bucket_formed_at.false-raw in
+    (omega arith, (omega arith, (rw (all_more, l.loop-i.invariant.1.1.0, asked), omega arith)))
 
 -- at the loop's end all were asked and counted
-module _ (l : tie.At-loop invariant-loop decreases-loop) (e : l.loop.i ≡ num_buckets) where
+module _ (l : tie.At-loop-i invariant-loop decreases-loop) (e : l.loop-i.i ≡ num_buckets) where
   asked-all : buckets_formed (start l).args.s.now every_bucket ≡ true
-  asked-all = every_formed (start l).args.s.now ∙ (rw (← e) l.loop.invariant.1.1.0)
+  asked-all = every_formed (start l).args.s.now ∙ (rw (← e) l.loop-i.invariant.1.1.0)
 
-  counted-all : l.loop.n ≡ length (select (counts_other (num (start l).args.key) (value_of (start l).args.value)) (held_nodes num_buckets (table_of (start l).args.s.now).buckets))
-  counted-all = rw (← e) l.loop.inv.1.1.1
+  counted-all : l.loop-i.n ≡ length (select (counts_other (num (start l).args.key) (value_of (start l).args.value)) (held_nodes num_buckets (table_of (start l).args.s.now).buckets))
+  counted-all = rw (← e) l.loop-i.invariant.1.1.1
 
-returns-4 : tie.Need-returns-4 invariant-loop decreases-loop
+returns-4 : tie.Need-returns-then-n-ge-MAX_NODES_PER_SUBNET_TABLE invariant-loop decreases-loop
 returns-4 c =
-    let l = c.before.before in
-    let a = (start l).args in
-    let k = counted-all l (omega arith) in
-    (asked-all l (omega arith), filter_fails max_nodes_per_subnet_table (num a.key) (value_of a.value) _ (has_address_lem a.value l.before.if1.false) (omega (arith, k, c.if4.true)))
+    let l = c in
+    let a = (start l.before.before).args in
+    let k = counted-all l.before.before (omega arith) in
+    (asked-all l.before.before (omega arith), filter_fails max_nodes_per_subnet_table (num a.key) (value_of a.value) _ (has_address_lem a.value l.if-value-ne1.false) (omega (arith, k, c.if-n-ge-MAX_NODES_PER_SUBNET_TABLE.true)))
 
-returns-5 : tie.Need-returns-5 invariant-loop decreases-loop
+returns-5 : tie.Need-returns invariant-loop decreases-loop
 returns-5 c =
-    let l = c.before.before in
-    let a = (start l).args in
-    let k = counted-all l (omega arith) in
-    (asked-all l (omega arith), filter_passes max_nodes_per_subnet_table (num a.key) (value_of a.value) _ (has_address_lem a.value l.before.if1.false) (omega (arith, k, c.if4.false)))
+    let l = c in
+    let a = (start l.before.before).args in
+    let k = counted-all l.before.before (omega arith) in
+    (asked-all l.before.before (omega arith), filter_passes max_nodes_per_subnet_table (num a.key) (value_of a.value) _ (has_address_lem a.value l.if-value-ne1.false) (omega (arith, k, c.if-n-ge-MAX_NODES_PER_SUBNET_TABLE.false)))
 
-pub walked-spec : {M : Type 1} → statement M
-walked-spec =
+pub walked_spec : {M : Type 1} → statement M
+walked_spec =
     tie.close
     (tie.spec
     invariant-loop

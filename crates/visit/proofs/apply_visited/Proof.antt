@@ -9,132 +9,132 @@ use borrow.Author.Rules.{rules}
 use Rattle.visit.proofs.apply_visited.Statement.{statement}
 use Rattle.visit.proofs.apply_visited.Tie as tie
 
-abbrev invariant-loop : tie.invariant-loop
+abbrev invariant-loop : tie.invariant-loop-left
 invariant-loop s₀ n time records it₀ left₀ s it left = Visiting time n (remaining it₀) s₀ s left (remaining it)
 
-abbrev decreases-loop : tie.decreases-loop
+abbrev decreases-loop : tie.decreases-loop-left
 decreases-loop s₀ n time records it₀ left₀ s it left = length (remaining it)
 
-returns : tie.Need-returns invariant-loop decreases-loop
+returns : tie.Need-returns-then-records-eq0 invariant-loop decreases-loop
 returns c =
-    let k = c.before in
-    let o = k.before in
+    let k = c in
+    let o = k in
     let a = o.args in
     let is = remaining a.visit in
-    let p = visit_appliable a.time a.n is a.s.now (λ j. (k.slice-known.given j).fits) o.requires.0.0 o.requires.0.1 o.requires.1.0 o.requires.1.1.0 o.requires.1.1.1.0 o.requires.1.1.1.1.0 in
-    visiting_nothing a.time a.n is a.s.now p o.requires.1.1.1.1.1 c.if1.true
+    let p = visit_appliable a.time a.n is a.s.now (λ j. (k.slice_known-1.given j).fits) o.requires.0.0 o.requires.0.1 o.requires.1.0 o.requires.1.1.0 o.requires.1.1.1.0 o.requires.1.1.1.1.0 in
+    visiting_nothing a.time a.n is a.s.now p o.requires.1.1.1.1.1 c.if-records-eq0.true
 
-loop-holds : tie.Need-loop-init invariant-loop decreases-loop
+loop-holds : tie.Need-loop-left-init invariant-loop decreases-loop
 loop-holds c =
-    let k = c.before in
-    let o = k.before in
+    let k = c in
+    let o = k in
     let a = o.args in
     let is = remaining a.visit in
-    let p = visit_appliable a.time a.n is a.s.now (λ j. (k.slice-known.given j).fits) o.requires.0.0 o.requires.0.1 o.requires.1.0 o.requires.1.1.0 o.requires.1.1.1.0 o.requires.1.1.1.1.0 in
+    let p = visit_appliable a.time a.n is a.s.now (λ j. (k.slice_known-1.given j).fits) o.requires.0.0 o.requires.0.1 o.requires.1.0 o.requires.1.1.0 o.requires.1.1.1.0 o.requires.1.1.1.1.0 in
     visiting_starts a.time a.n is a.s.now p
 
-next-requires : tie.Need-next-requires invariant-loop decreases-loop
+next-requires : tie.Need-next-next-requires invariant-loop decreases-loop
 next-requires c κs = search rules
 
-enum_told : tie.Need-enum-told invariant-loop decreases-loop
+enum_told : tie.Need-enum_told-1 invariant-loop decreases-loop
 enum_told c = search rules
 
-same_length : tie.Need-same-length invariant-loop decreases-loop
+same_length : tie.Need-shape_of-s-in-Nothing invariant-loop decreases-loop
 same_length c =
-    let l = c.before.before.before.before.before in
-    l.loop.invariant.restored.size ∙ sym l.before.before.before.requires.0.0
+    let l = c in
+    l.loop-left.invariant.restored.size ∙ sym l.requires.0.0
 
-returns-2 : tie.Need-returns-2 invariant-loop decreases-loop
+returns-2 : tie.Need-returns-in-Nothing invariant-loop decreases-loop
 returns-2 c =
-    let x = c.before.before.before in
-    let l = x.before.before in
-    let k = l.before.before in
-    let o = k.before in
+    let x = c in
+    let l = x in
+    let k = l in
+    let o = k in
     let a = o.args in
     let is = remaining a.visit in
-    let p = visit_appliable a.time a.n is a.s.now (λ j. (k.slice-known.given j).fits) o.requires.0.0 o.requires.0.1 o.requires.1.0 o.requires.1.1.0 o.requires.1.1.1.0 o.requires.1.1.1.1.0 in
-    visiting_ends a.time a.n is a.s.now p l.loop.s l.loop.left _ l.loop.invariant (step_end x.next.ensures c.enum_told.given.1)
+    let p = visit_appliable a.time a.n is a.s.now (λ j. (k.slice_known-1.given j).fits) o.requires.0.0 o.requires.0.1 o.requires.1.0 o.requires.1.1.0 o.requires.1.1.1.0 o.requires.1.1.1.1.0 in
+    visiting_ends a.time a.n is a.s.now p l.loop-left.s l.loop-left.left _ l.loop-left.invariant (step_end x.next-next.ensures c.in-Nothing.is)
 
-enum-known-index : tie.Need-enum-known-index invariant-loop decreases-loop
+enum-known-index : tie.Need-enum_known-index invariant-loop decreases-loop
 enum-known-index c = search rules
 
-apply-in-requires : tie.Need-apply-in-requires invariant-loop decreases-loop
+apply-in-requires : tie.Need-apply_in-requires invariant-loop decreases-loop
 apply-in-requires c κs =
-    let y = c.before in
-    let x = y.before.before.before.before in
-    let l = x.before.before in
-    let k = l.before.before in
-    let o = k.before in
+    let y = c in
+    let x = y in
+    let l = x in
+    let k = l in
+    let o = k in
     let a = o.args in
     let is = remaining a.visit in
-    let p = visit_appliable a.time a.n is a.s.now (λ j. (k.slice-known.given j).fits) o.requires.0.0 o.requires.0.1 o.requires.1.0 o.requires.1.1.0 o.requires.1.1.1.0 o.requires.1.1.1.1.0 in
-    let w = subst (Visiting a.time a.n is a.s.now l.loop.s l.loop.left) (step_at x.next.ensures y.before.index.given.1) l.loop.invariant in
-    let z = not_zero x.before.loop-test.true in (
-      visiting_ready a.time a.n is a.s.now p l.loop.s l.loop.left _ _ z w,
-      (visiting_timely a.time a.n is a.s.now p l.loop.s l.loop.left _ w, visiting_room a.time a.n is a.s.now p l.loop.s l.loop.left _ _ z w),
+    let p = visit_appliable a.time a.n is a.s.now (λ j. (k.slice_known-1.given j).fits) o.requires.0.0 o.requires.0.1 o.requires.1.0 o.requires.1.1.0 o.requires.1.1.1.0 o.requires.1.1.1.1.0 in
+    let w = subst (Visiting a.time a.n is a.s.now l.loop-left.s l.loop-left.left) (step_at x.next-next.ensures y.in-At.is) l.loop-left.invariant in
+    let z = not_zero x.loop-left-test.true in (
+      visiting_ready a.time a.n is a.s.now p l.loop-left.s l.loop-left.left _ _ z w,
+      (visiting_timely a.time a.n is a.s.now p l.loop-left.s l.loop-left.left _ w, visiting_room a.time a.n is a.s.now p l.loop-left.s l.loop-left.left _ _ z w),
     )
 
-held-at-requires : tie.Need-held-at-requires invariant-loop decreases-loop
+held-at-requires : tie.Need-held_at-requires invariant-loop decreases-loop
 held-at-requires c κs =
-    let v = c.before.before.before in
-    let y = v.before.before in
-    let x = y.before.before.before.before in
-    let l = x.before.before in
-    let k = l.before.before in
-    let o = k.before in
+    let v = c in
+    let y = v in
+    let x = y in
+    let l = x in
+    let k = l in
+    let o = k in
     let a = o.args in
     let is = remaining a.visit in
-    let p = visit_appliable a.time a.n is a.s.now (λ j. (k.slice-known.given j).fits) o.requires.0.0 o.requires.0.1 o.requires.1.0 o.requires.1.1.0 o.requires.1.1.1.0 o.requires.1.1.1.1.0 in
-    let w = subst (Visiting a.time a.n is a.s.now l.loop.s l.loop.left) (step_at x.next.ensures y.before.index.given.1) l.loop.invariant in
-    let z = not_zero x.before.loop-test.true in (
-      visiting_size a.time a.n is a.s.now p l.loop.s l.loop.left _ _ z w _ v.apply-in.ensures,
-      (visiting_ready a.time a.n is a.s.now p l.loop.s l.loop.left _ _ z w).below,
+    let p = visit_appliable a.time a.n is a.s.now (λ j. (k.slice_known-1.given j).fits) o.requires.0.0 o.requires.0.1 o.requires.1.0 o.requires.1.1.0 o.requires.1.1.1.0 o.requires.1.1.1.1.0 in
+    let w = subst (Visiting a.time a.n is a.s.now l.loop-left.s l.loop-left.left) (step_at x.next-next.ensures y.in-At.is) l.loop-left.invariant in
+    let z = not_zero x.loop-left-test.true in (
+      visiting_size a.time a.n is a.s.now p l.loop-left.s l.loop-left.left _ _ z w _ v.apply_in.ensures,
+      (visiting_ready a.time a.n is a.s.now p l.loop-left.s l.loop-left.left _ _ z w).below,
     )
 
-less-requires : tie.Need-less-requires invariant-loop decreases-loop
+less-requires : tie.Need-less-left-requires invariant-loop decreases-loop
 less-requires c κs = search rules
 
-loop-less : tie.Need-loop-smaller invariant-loop decreases-loop
+loop-less : tie.Need-loop-left-smaller invariant-loop decreases-loop
 loop-less c =
-    let y = c.before.before.before.before.before.before.before in
-    let x = y.before.before.before.before in
-    let e = step_at x.next.ensures y.before.index.given.1 in
+    let y = c in
+    let x = y in
+    let e = step_at x.next-next.ensures y.in-At.is in
     omega (arith, ap length e)
 
-loop-again : tie.Need-loop-preserved invariant-loop decreases-loop
+loop-again : tie.Need-loop-left-preserved invariant-loop decreases-loop
 loop-again c =
-    let h = c.before in
-    let v = h.before.before.before.before in
-    let y = v.before.before in
-    let x = y.before.before.before.before in
-    let l = x.before.before in
-    let k = l.before.before in
-    let o = k.before in
+    let h = c in
+    let v = h in
+    let y = v in
+    let x = y in
+    let l = x in
+    let k = l in
+    let o = k in
     let a = o.args in
     let is = remaining a.visit in
-    let p = visit_appliable a.time a.n is a.s.now (λ j. (k.slice-known.given j).fits) o.requires.0.0 o.requires.0.1 o.requires.1.0 o.requires.1.1.0 o.requires.1.1.1.0 o.requires.1.1.1.1.0 in
-    let w = subst (Visiting a.time a.n is a.s.now l.loop.s l.loop.left) (step_at x.next.ensures y.before.index.given.1) l.loop.invariant in
-    let z = not_zero x.before.loop-test.true in
-    visiting_next a.time a.n is a.s.now p l.loop.s l.loop.left _ _ z w _ v.apply-in.ensures _
-    (c.less.ensures ∙ ap (λ (m : ℕ). l.loop.left - m) h.held_at.ensures)
+    let p = visit_appliable a.time a.n is a.s.now (λ j. (k.slice_known-1.given j).fits) o.requires.0.0 o.requires.0.1 o.requires.1.0 o.requires.1.1.0 o.requires.1.1.1.0 o.requires.1.1.1.1.0 in
+    let w = subst (Visiting a.time a.n is a.s.now l.loop-left.s l.loop-left.left) (step_at x.next-next.ensures y.in-At.is) l.loop-left.invariant in
+    let z = not_zero x.loop-left-test.true in
+    visiting_next a.time a.n is a.s.now p l.loop-left.s l.loop-left.left _ _ z w _ v.apply_in.ensures _
+    (c.less-left.ensures ∙ ap (λ (m : ℕ). l.loop-left.left - m) h.held_at.ensures)
 
-same-length-2 : tie.Need-same-length-2 invariant-loop decreases-loop
+same-length-2 : tie.Need-shape_of-s invariant-loop decreases-loop
 same-length-2 c =
-    let l = c.before in
-    l.loop.invariant.restored.size ∙ sym l.before.before.before.requires.0.0
+    let l = c in
+    l.loop-left.invariant.restored.size ∙ sym l.requires.0.0
 
-returns-3 : tie.Need-returns-3 invariant-loop decreases-loop
+returns-3 : tie.Need-returns invariant-loop decreases-loop
 returns-3 c =
-    let l = c.before in
-    let k = l.before.before in
-    let o = k.before in
+    let l = c in
+    let k = l in
+    let o = k in
     let a = o.args in
     let is = remaining a.visit in
-    let p = visit_appliable a.time a.n is a.s.now (λ j. (k.slice-known.given j).fits) o.requires.0.0 o.requires.0.1 o.requires.1.0 o.requires.1.1.0 o.requires.1.1.1.0 o.requires.1.1.1.1.0 in
-    visiting_full a.time a.n is a.s.now p l.loop.s l.loop.left _ l.loop.invariant c.loop-test.false
+    let p = visit_appliable a.time a.n is a.s.now (λ j. (k.slice_known-1.given j).fits) o.requires.0.0 o.requires.0.1 o.requires.1.0 o.requires.1.1.0 o.requires.1.1.1.0 o.requires.1.1.1.1.0 in
+    visiting_full a.time a.n is a.s.now p l.loop-left.s l.loop-left.left _ l.loop-left.invariant c.loop-left-test.false
 
-pub apply-visited-spec : {M : Type 1} → statement M
-apply-visited-spec =
+pub apply_visited_spec : {M : Type 1} → statement M
+apply_visited_spec =
     tie.close
     (tie.spec
     invariant-loop

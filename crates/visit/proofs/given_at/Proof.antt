@@ -12,19 +12,19 @@ use borrow.Author.Rules.{rules}
 use Rattle.visit.proofs.given_at.Statement.{statement}
 use Rattle.visit.proofs.given_at.Tie as tie
 
-is-due-requires : tie.Need-is-due-requires
+is-due-requires : tie.Need-is_due-requires
 is-due-requires c κs = search rules
 
-held-at-requires : tie.Need-held-at-requires
+held-at-requires : tie.Need-held_at-requires
 held-at-requires c κs = search rules
 
-returns : tie.Need-returns
+returns : tie.Need-returns-then-not-is_due
 returns c =
-    let w = c.before in
-    let a = w.before.before.before.args in
+    let w = c in
+    let a = w.args in
     let t = table_of a.s.now in
-    let no : w.before.is-due.result ≡ false = not-true _ w.if1.true in
-    let e : apply_pending t.settings.bucket a.time (t.buckets a.i) ≡ (t.buckets a.i, []) = not_due t.settings.bucket a.time (t.buckets a.i) (sym w.before.is-due.ensures ∙ no) in
+    let no : w.is_due.result ≡ false = not-true _ w.if-not-is_due.true-raw in
+    let e : apply_pending t.settings.bucket a.time (t.buckets a.i) ≡ (t.buckets a.i, []) = not_due t.settings.bucket a.time (t.buckets a.i) (sym w.is_due.ensures ∙ no) in
     record {
       count = c.held_at.ensures ∙ ap (λ (r : Bucket × List EndedPending). num_entries r.0) (sym e);
       records = ap (λ (r : Bucket × List EndedPending). length r.1) (sym e);
@@ -32,12 +32,12 @@ returns c =
       one = omega arith;
     }
 
-applied-at-requires : tie.Need-applied-at-requires
+applied-at-requires : tie.Need-applied_at-requires
 applied-at-requires c κs = search rules
 
-returns-2 : tie.Need-returns-2
+returns-2 : tie.Need-returns
 returns-2 c = search rules
 
-pub given-at-spec : {M : Type 1} → statement M
-given-at-spec =
+pub given_at_spec : {M : Type 1} → statement M
+given_at_spec =
     tie.close (tie.spec is-due-requires held-at-requires returns applied-at-requires returns-2)

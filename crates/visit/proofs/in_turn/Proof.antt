@@ -8,5 +8,5 @@ returns : tie.Need-returns
 unfolding sets_down num
 returns c = in_turn_is
 
-pub in-turn-spec : {M : Type 1} → statement M
-in-turn-spec = tie.close (tie.spec returns)
+pub in_turn_spec : {M : Type 1} → statement M
+in_turn_spec = tie.close (tie.spec returns)

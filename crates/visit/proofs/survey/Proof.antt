@@ -6,35 +6,35 @@ use borrow.Author.Rules.{rules}
 use Rattle.visit.proofs.survey.Statement.{statement}
 use Rattle.visit.proofs.survey.Tie as tie
 
-enum_told : tie.Need-enum-told
+enum_told : tie.Need-enum_told-1
 enum_told c = search rules
 
-survey-in-turn-requires : tie.Need-survey-in-turn-requires
+survey-in-turn-requires : tie.Need-survey_in_turn-requires
 survey-in-turn-requires c κs = search rules
 
-enum-known-visit : tie.Need-enum-known-visit
+enum-known-visit : tie.Need-enum_known-visit
 enum-known-visit c = search rules
 
-survey-nearest-requires : tie.Need-survey-nearest-requires
+survey-nearest-requires : tie.Need-survey_nearest-requires
 survey-nearest-requires c κs =
-    let v = c.before in
-    let o = v.before.before.before in
-    (o.requires.0, (o.requires.1.0, subst Visitable (ap order v.visit.given.1) o.requires.1.1))
+    let v = c in
+    let o = v in
+    (o.requires.0, (o.requires.1.0, subst Visitable (ap order v.in-Nearest.is) o.requires.1.1))
 
-returns : tie.Need-returns
+returns : tie.Need-returns-in-InTurn
 returns c =
-    let v = c.before in
-    let a = v.before.before.before.args in
-    subst (λ (is : List ℕ). Surveyed a.time a.n is a.s.now c.survey-in-turn.result) (sym (ap order v.enum_told.given.1)) c.survey-in-turn.ensures
+    let v = c in
+    let a = v.args in
+    subst (λ (is : List ℕ). Surveyed a.time a.n is a.s.now c.survey_in_turn.result) (sym (ap order v.in-InTurn.is)) c.survey_in_turn.ensures
 
-returns-2 : tie.Need-returns-2
+returns-2 : tie.Need-returns-in-Nearest
 returns-2 c =
-    let v = c.before.before in
-    let a = v.before.before.before.args in
-    subst (λ (is : List ℕ). Surveyed a.time a.n is a.s.now c.survey-nearest.result) (sym (ap order v.visit.given.1)) c.survey-nearest.ensures
+    let v = c in
+    let a = v.args in
+    subst (λ (is : List ℕ). Surveyed a.time a.n is a.s.now c.survey_nearest.result) (sym (ap order v.in-Nearest.is)) c.survey_nearest.ensures
 
-pub survey-spec : {M : Type 1} → statement M
-survey-spec =
+pub survey_spec : {M : Type 1} → statement M
+survey_spec =
     tie.close
     (tie.spec
     enum_told

@@ -9,99 +9,99 @@ use borrow.Author.Rules.{rules}
 use Rattle.visit.proofs.survey_nearest.Statement.{statement}
 use Rattle.visit.proofs.survey_nearest.Tie as tie
 
-abbrev invariant-loop : tie.invariant-loop
+abbrev invariant-loop : tie.invariant-loop-c
 invariant-loop s n time it₀ c₀ it c = Counting time n (remaining it₀) s c (remaining it)
 
-abbrev decreases-loop : tie.decreases-loop
+abbrev decreases-loop : tie.decreases-loop-c
 decreases-loop s n time it₀ c₀ it c = length (remaining it)
 
-loop-holds : tie.Need-loop-init invariant-loop decreases-loop
+loop-holds : tie.Need-loop-c-init invariant-loop decreases-loop
 loop-holds c =
-    let o = c.before in
+    let o = c in
     counting_starts o.args.time o.args.n (remaining o.args.visit) o.args.s.now o.requires.1.1 _ refl refl refl
 
-next-requires : tie.Need-next-requires invariant-loop decreases-loop
+next-requires : tie.Need-next-next-requires invariant-loop decreases-loop
 next-requires c κs = search rules
 
-enum_told : tie.Need-enum-told invariant-loop decreases-loop
+enum_told : tie.Need-enum_told-1 invariant-loop decreases-loop
 enum_told c = search rules
 
-sub-t11 : tie.Need-overflow-sub-t11 invariant-loop decreases-loop
-sub-t11 c = let h = c.before.before.before.before.before.before.before.loop.invariant.within in omega arith
+sub-t11 : tie.Need-overflow_sub-result invariant-loop decreases-loop
+sub-t11 c = let h = c.loop-c.invariant.within in omega arith
 
-returns : tie.Need-returns invariant-loop decreases-loop
+returns : tie.Need-returns-in-Nothing invariant-loop decreases-loop
 returns c =
-    let e = c.before in
-    let x = e.before.before.before in
-    let l = x.before.before.before in
-    let o = l.before.before in
-    counting_ends o.args.time o.args.n (remaining o.args.visit) o.args.s.now l.loop.c _ _ (step_end x.next.ensures e.enum_told.given.1) l.loop.invariant refl refl refl
+    let e = c in
+    let x = e in
+    let l = x in
+    let o = l in
+    counting_ends o.args.time o.args.n (remaining o.args.visit) o.args.s.now l.loop-c.c _ _ (step_end x.next-next.ensures e.in-Nothing.is) l.loop-c.invariant refl refl refl
 
-enum-known-index : tie.Need-enum-known-index invariant-loop decreases-loop
+enum-known-index : tie.Need-enum_known-index invariant-loop decreases-loop
 enum-known-index c = search rules
 
-bucket-formed-at-requires : tie.Need-bucket-formed-at-requires invariant-loop decreases-loop
+bucket-formed-at-requires : tie.Need-bucket_formed_at-requires invariant-loop decreases-loop
 bucket-formed-at-requires c κs =
-    let x = c.before.before.before.before in
-    let l = x.before.before.before in
-    let o = l.before.before in
-    let e = step_at x.next.ensures c.before.index.given.1 in
-    let w = subst (Counting o.args.time o.args.n (remaining o.args.visit) o.args.s.now l.loop.c) e l.loop.invariant in
+    let x = c in
+    let l = x in
+    let o = l in
+    let e = step_at x.next-next.ensures c.in-At.is in
+    let w = subst (Counting o.args.time o.args.n (remaining o.args.visit) o.args.s.now l.loop-c.c) e l.loop-c.invariant in
     (omega (arith, o.requires.0.0), w.below.0)
 
-returns-2 : tie.Need-returns-2 invariant-loop decreases-loop
+returns-2 : tie.Need-returns-then-not-bucket_formed_at invariant-loop decreases-loop
 returns-2 c =
-    let b = c.before in
-    let k = b.before in
-    let x = k.before.before.before.before in
-    let l = x.before.before.before in
-    let o = l.before.before in
-    let e = step_at x.next.ensures k.before.index.given.1 in
-    let w = subst (Counting o.args.time o.args.n (remaining o.args.visit) o.args.s.now l.loop.c) e l.loop.invariant in
-    counting_fails o.args.time o.args.n (remaining o.args.visit) o.args.s.now l.loop.c _ _ _ x.before.if1.true
-    (sym b.bucket-formed-at.ensures ∙ not-true _ c.if2.true) w refl
+    let b = c in
+    let k = b in
+    let x = k in
+    let l = x in
+    let o = l in
+    let e = step_at x.next-next.ensures k.in-At.is in
+    let w = subst (Counting o.args.time o.args.n (remaining o.args.visit) o.args.s.now l.loop-c.c) e l.loop-c.invariant in
+    counting_fails o.args.time o.args.n (remaining o.args.visit) o.args.s.now l.loop-c.c _ _ _ x.loop-c-test.true
+    (sym b.bucket_formed_at.ensures ∙ not-true _ c.if-not-bucket_formed_at.true-raw) w refl
 
-count-at-requires : tie.Need-count-at-requires invariant-loop decreases-loop
+count-at-requires : tie.Need-count_at-c-requires invariant-loop decreases-loop
 count-at-requires c κs =
-    let b = c.before in
-    let k = b.before in
-    let x = k.before.before.before.before in
-    let l = x.before.before.before in
-    let o = l.before.before in
-    let e = step_at x.next.ensures k.before.index.given.1 in
-    let w = subst (Counting o.args.time o.args.n (remaining o.args.visit) o.args.s.now l.loop.c) e l.loop.invariant in (
-      record { size = o.requires.0.0; header = o.requires.0.1; below = w.below.0; bucket = sym b.bucket-formed-at.ensures ∙ not-false _ c.if2.false },
+    let b = c in
+    let k = b in
+    let x = k in
+    let l = x in
+    let o = l in
+    let e = step_at x.next-next.ensures k.in-At.is in
+    let w = subst (Counting o.args.time o.args.n (remaining o.args.visit) o.args.s.now l.loop-c.c) e l.loop-c.invariant in (
+      record { size = o.requires.0.0; header = o.requires.0.1; below = w.below.0; bucket = sym b.bucket_formed_at.ensures ∙ not-false _ c.if-not-bucket_formed_at.false-raw },
       (o.requires.1.0, (let h = w.short in omega arith)),
     )
 
-loop-less : tie.Need-loop-smaller invariant-loop decreases-loop
+loop-less : tie.Need-loop-c-smaller invariant-loop decreases-loop
 loop-less c =
-    let k = c.before.before.before in
-    let x = k.before.before.before.before in
-    let e = step_at x.next.ensures k.before.index.given.1 in
+    let k = c in
+    let x = k in
+    let e = step_at x.next-next.ensures k.in-At.is in
     omega (arith, ap length e)
 
-loop-again : tie.Need-loop-preserved invariant-loop decreases-loop
+loop-again : tie.Need-loop-c-preserved invariant-loop decreases-loop
 loop-again c =
-    let b = c.before.before in
-    let k = b.before in
-    let x = k.before.before.before.before in
-    let l = x.before.before.before in
-    let o = l.before.before in
-    let e = step_at x.next.ensures k.before.index.given.1 in
-    let w = subst (Counting o.args.time o.args.n (remaining o.args.visit) o.args.s.now l.loop.c) e l.loop.invariant in
-    counting_next o.args.time o.args.n (remaining o.args.visit) o.args.s.now l.loop.c _ _ _ x.before.if1.true
-    (sym b.bucket-formed-at.ensures ∙ not-false _ c.before.if2.false) c.count_at.ensures w
+    let b = c in
+    let k = b in
+    let x = k in
+    let l = x in
+    let o = l in
+    let e = step_at x.next-next.ensures k.in-At.is in
+    let w = subst (Counting o.args.time o.args.n (remaining o.args.visit) o.args.s.now l.loop-c.c) e l.loop-c.invariant in
+    counting_next o.args.time o.args.n (remaining o.args.visit) o.args.s.now l.loop-c.c _ _ _ x.loop-c-test.true
+    (sym b.bucket_formed_at.ensures ∙ not-false _ c.if-not-bucket_formed_at.false-raw) c.count_at-c.ensures w
 
-returns-3 : tie.Need-returns-3 invariant-loop decreases-loop
+returns-3 : tie.Need-returns invariant-loop decreases-loop
 returns-3 c =
-    let l = c.before.before in
-    let o = l.before.before in
-    counting_full o.args.time o.args.n (remaining o.args.visit) o.args.s.now l.loop.c _ _ c.if1.false l.loop.invariant refl refl
-    (let h = c.if1.false in omega arith)
+    let l = c in
+    let o = l in
+    counting_full o.args.time o.args.n (remaining o.args.visit) o.args.s.now l.loop-c.c _ _ c.loop-c-test.false l.loop-c.invariant refl refl
+    (let h = c.loop-c-test.false in omega arith)
 
-pub survey-nearest-spec : {M : Type 1} → statement M
-survey-nearest-spec =
+pub survey_nearest_spec : {M : Type 1} → statement M
+survey_nearest_spec =
     tie.close
     (tie.spec
     invariant-loop

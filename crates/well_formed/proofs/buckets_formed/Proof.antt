@@ -10,33 +10,33 @@ use borrow.Author.Rules.{rules}
 use Rattle.well_formed.proofs.buckets_formed.Statement.{statement}
 use Rattle.well_formed.proofs.buckets_formed.Tie as tie
 
-abbrev invariant-loop : tie.invariant-loop
+abbrev invariant-loop : tie.invariant-loop-i
 invariant-loop s ok₀ i₀ ok i = (i ≤ num_buckets) × (ok ≡ all_below i (bucket_at_formed s))
 
-abbrev decreases-loop : tie.decreases-loop
+abbrev decreases-loop : tie.decreases-loop-i
 decreases-loop s ok₀ i₀ ok i = num_buckets - i
 
-loop-holds : tie.Need-loop-init invariant-loop decreases-loop
+loop-holds : tie.Need-loop-i-init invariant-loop decreases-loop
 loop-holds c = (omega arith, sym (all_none _))
 
-bucket-formed-at-requires : tie.Need-bucket-formed-at-requires invariant-loop decreases-loop
+bucket-formed-at-requires : tie.Need-bucket_formed_at-ok-requires invariant-loop decreases-loop
 bucket-formed-at-requires c κs = search rules
 
-add-i : tie.Need-overflow-add-i invariant-loop decreases-loop
+add-i : tie.Need-overflow_add-i invariant-loop decreases-loop
 add-i c = search rules
 
-loop-less : tie.Need-loop-smaller invariant-loop decreases-loop
+loop-less : tie.Need-loop-i-smaller invariant-loop decreases-loop
 loop-less c = search rules
 
-loop-again : tie.Need-loop-preserved invariant-loop decreases-loop
+loop-again : tie.Need-loop-i-preserved invariant-loop decreases-loop
 unfolding bucket_at_formed
-loop-again c = (omega arith, rw all_more (ap₂ ◌&&◌ c.before.before.loop.invariant.1 c.bucket-formed-at.ensures))
+loop-again c = (omega arith, rw all_more (ap₂ ◌&&◌ c.loop-i.invariant.1 c.bucket_formed_at-ok.ensures))
 
 returns : tie.Need-returns invariant-loop decreases-loop
-returns c = let e : c.before.loop.i ≡ num_buckets = omega arith in c.before.loop.invariant.1 ∙ rw e
+returns c = let e : c.loop-i.i ≡ num_buckets = omega arith in c.loop-i.invariant.1 ∙ rw e
 
-pub buckets-formed-spec : {M : Type 1} → statement M
-buckets-formed-spec =
+pub buckets_formed_spec : {M : Type 1} → statement M
+buckets_formed_spec =
     tie.close
     (tie.spec
     invariant-loop

@@ -8,37 +8,37 @@ use borrow.Author.Rules.{rules}
 use Rattle.well_formed.proofs.held_formed.Statement.{statement}
 use Rattle.well_formed.proofs.held_formed.Tie as tie
 
-keys-differ-requires : tie.Need-keys-differ-requires
+keys-differ-requires : tie.Need-keys_differ-requires
 keys-differ-requires c κs = search rules
 
-places-formed-requires : tie.Need-places-formed-requires
+places-formed-requires : tie.Need-places_formed-requires
 places-formed-requires c κs = search rules
 
-mul-all-zero-steps : tie.Need-overflow-mul-all-zero-steps
+mul-all-zero-steps : tie.Need-overflow_mul-count
 mul-all-zero-steps c = search rules
 
-add-all-zero-steps : tie.Need-overflow-add-all-zero-steps
+add-all-zero-steps : tie.Need-overflow_add-count
 add-all-zero-steps c = search rules
 
-add-all-zero-steps-2 : tie.Need-overflow-add-all-zero-steps-2
+add-all-zero-steps-2 : tie.Need-overflow_add-at
 add-all-zero-steps-2 c = search rules
 
-sub-all-zero-steps : tie.Need-overflow-sub-all-zero-steps
+sub-all-zero-steps : tie.Need-overflow_sub-count
 sub-all-zero-steps c = search rules
 
-mul-all-zero-steps-2 : tie.Need-overflow-mul-all-zero-steps-2
+mul-all-zero-steps-2 : tie.Need-overflow_mul-count-2
 mul-all-zero-steps-2 c = search rules
 
-all-zero-steps-requires : tie.Need-all-zero-steps-requires
+all-zero-steps-requires : tie.Need-all_zero_steps-unused-requires
 all-zero-steps-requires c κs = search rules
 
 returns : tie.Need-returns
 returns c =
-    let a = c.before.before.before.before.args in
+    let a = c.args in
     rw (are_zero_within a.s.now a.at bucket_size (2 + a.count * node_size) ((max_nodes_per_bucket - a.count) * node_size) (omega arith), ← and_assoc) (cc)
 
-pub held-formed-spec : {M : Type 1} → statement M
-held-formed-spec =
+pub held_formed_spec : {M : Type 1} → statement M
+held_formed_spec =
     tie.close
     (tie.spec
     keys-differ-requires

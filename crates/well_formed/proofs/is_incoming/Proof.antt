@@ -7,25 +7,25 @@ use borrow.Author.Rules.{rules}
 use Rattle.well_formed.proofs.is_incoming.Statement.{statement}
 use Rattle.well_formed.proofs.is_incoming.Tie as tie
 
-add-result : tie.Need-overflow-add-result
+add-result : tie.Need-overflow_add-result
 add-result c = search rules
 
-shared-slice-read-result : tie.Need-shared-slice-read-result
+shared-slice-read-result : tie.Need-bounds-s-at
 shared-slice-read-result c = search rules
 
-add-result-2 : tie.Need-overflow-add-result-2
+add-result-2 : tie.Need-overflow_add-result-2
 add-result-2 c = search rules
 
-shared-slice-read-result-2 : tie.Need-shared-slice-read-result-2
+shared-slice-read-result-2 : tie.Need-bounds-s-at-2
 shared-slice-read-result-2 c = search rules
 
 returns : tie.Need-returns
 unfolding node_in
 returns c =
-    let a = c.before.before.args in
+    let a = c.args in
     rw (get_d_part a.s.now a.at node_size key_size (omega arith), get_d_part a.s.now a.at node_size (key_size + 1) (omega arith))
 
-pub is-incoming-spec : {M : Type 1} → statement M
-is-incoming-spec =
+pub is_incoming_spec : {M : Type 1} → statement M
+is_incoming_spec =
     tie.close
     (tie.spec add-result shared-slice-read-result add-result-2 shared-slice-read-result-2 returns)

@@ -10,26 +10,26 @@ use borrow.Author.Rules.{rules}
 use Rattle.well_formed.proofs.of_index.Statement.{statement}
 use Rattle.well_formed.proofs.of_index.Tie as tie
 
-distance-requires : tie.Need-distance-requires
+distance-requires : tie.Need-distance-d-requires
 distance-requires c κs = search rules
 
-leading-zeros-requires : tie.Need-leading-zeros-requires
+leading-zeros-requires : tie.Need-leading_zeros-requires
 leading-zeros-requires c κs = search rules
 
-sub-result : tie.Need-overflow-sub-result
-sub-result c = omega (arith, c.leading_zeros.ensures, leading_le 256 (num c.before.distance.result))
+sub-result : tie.Need-overflow_sub-result
+sub-result c = omega (arith, c.leading_zeros.ensures, leading_le 256 (num c.distance-d.result))
 
-add-result : tie.Need-overflow-add-result
+add-result : tie.Need-overflow_add-result
 add-result c = search rules
 
 returns : tie.Need-returns
 returns c =
-    let d = c.before.distance in
-    let a = c.before.before.args in
+    let d = c.distance-d in
+    let a = c.args in
     let w : Words d.result = omega arith in
     let e = index_by_zeros (num a.local) (num a.key) a.i (rw (← d.ensures) (num_lt d.result w)) in
     rw (c.leading_zeros.ensures, d.ensures) (sym e)
 
-pub of-index-spec : {M : Type 1} → statement M
-of-index-spec =
+pub of_index_spec : {M : Type 1} → statement M
+of_index_spec =
     tie.close (tie.spec distance-requires leading-zeros-requires sub-result add-result returns)

@@ -19,7 +19,7 @@ use Rattle.bucket.proofs.KBucket.apply_due.Statement.{statement}
 use Rattle.bucket.proofs.KBucket.apply_due.Tie as tie
 
 -- src/lib.rt:443:13
-returns : tie.Need-returns
+returns : tie.Need-returns-then-full-self
 returns c =
     let o = c.before.before.before.before in
     let b = o.args.self in
@@ -31,16 +31,16 @@ returns c =
     let full = leb rules.max_nodes_per_bucket b.count in
     let first = eqb b.first_connected_pos 0 in
     done_apply s (rules.apply_due s now n m) m (ended n Ending.FirstConnected) b
-    (due_connected s now n m absent (subst (λ (k : ℕ). rules.max_nodes_per_bucket ≤ k) (count_of b o.requires.0) (leb-true _ _ (and_left full first c.if1.true)))
-    (none_disconnected b o.requires.0 (eqb-true _ _ (and_right full first c.if1.true))))
+    (due_connected s now n m absent (subst (λ (k : ℕ). rules.max_nodes_per_bucket ≤ k) (count_of b o.requires.0) (leb-true _ _ (and_left full first c.if-full-self.true)))
+    (none_disconnected b o.requires.0 (eqb-true _ _ (and_right full first c.if-full-self.true))))
     (becomes_itself b o.requires.0) refl
 
 -- src/lib.rt:448:12
-fails-filter-requires : tie.Need-fails-filter-requires
+fails-filter-requires : tie.Need-fails_filter-requires
 fails-filter-requires c κs = search rules
 
 -- src/lib.rt:449:13
-returns-2 : tie.Need-returns-2
+returns-2 : tie.Need-returns-then-fails_filter
 returns-2 c =
     let e1 = c.before.before in
     let o = e1.before.before.before.before in
@@ -51,14 +51,14 @@ returns-2 c =
     let now = o.args.now in
     let absent : rules.holds (num o.args.node.key) m ≡ false = o.requires.1.1.1.1 in
     done_apply s (rules.apply_due s now n m) m (ended n Ending.BucketFilter) b
-    (due_filter s now n m absent (open_of b o.requires.0 e1.if1.false) (sym c.before.fails-filter.ensures ∙ c.if2.true)) (becomes_itself b o.requires.0) refl
+    (due_filter s now n m absent (open_of b o.requires.0 e1.if-full-self.false) (sym c.fails_filter.ensures ∙ c.if-fails_filter.true)) (becomes_itself b o.requires.0) refl
 
 -- src/lib.rt:454:12
-is-max-incoming-requires : tie.Need-is-max-incoming-requires
+is-max-incoming-requires : tie.Need-is_max_incoming-requires
 is-max-incoming-requires c κs = search rules
 
 -- src/lib.rt:455:13
-returns-3 : tie.Need-returns-3
+returns-3 : tie.Need-returns-then-is_max_incoming
 returns-3 c =
     let e2 = c.before.before in
     let e1 = e2.before.before in
@@ -70,7 +70,7 @@ returns-3 c =
     let now = o.args.now in
     let absent : rules.holds (num o.args.node.key) m ≡ false = o.requires.1.1.1.1 in
     done_apply s (rules.apply_due s now n m) m (ended n Ending.TooManyIncoming) b
-    (due_many s now n m absent (sym e2.before.fails-filter.ensures ∙ e2.if2.false) (open_of b o.requires.0 e1.if1.false) (sym c.before.is-max-incoming.ensures ∙ c.if3.true))
+    (due_many s now n m absent (sym e2.fails_filter.ensures ∙ e2.if-fails_filter.false) (open_of b o.requires.0 e1.if-full-self.false) (sym c.is_max_incoming.ensures ∙ c.if-is_max_incoming.true))
     (becomes_itself b o.requires.0) refl
 
 -- src/lib.rt:461:13
@@ -78,10 +78,10 @@ evict-requires : tie.Need-evict-requires
 evict-requires c κs =
     let e3 = c.before in
     let o = e3.before.before.before.before.before.before.before.before in
-    (o.requires.0, (o.requires.1.0, (leb-true _ _ c.if4.true, (o.requires.1.1.1.1, sym e3.before.is-max-incoming.ensures ∙ e3.if3.false))))
+    (o.requires.0, (o.requires.1.0, (leb-true _ _ c.if-full.true-raw, (o.requires.1.1.1.1, sym e3.is_max_incoming.ensures ∙ e3.if-is_max_incoming.false))))
 
 -- src/lib.rt:461:13
-returns-4 : tie.Need-returns-4
+returns-4 : tie.Need-returns-then-full
 returns-4 c =
     let t4 = c.before in
     let e3 = t4.before in
@@ -94,23 +94,23 @@ returns-4 c =
     let n = node_of o.args.node in
     let now = o.args.now in
     let absent : rules.holds (num o.args.node.key) m ≡ false = o.requires.1.1.1.1 in
-    let many : rules.max_nodes_per_bucket ≤ rules.num_entries m = subst (λ (k : ℕ). rules.max_nodes_per_bucket ≤ k) (count_of b o.requires.0) (leb-true _ _ t4.if4.true) in
+    let many : rules.max_nodes_per_bucket ≤ rules.num_entries m = subst (λ (k : ℕ). rules.max_nodes_per_bucket ≤ k) (count_of b o.requires.0) (leb-true _ _ t4.if-full.true-raw) in
     let d = node_of (get_or b.nodes 0 zero_node) in
-    let rest = first_of_full b o.requires.0 e1.if1.false (leb-true _ _ t4.if4.true) in
+    let rest = first_of_full b o.requires.0 e1.if-full-self.false (leb-true _ _ t4.if-full.true-raw) in
     by_apply s (rules.apply_due s now n m) (rules.placed n (rules.take_out d.key m)) (ended n (Ending.Placed (some d))) _ _
-    (due_evicts s now n m absent (sym e2.before.fails-filter.ensures ∙ e2.if2.false) (sym e3.before.is-max-incoming.ensures ∙ e3.if3.false)
+    (due_evicts s now n m absent (sym e2.fails_filter.ensures ∙ e2.if-fails_filter.false) (sym e3.is_max_incoming.ensures ∙ e3.if-is_max_incoming.false)
     many d rest.0 rest.1 o.requires.1.1.1.0 (formed_of b o.requires.0).different)
     c.evict.ensures
 
 -- src/lib.rt:463:9
-placed-requires : tie.Need-placed-requires
+placed-requires : tie.Need-placed-self-requires
 placed-requires c κs =
     let e3 = c.before in
     let o = e3.before.before.before.before.before.before.before.before in
-    (o.requires.0, (leb-false _ _ c.if4.false, (o.requires.1.0, (o.requires.1.1.1.1, sym e3.before.is-max-incoming.ensures ∙ e3.if3.false))))
+    (o.requires.0, (leb-false _ _ c.if-full.false-raw, (o.requires.1.0, (o.requires.1.1.1.1, sym e3.is_max_incoming.ensures ∙ e3.if-is_max_incoming.false))))
 
 -- src/lib.rt:430:5
-returns-5 : tie.Need-returns-5
+returns-5 : tie.Need-returns
 returns-5 c =
     let e4 = c.before in
     let e3 = e4.before in
@@ -123,13 +123,13 @@ returns-5 c =
     let n = node_of o.args.node in
     let now = o.args.now in
     let absent : rules.holds (num o.args.node.key) m ≡ false = o.requires.1.1.1.1 in
-    done_apply s (rules.apply_due s now n m) (rules.placed n m) (ended n (Ending.Placed none)) c.placed.result
-    (due_placed s now n m absent (sym e2.before.fails-filter.ensures ∙ e2.if2.false) (sym e3.before.is-max-incoming.ensures ∙ e3.if3.false)
-    (subst (λ (k : ℕ). k < rules.max_nodes_per_bucket) (count_of b o.requires.0) (leb-false _ _ e4.if4.false)))
-    c.placed.ensures refl
+    done_apply s (rules.apply_due s now n m) (rules.placed n m) (ended n (Ending.Placed none)) c.placed-self.result
+    (due_placed s now n m absent (sym e2.fails_filter.ensures ∙ e2.if-fails_filter.false) (sym e3.is_max_incoming.ensures ∙ e3.if-is_max_incoming.false)
+    (subst (λ (k : ℕ). k < rules.max_nodes_per_bucket) (count_of b o.requires.0) (leb-false _ _ e4.if-full.false-raw)))
+    c.placed-self.ensures refl
 
-pub apply-due-spec : {M : Type 1} → statement M
-apply-due-spec =
+pub apply_due_spec : {M : Type 1} → statement M
+apply_due_spec =
     tie.close
     (tie.spec
     returns

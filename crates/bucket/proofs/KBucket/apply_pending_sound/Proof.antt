@@ -22,51 +22,51 @@ use Rattle.bucket.proofs.KBucket.apply_pending_sound.Statement.{statement}
 use Rattle.bucket.proofs.KBucket.apply_pending_sound.Tie as tie
 
 -- the bucket with the pending taken out
-free : (c : tie.After-with-pending) → let b = c.before.before.before.before.before.args.self in Becomes (settings_of b) (rules.with_pending none (bucket_of b)) c.with-pending.result
+free : (c : tie.After-with_pending-self) → let b = c.args.self in Becomes (settings_of b) (rules.with_pending none (bucket_of b)) c.with_pending-self.result
 free c =
-    let o = c.before.before.before.before.before in
+    let o = c.before.before.before in
     let b = o.args.self in
-    subst (Becomes (settings_of b) (rules.with_pending none (bucket_of b))) (sym c.with-pending.ensures) (pending_becomes b o.requires.0 Nothing none refl tt)
+    subst (Becomes (settings_of b) (rules.with_pending none (bucket_of b))) (sym c.with_pending-self.ensures) (pending_becomes b o.requires.0 Nothing none refl tt)
 
 -- src/lib.rt:404:26
-enum_told : tie.Need-enum-told
+enum_told : tie.Need-enum_told-1
 enum_told c = search rules
 
 -- src/lib.rt:406:30
-enum-known-p : tie.Need-enum-known-p
+enum-known-p : tie.Need-enum_known-p
 enum-known-p c = search rules
 
 -- src/lib.rt:408:21
-returns : tie.Need-returns
+returns : tie.Need-returns-then-now-deadline
 returns c =
-    let q = c.before.before in
-    let o = q.before.before in
+    let q = c.before in
+    let o = q.before in
     let b = o.args.self in
     done_apply (settings_of b) (rules.apply_pending (settings_of b) o.args.now (bucket_of b)) (bucket_of b) [] b
-    (apply_later (settings_of b) o.args.now (bucket_of b) _ (ap pending_of q.p.given.1) c.if1.true) (becomes_itself b o.requires.0) refl
+    (apply_later (settings_of b) o.args.now (bucket_of b) _ (ap pending_of q.in-Waiting.is) c.if-now-deadline.true) (becomes_itself b o.requires.0) refl
 
 -- src/lib.rt:413:17
-with-pending-requires : tie.Need-with-pending-requires
+with-pending-requires : tie.Need-with_pending-self-requires
 with-pending-requires c κs = search rules
 
 -- src/lib.rt:414:17
-apply-due-requires : tie.Need-apply-due-requires
+apply-due-requires : tie.Need-apply_due-requires
 apply-due-requires c κs =
-    let q = c.before.before.before in
-    let o = q.before.before in
+    let q = c.before.before in
+    let o = q.before in
     let b = o.args.self in
-    let n : Node = q.p.given.0.0 in
-    let d : ℕ = q.p.given.0.1.0 in
-    let e : b.pending ≡ Waiting n d = q.p.given.1 in
+    let n : Node = q.in-Waiting.node in
+    let d : ℕ = q.in-Waiting.deadline in
+    let e : b.pending ≡ Waiting n d = q.in-Waiting.is in
     let x = free c in
-    let same-time : c.with-pending.result.pending_timeout ≡ b.pending_timeout = ap (λ (k : KBucket). k.pending_timeout) c.with-pending.ensures in (
+    let same-time : c.with_pending-self.result.pending_timeout ≡ b.pending_timeout = ap (λ (k : KBucket). k.pending_timeout) c.with_pending-self.ensures in (
       x.sound,
       (
         stored_codes n (pending_stored b o.requires.0 n d e),
         (
           omega (arith, o.requires.1),
           (
-            ap (λ (k : KBucket). pending_of k.pending) c.with-pending.ensures,
+            ap (λ (k : KBucket). pending_of k.pending) c.with_pending-self.ensures,
             told x (λ (s : rules.BucketSettings) (m : rules.Bucket). rules.holds (num n.key) m) ∙ pending_apart b o.requires.0 n d e,
           ),
         ),
@@ -74,36 +74,36 @@ apply-due-requires c κs =
     )
 
 -- src/lib.rt:394:5
-returns-2 : tie.Need-returns-2
+returns-2 : tie.Need-returns-in-Nothing
 returns-2 c =
-    let o = c.before.before in
+    let o = c.before in
     let b = o.args.self in
     done_apply (settings_of b) (rules.apply_pending (settings_of b) o.args.now (bucket_of b)) (bucket_of b) [] b
-    (apply_none (settings_of b) o.args.now (bucket_of b) (ap pending_of c.enum_told.given.1)) (becomes_itself b o.requires.0) refl
+    (apply_none (settings_of b) o.args.now (bucket_of b) (ap pending_of c.in-Nothing.is)) (becomes_itself b o.requires.0) refl
 
 -- src/lib.rt:394:5
-returns-3 : tie.Need-returns-3
+returns-3 : tie.Need-returns-else-now-deadline
 returns-3 c =
     let w = c.before in
-    let q = w.before.before.before in
-    let o = q.before.before in
+    let q = w.before.before in
+    let o = q.before in
     let b = o.args.self in
     let s = settings_of b in
     let now = o.args.now in
-    let n : Node = q.p.given.0.0 in
+    let n : Node = q.in-Waiting.node in
     let x = free w in
-    let a = apply_due_lem s now (bucket_of b) _ (ap pending_of q.p.given.1) (omega (arith, w.before.if1.false)) in (
-      c.apply_due_lem.ensures.0 ∙ told x (λ (s' : rules.BucketSettings) (m' : rules.Bucket). (rules.apply_due s' now (node_of n) m').1)
+    let a = apply_due_lem s now (bucket_of b) _ (ap pending_of q.in-Waiting.is) (omega (arith, w.if-now-deadline.false)) in (
+      c.apply_due.ensures.0 ∙ told x (λ (s' : rules.BucketSettings) (m' : rules.Bucket). (rules.apply_due s' now (node_of n) m').1)
           ∙ ap (λ (y : rules.Bucket × List model.EndedPending). y.1) (sym a),
       (
-        subst (λ (y : rules.Bucket × List model.EndedPending). Becomes s y.0 c.apply_due_lem.result.bucket) (sym a)
-            (then_becomes x (λ (s' : rules.BucketSettings) (m' : rules.Bucket). (rules.apply_due s' now (node_of n) m').0) c.apply_due_lem.ensures.1.0),
-        c.apply_due_lem.ensures.1.1,
+        subst (λ (y : rules.Bucket × List model.EndedPending). Becomes s y.0 c.apply_due.result.bucket) (sym a)
+            (then_becomes x (λ (s' : rules.BucketSettings) (m' : rules.Bucket). (rules.apply_due s' now (node_of n) m').0) c.apply_due.ensures.1.0),
+        c.apply_due.ensures.1.1,
       ),
     )
 
-pub apply-pending-sound-spec : {M : Type 1} → statement M
-apply-pending-sound-spec =
+pub apply_pending_sound_spec : {M : Type 1} → statement M
+apply_pending_sound_spec =
     tie.close
     (tie.spec
     enum_told

@@ -23,5 +23,5 @@ returns c =
     let e : c.position.result ≡ position k (held_of b) = omega (arith, c.position.ensures) in
     ap (λ (i : ℕ). ltb i b.count) e ∙ holds_is b o.requires k
 
-pub holds-spec : {M : Type 1} → statement M
-holds-spec = tie.close (tie.spec position-requires returns)
+pub holds_spec : {M : Type 1} → statement M
+holds_spec = tie.close (tie.spec position-requires returns)

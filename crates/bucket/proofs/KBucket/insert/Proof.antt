@@ -11,15 +11,15 @@ use Rattle.bucket.proofs.KBucket.insert.Statement.{statement}
 use Rattle.bucket.proofs.KBucket.insert.Tie as tie
 
 -- src/lib.rt:765:13
-in-range-requires : tie.Need-in-range-requires
+in-range-requires : tie.Need-in_range-codes-requires
 in-range-requires c κs = search rules
 
 -- src/lib.rt:766:13
-asked-at-requires : tie.Need-asked-at-requires
+asked-at-requires : tie.Need-asked_at-q-requires
 asked-at-requires c κs = search rules
 
 -- src/lib.rt:768:13
-returns : tie.Need-returns
+returns : tie.Need-returns-then-q-ne0
 unfolding insert_call
 returns c =
     let q = c.before in
@@ -28,18 +28,18 @@ returns c =
     let s = settings_of b in
     let m = bucket_of b in
     let x = rules.insert s o.args.now (node_of o.args.node) m in
-    refused b (first_failed (questions b (node_codes o.args.node) (timely b o.args.now))) _ x (q.asked_at.ensures.0 ∙ ap (λ (t : Bool). refusal_number (first_failed (questions b t (timely b o.args.now)))) q.before.in_range.ensures) c.if1.true
+    refused b (first_failed (questions b (node_codes o.args.node) (timely b o.args.now))) _ x (q.asked_at-q.ensures.0 ∙ ap (λ (t : Bool). refusal_number (first_failed (questions b t (timely b o.args.now)))) q.in_range-codes.ensures) c.if-q-ne0.true
 
 -- src/lib.rt:773:13
-insert-sound-requires : tie.Need-insert-sound-requires
+insert-sound-requires : tie.Need-insert_sound-r-requires
 insert-sound-requires c κs =
     let q = c.before in
     let o = q.before.before in
-    let k = q.asked_at.ensures.1 c.if1.false in
-    (k.0, (sym q.before.in_range.ensures ∙ k.1, k.2))
+    let k = q.asked_at-q.ensures.1 c.if-q-ne0.false in
+    (k.0, (sym q.in_range-codes.ensures ∙ k.1, k.2))
 
 -- src/lib.rt:762:5
-returns-2 : tie.Need-returns-2
+returns-2 : tie.Need-returns
 unfolding insert_call
 returns-2 c =
     let q = c.before.before.before in
@@ -48,10 +48,10 @@ returns-2 c =
     let s = settings_of b in
     let m = bucket_of b in
     let x = rules.insert s o.args.now (node_of o.args.node) m in
-    let k = q.asked_at.ensures.1 c.before.before.if1.false in
-    accepted b (first_failed (questions b (node_codes o.args.node) (timely b o.args.now))) x _ c.before.insert-sound.result.bucket (ap (λ (t : Bool). first_failed (questions b t (timely b o.args.now))) (sym q.before.in_range.ensures) ∙ k.3) c.before.insert-sound.ensures.0 c.before.insert-sound.ensures.1
+    let k = q.asked_at-q.ensures.1 c.if-q-ne0.false in
+    accepted b (first_failed (questions b (node_codes o.args.node) (timely b o.args.now))) x _ c.insert_sound-r.result.bucket (ap (λ (t : Bool). first_failed (questions b t (timely b o.args.now))) (sym q.in_range-codes.ensures) ∙ k.3) c.insert_sound-r.ensures.0 c.insert_sound-r.ensures.1
 
-pub insert-spec : {M : Type 1} → statement M
-insert-spec =
+pub insert_spec : {M : Type 1} → statement M
+insert_spec =
     tie.close
     (tie.spec in-range-requires asked-at-requires returns insert-sound-requires returns-2)

@@ -23,34 +23,34 @@ words : (s : tie.Start) → Words s.args.node.key
 words s = omega arith
 
 -- src/lib.rt:379:13
-is-connected-requires : tie.Need-is-connected-requires
+is-connected-requires : tie.Need-is_connected-requires
 is-connected-requires c κs = search rules
 
 -- src/lib.rt:380:13
-returns : tie.Need-returns
+returns : tie.Need-returns-then-not-is_connected
 returns c =
     let o = c.before.before in
-    let b = o.args.t1 in
+    let b = o.args.self in
     let s = settings_of b in
     let m = bucket_of b in
     let n = node_of o.args.node in
     let now = o.args.now in
     let x = rules.insert_full s now n m n.connected m.disconnected m.pending in
-    done s x BucketInsertResult.Full m b (full_disconnected s now n m (sym c.before.is-connected.ensures ∙ not-true _ c.if1.true)) (becomes_itself b o.requires.0)
+    done s x BucketInsertResult.Full m b (full_disconnected s now n m (sym c.is_connected.ensures ∙ not-true _ c.if-not-is_connected.true-raw)) (becomes_itself b o.requires.0)
 
 -- src/lib.rt:386:13
-returns-2 : tie.Need-returns-2
+returns-2 : tie.Need-returns-then-self-eq0
 returns-2 c =
     let e1 = c.before in
     let o = e1.before.before in
-    let b = o.args.t1 in
+    let b = o.args.self in
     let s = settings_of b in
     let m = bucket_of b in
     let n = node_of o.args.node in
     let now = o.args.now in
     let x = rules.insert_full s now n m n.connected m.disconnected m.pending in
     done s x BucketInsertResult.Full m b
-    (full_connected s now n m (sym e1.before.is-connected.ensures ∙ not-false _ e1.if1.false) (none_disconnected b o.requires.0 c.if2.true))
+    (full_connected s now n m (sym e1.is_connected.ensures ∙ not-false _ e1.if-not-is_connected.false-raw) (none_disconnected b o.requires.0 c.if-self-eq0.true))
     (becomes_itself b o.requires.0)
 
 -- src/lib.rt:392:12
@@ -58,53 +58,53 @@ waits-requires : tie.Need-waits-requires
 waits-requires c κs = search rules
 
 -- src/lib.rt:393:13
-returns-3 : tie.Need-returns-3
+returns-3 : tie.Need-returns-then-waits
 returns-3 c =
     let o = c.before.before.before.before.before in
-    let b = o.args.t1 in
+    let b = o.args.self in
     let s = settings_of b in
     let m = bucket_of b in
     let n = node_of o.args.node in
     let now = o.args.now in
     let x = rules.insert_full s now n m n.connected m.disconnected m.pending in
-    done s x BucketInsertResult.Full m b (full_pending s now n m (sym c.before.waits.ensures ∙ c.if3.true)) (becomes_itself b o.requires.0)
+    done s x BucketInsertResult.Full m b (full_pending s now n m (sym c.waits.ensures ∙ c.if-waits.true)) (becomes_itself b o.requires.0)
 
 -- src/lib.rt:398:21
-element-copy-out-first : tie.Need-element-copy-out-first
+element-copy-out-first : tie.Need-bounds-self-0
 element-copy-out-first c = search rules
 
 -- src/lib.rt:400:24
-add-deadline : tie.Need-overflow-add-deadline
+add-deadline : tie.Need-overflow_add-deadline
 add-deadline c = search rules
 
 -- src/lib.rt:401:16
-with-pending-requires : tie.Need-with-pending-requires
+with-pending-requires : tie.Need-with_pending-self-requires
 with-pending-requires c κs = search rules
 
 -- src/lib.rt:371:5
-returns-4 : tie.Need-returns-4
+returns-4 : tie.Need-returns
 returns-4 c =
     let e3 = c.before.before.before in
     let e2 = e3.before.before in
     let e1 = e2.before in
     let o = e1.before.before in
-    let b = o.args.t1 in
+    let b = o.args.self in
     let s = settings_of b in
     let m = bucket_of b in
     let n = node_of o.args.node in
     let now = o.args.now in
     let x = rules.insert_full s now n m n.connected m.disconnected m.pending in
-    let rest = some_disconnected b o.requires.0 (omega (arith, e2.if2.false)) in
+    let rest = some_disconnected b o.requires.0 (omega (arith, e2.if-self-eq0.false)) in
     let deadline = now + b.pending_timeout in
-    let empty : m.pending ≡ none = none_is m.pending (sym e3.before.waits.ensures ∙ e3.if3.false) in
-    done s x (BucketInsertResult.Pending (num (get_or b.nodes 0 zero_node).key)) (rules.with_pending (some (record { node = n; deadline = deadline })) m) c.with-pending.result
-    (full_becomes_pending s now n m (node_of (get_or b.nodes 0 zero_node)) rest.0 (sym e1.before.is-connected.ensures ∙ not-false _ e1.if1.false) rest.1 empty)
-    (subst (Becomes s (rules.with_pending (some (record { node = n; deadline = deadline })) m)) (sym c.with-pending.ensures)
+    let empty : m.pending ≡ none = none_is m.pending (sym e3.waits.ensures ∙ e3.if-waits.false) in
+    done s x (BucketInsertResult.Pending (num (get_or b.nodes 0 zero_node).key)) (rules.with_pending (some (record { node = n; deadline = deadline })) m) c.with_pending-self.result
+    (full_becomes_pending s now n m (node_of (get_or b.nodes 0 zero_node)) rest.0 (sym e1.is_connected.ensures ∙ not-false _ e1.if-not-is_connected.false-raw) rest.1 empty)
+    (subst (Becomes s (rules.with_pending (some (record { node = n; deadline = deadline })) m)) (sym c.with_pending-self.ensures)
     (pending_becomes b o.requires.0 (Waiting o.args.node deadline) (some (record { node = n; deadline = deadline }))
     (ap (λ (y : Node). Waiting y deadline) (sym (stored_node_of o.args.node (words o) o.requires.1.0))) o.requires.1.1.1))
 
-pub insert-full-spec : {M : Type 1} → statement M
-insert-full-spec =
+pub insert_full_spec : {M : Type 1} → statement M
+insert_full_spec =
     tie.close
     (tie.spec
     is-connected-requires

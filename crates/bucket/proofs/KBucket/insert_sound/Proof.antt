@@ -16,7 +16,7 @@ holds-requires : tie.Need-holds-requires
 holds-requires c κs = search rules
 
 -- src/lib.rt:293:13
-returns : tie.Need-returns
+returns : tie.Need-returns-then-holds
 returns c =
     let hd = c.before in
     let o = hd.before in
@@ -26,14 +26,14 @@ returns c =
     let n = node_of o.args.node in
     let now = o.args.now in
     let x = rules.insert s now n m in
-    done s x BucketInsertResult.NodeExists m b (insert_exists s now n m (sym hd.holds.ensures ∙ c.if1.true)) (becomes_itself b o.requires.0)
+    done s x BucketInsertResult.NodeExists m b (insert_exists s now n m (sym hd.holds.ensures ∙ c.if-holds.true)) (becomes_itself b o.requires.0)
 
 -- src/lib.rt:298:12
-fails-filter-requires : tie.Need-fails-filter-requires
+fails-filter-requires : tie.Need-fails_filter-requires
 fails-filter-requires c κs = search rules
 
 -- src/lib.rt:299:13
-returns-2 : tie.Need-returns-2
+returns-2 : tie.Need-returns-then-fails_filter
 returns-2 c =
     let hd = c.before.before.before in
     let o = hd.before in
@@ -44,15 +44,15 @@ returns-2 c =
     let now = o.args.now in
     let x = rules.insert s now n m in
     done s x BucketInsertResult.FailedFilter m b
-    (insert_filter s now n m (sym hd.holds.ensures ∙ c.before.before.if1.false) (sym c.before.fails-filter.ensures ∙ c.if2.true))
+    (insert_filter s now n m (sym hd.holds.ensures ∙ c.if-holds.false) (sym c.fails_filter.ensures ∙ c.if-fails_filter.true))
     (becomes_itself b o.requires.0)
 
 -- src/lib.rt:304:12
-is-max-incoming-requires : tie.Need-is-max-incoming-requires
+is-max-incoming-requires : tie.Need-is_max_incoming-requires
 is-max-incoming-requires c κs = search rules
 
 -- src/lib.rt:305:13
-returns-3 : tie.Need-returns-3
+returns-3 : tie.Need-returns-then-is_max_incoming
 returns-3 c =
     let hd = c.before.before.before.before.before in
     let o = hd.before in
@@ -64,21 +64,21 @@ returns-3 c =
     let x = rules.insert s now n m in
     let e2 = c.before.before in
     done s x BucketInsertResult.TooManyIncoming m b
-    (insert_many s now n m (sym hd.holds.ensures ∙ e2.before.before.if1.false) (sym e2.before.fails-filter.ensures ∙ e2.if2.false)
-    (sym c.before.is-max-incoming.ensures ∙ c.if3.true))
+    (insert_many s now n m (sym hd.holds.ensures ∙ e2.if-holds.false) (sym e2.fails_filter.ensures ∙ e2.if-fails_filter.false)
+    (sym c.is_max_incoming.ensures ∙ c.if-is_max_incoming.true))
     (becomes_itself b o.requires.0)
 
 -- src/lib.rt:311:20
-placed-requires : tie.Need-placed-requires
+placed-requires : tie.Need-placed-put-requires
 placed-requires c κs =
     let e3 = c.before.before in
     let e2 = e3.before.before in
     let hd = e2.before.before.before in
     let o = hd.before in
-    (o.requires.0, (c.if4.true, (o.requires.1.0, (sym hd.holds.ensures ∙ e2.before.before.if1.false, sym e3.before.is-max-incoming.ensures ∙ e3.if3.false))))
+    (o.requires.0, (c.if-self-lt-MAX_NODES_PER_BUCKET.true, (o.requires.1.0, (sym hd.holds.ensures ∙ e2.if-holds.false, sym e3.is_max_incoming.ensures ∙ e3.if-is_max_incoming.false))))
 
 -- src/lib.rt:312:13
-returns-4 : tie.Need-returns-4
+returns-4 : tie.Need-returns-then-self-lt-MAX_NODES_PER_BUCKET
 returns-4 c =
     let hd = c.before.before.before.before.before.before.before.before in
     let o = hd.before in
@@ -90,19 +90,19 @@ returns-4 c =
     let x = rules.insert s now n m in
     let e3 = c.before.before.before in
     let e2 = e3.before.before in
-    done s x BucketInsertResult.Inserted (rules.placed n m) c.placed.result
-    (insert_placed s now n m (sym hd.holds.ensures ∙ e2.before.before.if1.false) (sym e2.before.fails-filter.ensures ∙ e2.if2.false)
-    (sym e3.before.is-max-incoming.ensures ∙ e3.if3.false) (subst (λ (k : ℕ). k < rules.max_nodes_per_bucket) (count_of b o.requires.0) c.before.if4.true))
-    c.placed.ensures
+    done s x BucketInsertResult.Inserted (rules.placed n m) c.placed-put.result
+    (insert_placed s now n m (sym hd.holds.ensures ∙ e2.if-holds.false) (sym e2.fails_filter.ensures ∙ e2.if-fails_filter.false)
+    (sym e3.is_max_incoming.ensures ∙ e3.if-is_max_incoming.false) (subst (λ (k : ℕ). k < rules.max_nodes_per_bucket) (count_of b o.requires.0) c.if-self-lt-MAX_NODES_PER_BUCKET.true))
+    c.placed-put.ensures
 
-insert-full-requires : tie.Need-insert-full-requires
+insert-full-requires : tie.Need-insert_full-requires
 insert-full-requires c κs =
     let e2 = c.before.before.before.before in
     let hd = e2.before.before.before in
     let o = hd.before in
-    (o.requires.0, (o.requires.1.0, (o.requires.1.1, sym hd.holds.ensures ∙ e2.before.before.if1.false)))
+    (o.requires.0, (o.requires.1.0, (o.requires.1.1, sym hd.holds.ensures ∙ e2.if-holds.false)))
 
-returns-5 : tie.Need-returns-5
+returns-5 : tie.Need-returns
 returns-5 c =
     let e4 = c.before in
     let e3 = e4.before.before in
@@ -114,14 +114,14 @@ returns-5 c =
     let m = bucket_of b in
     let n = node_of o.args.node in
     let now = o.args.now in
-    let is-full : rules.max_nodes_per_bucket ≤ rules.num_entries m = subst (λ (k : ℕ). rules.max_nodes_per_bucket ≤ k) (count_of b o.requires.0) e4.if4.false in
+    let is-full : rules.max_nodes_per_bucket ≤ rules.num_entries m = subst (λ (k : ℕ). rules.max_nodes_per_bucket ≤ k) (count_of b o.requires.0) e4.if-self-lt-MAX_NODES_PER_BUCKET.false in
     by_rule s (rules.insert s now n m) (rules.insert_full s now n m n.connected m.disconnected m.pending) _ _
-    (insert_full_lem s now n m (sym hd.holds.ensures ∙ e2.before.before.if1.false) (sym e2.before.fails-filter.ensures ∙ e2.if2.false)
-    (sym e3.before.is-max-incoming.ensures ∙ e3.if3.false) is-full)
-    c.insert_full_lem.ensures
+    (insert_full_lem s now n m (sym hd.holds.ensures ∙ e2.if-holds.false) (sym e2.fails_filter.ensures ∙ e2.if-fails_filter.false)
+    (sym e3.is_max_incoming.ensures ∙ e3.if-is_max_incoming.false) is-full)
+    c.insert_full.ensures
 
-pub insert-sound-spec : {M : Type 1} → statement M
-insert-sound-spec =
+pub insert_sound_spec : {M : Type 1} → statement M
+insert_sound_spec =
     tie.close
     (tie.spec
     holds-requires

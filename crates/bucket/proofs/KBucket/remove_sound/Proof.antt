@@ -17,7 +17,7 @@ use Rattle.bucket.proofs.KBucket.remove_sound.Statement.{statement}
 use Rattle.bucket.proofs.KBucket.remove_sound.Tie as tie
 
 -- the node was taken out; what is left of a due pending to do
-module _ (t : tie.After-taken-out) where
+module _ (t : tie.After-taken_out-self) where
   abbrev start : tie.Start
   start = t.before.before.before.before
 
@@ -27,16 +27,16 @@ module _ (t : tie.After-taken-out) where
   abbrev model : rules.Bucket
   model = bucket_of start.args.self
 
-  found : t.before.before.position.result ≡ position key (held_of start.args.self)
-  found = omega (arith, t.before.before.position.ensures)
+  found : t.position-pos.result ≡ position key (held_of start.args.self)
+  found = omega (arith, t.position-pos.ensures)
 
-  rest : Becomes (settings_of start.args.self) (rules.take_out key model) t.taken_out.result
+  rest : Becomes (settings_of start.args.self) (rules.take_out key model) t.taken_out-self.result
   rest =
       let b = start.args.self in
-      let f = found_at b start.pre.0 key t.before.before.position.result found t.before.if1.taken in
-      subst (λ (j : ℕ). Becomes (settings_of b) (rules.take_out j model) t.taken_out.result) f t.taken_out.ensures
+      let f = found_at b start.requires.0 key t.position-pos.result found t.if-pos-count.true in
+      subst (λ (j : ℕ). Becomes (settings_of b) (rules.take_out j model) t.taken_out-self.result) f t.taken_out-self.ensures
 
-  left-pending : (rules.take_out key model).pending ≡ pending_of t.taken_out.result.pending
+  left-pending : (rules.take_out key model).pending ≡ pending_of t.taken_out-self.result.pending
   left-pending = ap (λ (m : rules.Bucket). m.pending) (sym rest.bucket)
 
   removes : {m : rules.Bucket} {r : KBucket} → (rules.apply_pending (settings_of start.args.self) start.args.now (rules.take_out key model)).0 ≡ m
@@ -44,54 +44,54 @@ module _ (t : tie.After-taken-out) where
       → let x = rules.remove (settings_of start.args.self) start.args.now key model in (true ≡ x.0) × Becomes (settings_of start.args.self) x.1 r
   removes {m} {r} e z =
       let b = start.args.self in
-      let h : rules.holds key model ≡ true = sym (holds_is b start.pre.0 key) ∙ lt-ltb _ _ (subst (λ (j : ℕ). j < b.count) found t.before.if1.taken) in
+      let h : rules.holds key model ≡ true = sym (holds_is b start.requires.0 key) ∙ lt-ltb _ _ (subst (λ (j : ℕ). j < b.count) found t.if-pos-count.true) in
       done (settings_of b) (rules.remove (settings_of b) start.args.now key model) true m r
       (remove_held (settings_of b) start.args.now key model h ∙ ap (λ (x : rules.Bucket). (true, x)) e) z
 
-position-requires : tie.Need-position-requires
+position-requires : tie.Need-position-pos-requires
 position-requires c κs = search rules
 
-taken-out-requires : tie.Need-taken-out-requires
+taken-out-requires : tie.Need-taken_out-self-requires
 taken-out-requires c κs = search rules
 
-enum_told : tie.Need-enum-told
+enum_told : tie.Need-enum_told-1
 enum_told c = search rules
 
-returns : tie.Need-returns
+returns : tie.Need-returns-in-Nothing
 returns c =
-    let t = c.before.before in
+    let t = c.before in
     removes t
     (ap (λ x. x.0)
-    (apply_none (settings_of (start t).args.self) (start t).args.now (rules.take_out (key t) (model t)) (left-pending t ∙ ap pending_of c.enum_told.given.1)))
+    (apply_none (settings_of (start t).args.self) (start t).args.now (rules.take_out (key t) (model t)) (left-pending t ∙ ap pending_of c.in-Nothing.is)))
     (rest t)
 
-enum-known-p : tie.Need-enum-known-p
+enum-known-p : tie.Need-enum_known-p
 enum-known-p c = search rules
 
-apply-pending-sound-requires : tie.Need-apply-pending-sound-requires
+apply-pending-sound-requires : tie.Need-apply_pending_sound-a-requires
 apply-pending-sound-requires c κs =
-    let t = c.before.before.before.before in
-    let x = t.taken_out.ensures in
+    let t = c.before.before in
+    let x = t.taken_out-self.ensures in
     let same-time = ap (λ (s : rules.BucketSettings). s.pending_timeout) x.settings in
     (x.sound, omega (arith, (start t).requires.1, same-time))
 
-returns-2 : tie.Need-returns-2
+returns-2 : tie.Need-returns-then-deadline-now
 returns-2 c =
     let a = c.before in
-    let t = a.before.before.before.before.before in
+    let t = a.before.before.before in
     removes t refl
-    (then_becomes (rest t) (λ (s' : rules.BucketSettings) (m' : rules.Bucket). (rules.apply_pending s' (start t).args.now m').0) a.apply-pending-sound.ensures.1.0)
+    (then_becomes (rest t) (λ (s' : rules.BucketSettings) (m' : rules.Bucket). (rules.apply_pending s' (start t).args.now m').0) a.apply_pending_sound-a.ensures.1.0)
 
-returns-3 : tie.Need-returns-3
+returns-3 : tie.Need-returns-in-Waiting
 returns-3 c =
-    let q = c.before.before in
-    let t = q.before.before in
+    let q = c.before in
+    let t = q.before in
     removes t
     (ap (λ x. x.0)
-    (apply_later (settings_of (start t).args.self) (start t).args.now (rules.take_out (key t) (model t)) _ (left-pending t ∙ ap pending_of q.p.given.1) c.if2.false))
+    (apply_later (settings_of (start t).args.self) (start t).args.now (rules.take_out (key t) (model t)) _ (left-pending t ∙ ap pending_of q.in-Waiting.is) c.if-deadline-now.false))
     (rest t)
 
-returns-4 : tie.Need-returns-4
+returns-4 : tie.Need-returns
 returns-4 c =
     let i = c.before in
     let o = i.before.before in
@@ -99,12 +99,12 @@ returns-4 c =
     let s = settings_of b in
     let m = bucket_of b in
     let k = num o.args.key in
-    let e : i.position.result ≡ position k (held_of b) = omega (arith, i.position.ensures) in
-    let h : rules.holds k m ≡ false = sym (holds_is b o.requires.0 k) ∙ le-ltb _ _ (subst (λ (j : ℕ). b.count ≤ j) e c.if1.false) in
+    let e : i.position-pos.result ≡ position k (held_of b) = omega (arith, i.position-pos.ensures) in
+    let h : rules.holds k m ≡ false = sym (holds_is b o.requires.0 k) ∙ le-ltb _ _ (subst (λ (j : ℕ). b.count ≤ j) e c.if-pos-count.false) in
     done s (rules.remove s o.args.now k m) false m b (remove_absent s o.args.now k m h) (becomes_itself b o.requires.0)
 
-pub remove-sound-spec : {M : Type 1} → statement M
-remove-sound-spec =
+pub remove_sound_spec : {M : Type 1} → statement M
+remove_sound_spec =
     tie.close
     (tie.spec
     position-requires

@@ -13,15 +13,15 @@ use Rattle.bucket.proofs.KBucket.update_value.Statement.{statement}
 use Rattle.bucket.proofs.KBucket.update_value.Tie as tie
 
 -- src/lib.rt:826:13
-in-range-requires : tie.Need-in-range-requires
+in-range-requires : tie.Need-in_range-codes-requires
 in-range-requires c κs = search rules
 
 -- src/lib.rt:827:13
-asked-requires : tie.Need-asked-requires
+asked-requires : tie.Need-asked-q-requires
 asked-requires c κs = search rules
 
 -- src/lib.rt:829:13
-returns : tie.Need-returns
+returns : tie.Need-returns-then-q-ne0
 unfolding update_value_call
 returns c =
     let q = c.before in
@@ -30,18 +30,18 @@ returns c =
     let s = settings_of b in
     let m = bucket_of b in
     let x = rules.update_value s (num o.args.key) (value_of o.args.value) m in
-    refused b (first_failed (questions b (value_codes o.args.value) [])) _ x (q.asked.ensures.0 ∙ ap (λ (t : Bool). refusal_number (first_failed (questions b t []))) q.before.in_range.ensures) c.if1.true
+    refused b (first_failed (questions b (value_codes o.args.value) [])) _ x (q.asked-q.ensures.0 ∙ ap (λ (t : Bool). refusal_number (first_failed (questions b t []))) q.in_range-codes.ensures) c.if-q-ne0.true
 
 -- src/lib.rt:834:13
-update-value-sound-requires : tie.Need-update-value-sound-requires
+update-value-sound-requires : tie.Need-update_value_sound-r-requires
 update-value-sound-requires c κs =
     let q = c.before in
     let o = q.before.before in
-    let k = q.asked.ensures.1 c.if1.false in
-    (k.0, sym q.before.in_range.ensures ∙ k.1)
+    let k = q.asked-q.ensures.1 c.if-q-ne0.false in
+    (k.0, sym q.in_range-codes.ensures ∙ k.1)
 
 -- src/lib.rt:823:5
-returns-2 : tie.Need-returns-2
+returns-2 : tie.Need-returns
 unfolding update_value_call
 returns-2 c =
     let q = c.before.before.before in
@@ -50,10 +50,10 @@ returns-2 c =
     let s = settings_of b in
     let m = bucket_of b in
     let x = rules.update_value s (num o.args.key) (value_of o.args.value) m in
-    let k = q.asked.ensures.1 c.before.before.if1.false in
-    accepted b (first_failed (questions b (value_codes o.args.value) [])) x _ c.before.update-value-sound.result.bucket (ap (λ (t : Bool). first_failed (questions b t [])) (sym q.before.in_range.ensures) ∙ k.2) c.before.update-value-sound.ensures.0 c.before.update-value-sound.ensures.1
+    let k = q.asked-q.ensures.1 c.if-q-ne0.false in
+    accepted b (first_failed (questions b (value_codes o.args.value) [])) x _ c.update_value_sound-r.result.bucket (ap (λ (t : Bool). first_failed (questions b t [])) (sym q.in_range-codes.ensures) ∙ k.2) c.update_value_sound-r.ensures.0 c.update_value_sound-r.ensures.1
 
-pub update-value-spec : {M : Type 1} → statement M
-update-value-spec =
+pub update_value_spec : {M : Type 1} → statement M
+update_value_spec =
     tie.close
     (tie.spec in-range-requires asked-requires returns update-value-sound-requires returns-2)

@@ -15,15 +15,15 @@ use Rattle.bucket.proofs.KBucket.update_value_sound.Statement.{statement}
 use Rattle.bucket.proofs.KBucket.update_value_sound.Tie as tie
 
 -- src/lib.rt:579:13
-position-requires : tie.Need-position-requires
+position-requires : tie.Need-position-pos-requires
 position-requires c κs = search rules
 
 -- src/lib.rt:581:13
-value-at-requires : tie.Need-value-at-requires
+value-at-requires : tie.Need-value_at-requires
 value-at-requires c κs = search rules
 
 -- src/lib.rt:581:13
-returns : tie.Need-returns
+returns : tie.Need-returns-then-pos-count
 returns c =
     let i = c.before.before in
     let o = i.before.before in
@@ -31,18 +31,18 @@ returns c =
     let s = settings_of b in
     let m = bucket_of b in
     let k = num o.args.key in
-    let e : i.position.result ≡ position k (held_of b) = omega (arith, i.position.ensures) in
-    let f : key_at b i.position.result ≡ k = found_at b o.requires.0 k i.position.result e c.before.if1.true in (
+    let e : i.position-pos.result ≡ position k (held_of b) = omega (arith, i.position-pos.ensures) in
+    let f : key_at b i.position-pos.result ≡ k = found_at b o.requires.0 k i.position-pos.result e c.if-pos-count.true in (
       subst (λ (j : ℕ). update_result_of c.value_at.result.result ≡ (rules.update_value s j (value_of o.args.value) m).0) f c.value_at.ensures.0,
       subst (λ (j : ℕ). Becomes s (rules.update_value s j (value_of o.args.value) m).1 c.value_at.result.bucket) f c.value_at.ensures.1,
     )
 
 -- src/lib.rt:583:9
-value-pending-requires : tie.Need-value-pending-requires
+value-pending-requires : tie.Need-value_pending-requires
 value-pending-requires c κs = search rules
 
 -- src/lib.rt:571:5
-returns-2 : tie.Need-returns-2
+returns-2 : tie.Need-returns
 returns-2 c =
     let i = c.before.before in
     let o = i.before.before in
@@ -50,13 +50,13 @@ returns-2 c =
     let s = settings_of b in
     let m = bucket_of b in
     let k = num o.args.key in
-    let e : i.position.result ≡ position k (held_of b) = omega (arith, i.position.ensures) in
-    let a = value_absent s k (value_of o.args.value) m (absent_at b o.requires.0 k i.position.result e c.before.if1.false) in (
-      c.value-pending.ensures.0 ∙ ap (λ (x : UpdateResult × rules.Bucket). x.0) (sym a),
-      subst (λ (x : UpdateResult × rules.Bucket). Becomes s x.1 c.value-pending.result.bucket) (sym a) c.value-pending.ensures.1,
+    let e : i.position-pos.result ≡ position k (held_of b) = omega (arith, i.position-pos.ensures) in
+    let a = value_absent s k (value_of o.args.value) m (absent_at b o.requires.0 k i.position-pos.result e c.if-pos-count.false) in (
+      c.value_pending.ensures.0 ∙ ap (λ (x : UpdateResult × rules.Bucket). x.0) (sym a),
+      subst (λ (x : UpdateResult × rules.Bucket). Becomes s x.1 c.value_pending.result.bucket) (sym a) c.value_pending.ensures.1,
     )
 
-pub update-value-sound-spec : {M : Type 1} → statement M
-update-value-sound-spec =
+pub update_value_sound_spec : {M : Type 1} → statement M
+update_value_sound_spec =
     tie.close
     (tie.spec position-requires value-at-requires returns value-pending-requires returns-2)

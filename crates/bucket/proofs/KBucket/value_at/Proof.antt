@@ -17,25 +17,25 @@ use Rattle.bucket.proofs.KBucket.value_at.Statement.{statement}
 use Rattle.bucket.proofs.KBucket.value_at.Tie as tie
 
 -- the filter is off, or it was tested without the node
-passes : (c : tie.Joined2)
+passes : (c : tie.Joined-self-eq1)
     → let o = c.before.before.before.before in
-    let b = o.args.t1 in
+    let b = o.args.self in
     rules.fails_bucket_filter (settings_of b) (value_of o.args.value) (rules.take_out (key_at b o.args.pos) (bucket_of b)) ≡ false
 passes c =
     let o = c.before.before.before.before in
-    let b = o.args.t1 in
+    let b = o.args.self in
     let v = value_of o.args.value in
     ⊎_elim
-    (λ x. sym (told x.1.ensures (λ (s : rules.BucketSettings) (m : rules.Bucket). rules.fails_bucket_filter s v m)) ∙ sym x.2.ensures ∙ x.3.left)
-    (λ x. filter_off (settings_of b) v (rules.take_out (key_at b o.args.pos) (bucket_of b)) (ne_eqb _ _ x.left))
-    c.if2.branch
+    (λ x. sym (told x.taken_out-rest.ensures (λ (s : rules.BucketSettings) (m : rules.Bucket). rules.fails_bucket_filter s v m)) ∙ sym x.fails_filter.ensures ∙ x.if-fails_filter.false)
+    (λ x. filter_off (settings_of b) v (rules.take_out (key_at b o.args.pos) (bucket_of b)) (ne_eqb _ _ x.if-self-eq1.false))
+    c.if-self-eq1.branch-raw
 
 -- src/lib.rt:517:19
-mul-old : tie.Need-overflow-mul-old
+mul-old : tie.Need-offset_bounds-self-pos
 mul-old c = search rules
 
 -- src/lib.rt:517:19
-element-copy-out-old : tie.Need-element-copy-out-old
+element-copy-out-old : tie.Need-bounds-self-pos
 element-copy-out-old c = search rules
 
 -- src/lib.rt:518:12
@@ -43,10 +43,10 @@ eq-requires : tie.Need-eq-requires
 eq-requires c κs = search rules
 
 -- src/lib.rt:519:13
-returns : tie.Need-returns
+returns : tie.Need-returns-then-eq
 returns c =
     let o = c.before.before.before in
-    let b = o.args.t1 in
+    let b = o.args.self in
     let s = settings_of b in
     let m = bucket_of b in
     let k = key_at b o.args.pos in
@@ -54,21 +54,21 @@ returns c =
     let old = node_of (get_or b.nodes o.args.pos zero_node) in
     let at = get_at b o.requires.0 o.args.pos o.requires.1.0 in
     let x = rules.update_value s k v m in
-    done s x UpdateResult.NotModified m b (value_same s k v m old at (sym c.before.eq.ensures ∙ c.if1.true)) (becomes_itself b o.requires.0)
+    done s x UpdateResult.NotModified m b (value_same s k v m old at (sym c.eq.ensures ∙ c.if-eq.true)) (becomes_itself b o.requires.0)
 
 -- src/lib.rt:524:13
-taken-out-requires : tie.Need-taken-out-requires
+taken-out-requires : tie.Need-taken_out-rest-requires
 taken-out-requires c κs = search rules
 
 -- src/lib.rt:525:12
-fails-filter-requires : tie.Need-fails-filter-requires
+fails-filter-requires : tie.Need-fails_filter-requires
 fails-filter-requires c κs = search rules
 
 -- src/lib.rt:526:13
-returns-2 : tie.Need-returns-2
+returns-2 : tie.Need-returns-then-fails_filter
 returns-2 c =
     let o = c.before.before.before.before.before.before.before in
-    let b = o.args.t1 in
+    let b = o.args.self in
     let s = settings_of b in
     let m = bucket_of b in
     let k = key_at b o.args.pos in
@@ -78,30 +78,30 @@ returns-2 c =
     let x = rules.update_value s k v m in
     let t = c.before.before in
     let e1 = t.before.before in
-    let y = t.taken_out.ensures in
-    done s x (UpdateResult.Failed FailureReason.BucketFilter) (rules.take_out k m) t.taken_out.result
-    (value_fails s k v m old at (sym e1.before.eq.ensures ∙ e1.if1.false)
-    (sym (told y (λ (s' : rules.BucketSettings) (m' : rules.Bucket). rules.fails_bucket_filter s' v m')) ∙ sym c.before.fails-filter.ensures ∙ c.if3.true))
+    let y = t.taken_out-rest.ensures in
+    done s x (UpdateResult.Failed FailureReason.BucketFilter) (rules.take_out k m) t.taken_out-rest.result
+    (value_fails s k v m old at (sym e1.eq.ensures ∙ e1.if-eq.false)
+    (sym (told y (λ (s' : rules.BucketSettings) (m' : rules.Bucket). rules.fails_bucket_filter s' v m')) ∙ sym c.fails_filter.ensures ∙ c.if-fails_filter.true))
     y
 
 -- src/lib.rt:531:13
-with-value-requires : tie.Need-with-value-requires
+with-value-requires : tie.Need-with_value-node-requires
 with-value-requires c κs = search rules
 
 -- src/lib.rt:532:9
-mul-node : tie.Need-overflow-mul-node
+mul-node : tie.Need-offset_bounds-self-pos-2
 mul-node c = search rules
 
 -- src/lib.rt:532:9
-element-set-from-node : tie.Need-element-set-from-node
+element-set-from-node : tie.Need-bounds-self-pos-2
 element-set-from-node c = search rules
 
 -- src/lib.rt:510:5
-returns-3 : tie.Need-returns-3
+returns-3 : tie.Need-returns
 returns-3 c =
     let e1 = c.before.before in
     let o = e1.before.before.before in
-    let b = o.args.t1 in
+    let b = o.args.self in
     let s = settings_of b in
     let m = bucket_of b in
     let k = key_at b o.args.pos in
@@ -109,15 +109,15 @@ returns-3 c =
     let old = node_of (get_or b.nodes o.args.pos zero_node) in
     let at = get_at b o.requires.0 o.args.pos o.requires.1.0 in
     let x = rules.update_value s k v m in
-    let e = value_changes s k v m old at (sym e1.before.eq.ensures ∙ e1.if1.false) (passes c.before) in
-    let new = c.with_value.ensures in
-    let z = changed b o.requires.0 o.args.pos o.requires.1.0 o.args.value o.requires.1.1 c.with_value.result new in
+    let e = value_changes s k v m old at (sym e1.eq.ensures ∙ e1.if-eq.false) (passes c.before) in
+    let new = c.with_value-node.ensures in
+    let z = changed b o.requires.0 o.args.pos o.requires.1.0 o.args.value o.requires.1.1 c.with_value-node.result new in
     done s x UpdateResult.Updated z _ e
-    (revalued_becomes b o.requires.0 o.args.pos o.requires.1.0 o.args.value o.requires.1.1 c.with_value.result new
+    (revalued_becomes b o.requires.0 o.args.pos o.requires.1.0 o.args.value o.requires.1.1 c.with_value-node.result new
     (subst (Formed b.max_incoming) (ap (λ (r : UpdateResult × rules.Bucket). r.1) e) (update_value_formed s k v m (formed_of b o.requires.0))))
 
-pub value-at-spec : {M : Type 1} → statement M
-value-at-spec =
+pub value_at_spec : {M : Type 1} → statement M
+value_at_spec =
     tie.close
     (tie.spec
     mul-old

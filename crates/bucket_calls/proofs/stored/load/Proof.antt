@@ -9,30 +9,30 @@ use borrow.Author.Rules.{rules}
 use Rattle.bucket_calls.proofs.stored.load.Statement.{statement}
 use Rattle.bucket_calls.proofs.stored.load.Tie as tie
 
-get-u64-requires : tie.Need-get-u64-requires
+get-u64-requires : tie.Need-get_u64-pending_timeout-requires
 get-u64-requires c κs = search rules
 
-shared-slice-read-size : tie.Need-shared-slice-read-size
+shared-slice-read-size : tie.Need-bounds-s-818
 shared-slice-read-size c = search rules
 
-size-requires : tie.Need-size-requires
+size-requires : tie.Need-size-max_incoming-requires
 size-requires c κs = search rules
 
-shared-slice-read-filter : tie.Need-shared-slice-read-filter
+shared-slice-read-filter : tie.Need-bounds-s-819
 shared-slice-read-filter c = search rules
 
-load-at-requires : tie.Need-load-at-requires
+load-at-requires : tie.Need-load_at-requires
 load-at-requires c κs =
-    let st = c.before.before.before.before.before in
+    let st = c in
     let s = st.args.s.now in
-    let e = c.before.size.ensures in
+    let e = c.size-max_incoming.ensures in
     let t = lent_codes s st.requires.1 in
     (omega arith, (ap (λ (m : ℕ). sound_bytes m (part s 0 bucket_size)) e ∙ lent_sound s st.requires.1, (omega (arith, t.0, e), t.1)))
 
 returns : tie.Need-returns
 returns c =
-    let s = c.before.before.before.before.before.before.args.s.now in
-    lent_becomes s _ _ c.load_at.result c.before.before.before.before.get-u64.ensures c.before.before.size.ensures c.load_at.ensures
+    let s = c.args.s.now in
+    lent_becomes s _ _ c.load_at.result c.get_u64-pending_timeout.ensures c.size-max_incoming.ensures c.load_at.ensures
 
 pub load_spec : {M : Type 1} → statement M
 load_spec =

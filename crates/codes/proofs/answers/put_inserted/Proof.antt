@@ -14,31 +14,31 @@ code a = answer_code (insert_answer a)
 abbrev bytes : InsertAnswer → List ℕ
 bytes a = answer_bytes (insert_answer a)
 
-enum-known-inserted : tie.Need-enum-known-inserted
+enum-known-inserted : tie.Need-enum_known-inserted
 enum-known-inserted c = search rules
 
 refused-requires : tie.Need-refused-requires
 refused-requires c κs = search rules
 
-enum-known-inserted-2 : tie.Need-enum-known-inserted-2
+enum-known-inserted-2 : tie.Need-enum_known-inserted-in-Answered-1
 enum-known-inserted-2 c = search rules
 
-put-bucket-insert-requires : tie.Need-put-bucket-insert-requires
+put-bucket-insert-requires : tie.Need-put_bucket_insert-requires
 put-bucket-insert-requires c κs = search rules
 
-returns : tie.Need-returns
-returns c = carried code bytes _ c.before.before.inserted.given.1 c.refused.ensures (kept _)
+returns : tie.Need-returns-in-Refused
+returns c = carried code bytes _ c.in-Refused.is c.refused.ensures (kept _)
 
-same_length : tie.Need-same-length
+same_length : tie.Need-shape_of-answer
 same_length c = search rules
 
-returns-2 : tie.Need-returns-2
+returns-2 : tie.Need-returns-in-Answered
 returns-2 c =
-    let p = c.before.before in
-    carried code bytes _ p.before.before.before.inserted2.given.1 p.put-bucket-insert.ensures.0 p.put-bucket-insert.ensures.1
+    let p = c in
+    carried code bytes _ p.in-Answered.is p.put_bucket_insert.ensures.0 p.put_bucket_insert.ensures.1
 
-pub put-inserted-spec : {M : Type 1} → statement M
-put-inserted-spec =
+pub put_inserted_spec : {M : Type 1} → statement M
+put_inserted_spec =
     tie.close
     (tie.spec
     enum-known-inserted

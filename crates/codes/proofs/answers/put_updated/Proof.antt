@@ -14,31 +14,31 @@ code a = answer_code (insert_or_update_answer a)
 abbrev bytes : InsertOrUpdateAnswer → List ℕ
 bytes a = answer_bytes (insert_or_update_answer a)
 
-enum-known-updated : tie.Need-enum-known-updated
+enum-known-updated : tie.Need-enum_known-updated
 enum-known-updated c = search rules
 
 refused-requires : tie.Need-refused-requires
 refused-requires c κs = search rules
 
-enum-known-updated-2 : tie.Need-enum-known-updated-2
+enum-known-updated-2 : tie.Need-enum_known-updated-in-Answered-1
 enum-known-updated-2 c = search rules
 
-put-result-requires : tie.Need-put-result-requires
+put-result-requires : tie.Need-put_result-requires
 put-result-requires c κs = search rules
 
-returns : tie.Need-returns
-returns c = carried code bytes _ c.before.before.updated.given.1 c.refused.ensures (kept _)
+returns : tie.Need-returns-in-Refused
+returns c = carried code bytes _ c.in-Refused.is c.refused.ensures (kept _)
 
-same_length : tie.Need-same-length
+same_length : tie.Need-shape_of-answer
 same_length c = search rules
 
-returns-2 : tie.Need-returns-2
+returns-2 : tie.Need-returns-in-Answered
 returns-2 c =
-    let p = c.before.before in
-    carried code bytes _ p.before.before.before.updated2.given.1 p.put-result.ensures.0 p.put-result.ensures.1
+    let p = c in
+    carried code bytes _ p.in-Answered.is p.put_result.ensures.0 p.put_result.ensures.1
 
-pub put-updated-spec : {M : Type 1} → statement M
-put-updated-spec =
+pub put_updated_spec : {M : Type 1} → statement M
+put_updated_spec =
     tie.close
     (tie.spec
     enum-known-updated

@@ -10,23 +10,23 @@ use borrow.Author.Rules.{rules}
 use Rattle.codes.proofs.answers.short_node.Statement.{statement}
 use Rattle.codes.proofs.answers.short_node.Tie as tie
 
-in-range-requires : tie.Need-in-range-requires
+in-range-requires : tie.Need-in_range-requires
 in-range-requires c κs = search rules
 
-asked-at-requires : tie.Need-asked-at-requires
+asked-at-requires : tie.Need-asked_at-q-requires
 asked-at-requires c κs = search rules
 
-refused-short-requires : tie.Need-refused-short-requires
+refused-short-requires : tie.Need-refused_short-requires
 refused-short-requires c κs = search rules
 
 returns : tie.Need-returns
 returns c =
-    let i = c.before in
-    let r = i.before in
-    let a = r.before.before.before.args in
-    let e = ap (λ (b : Bool). failed_of_five a.key.now (b && (leb a.state 1 && leb a.direction 1)) (some a.time) a.s.now) (sym r.in_range.ensures) ∙ i.asked_at.ensures in
+    let i = c in
+    let r = i in
+    let a = r.args in
+    let e = ap (λ (b : Bool). failed_of_five a.key.now (b && (leb a.state 1 && leb a.direction 1)) (some a.time) a.s.now) (sym r.in_range.ensures) ∙ i.asked_at-q.ensures in
     c.refused_short.ensures ∙ ap (λ (o : Option ℕ). refused_code (given o 6)) (sym e)
 
-pub short-node-spec : {M : Type 1} → statement M
-short-node-spec =
+pub short_node_spec : {M : Type 1} → statement M
+short_node_spec =
     tie.close (tie.spec in-range-requires asked-at-requires refused-short-requires returns)

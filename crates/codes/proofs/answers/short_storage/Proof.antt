@@ -7,14 +7,14 @@ use borrow.Author.Rules.{rules}
 use Rattle.codes.proofs.answers.short_storage.Statement.{statement}
 use Rattle.codes.proofs.answers.short_storage.Tie as tie
 
-asked-storage-requires : tie.Need-asked-storage-requires
+asked-storage-requires : tie.Need-asked_storage-q-requires
 asked-storage-requires c κs = search rules
 
-refused-short-requires : tie.Need-refused-short-requires
+refused-short-requires : tie.Need-refused_short-requires
 refused-short-requires c κs = search rules
 
 returns : tie.Need-returns
-returns c = c.refused_short.ensures ∙ ap (λ (o : Option ℕ). refused_code (given o 6)) (sym c.before.asked-storage.ensures)
+returns c = c.refused_short.ensures ∙ ap (λ (o : Option ℕ). refused_code (given o 6)) (sym c.asked_storage-q.ensures)
 
-pub short-storage-spec : {M : Type 1} → statement M
-short-storage-spec = tie.close (tie.spec asked-storage-requires refused-short-requires returns)
+pub short_storage_spec : {M : Type 1} → statement M
+short_storage_spec = tie.close (tie.spec asked-storage-requires refused-short-requires returns)

@@ -6,26 +6,26 @@ use borrow.Author.Rules.{rules}
 use Rattle.codes.proofs.answers.update_code.Statement.{statement}
 use Rattle.codes.proofs.answers.update_code.Tie as tie
 
-enum-known-answer : tie.Need-enum-known-answer
+enum-known-answer : tie.Need-enum_known-answer
 enum-known-answer c = search rules
 
 refused-requires : tie.Need-refused-requires
 refused-requires c κs = search rules
 
-enum-known-answer-2 : tie.Need-enum-known-answer-2
+enum-known-answer-2 : tie.Need-enum_known-answer-in-Answered-1
 enum-known-answer-2 c = search rules
 
-update-code-requires : tie.Need-update-code-requires
+update-code-requires : tie.Need-update_code-requires
 update-code-requires c κs = search rules
 
-returns : tie.Need-returns
-returns c = told (λ (a : UpdateAnswer). answer_code (update_answer a)) c.before.before.answer.given.1 c.refused.ensures
+returns : tie.Need-returns-in-Refused
+returns c = told (λ (a : UpdateAnswer). answer_code (update_answer a)) c.in-Refused.is c.refused.ensures
 
-returns-2 : tie.Need-returns-2
+returns-2 : tie.Need-returns-in-Answered
 returns-2 c = search rules
 
-pub update-code-spec : {M : Type 1} → statement M
-update-code-spec =
+pub update_code_spec : {M : Type 1} → statement M
+update_code_spec =
     tie.close
     (tie.spec
     enum-known-answer

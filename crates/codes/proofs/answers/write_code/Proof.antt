@@ -8,28 +8,28 @@ use borrow.Author.Rules.{rules}
 use Rattle.codes.proofs.answers.write_code.Statement.{statement}
 use Rattle.codes.proofs.answers.write_code.Tie as tie
 
-enum-known-answer : tie.Need-enum-known-answer
+enum-known-answer : tie.Need-enum_known-answer
 enum-known-answer c = search rules
 
 refused-requires : tie.Need-refused-requires
 refused-requires c κs = search rules
 
-enum-known-answer-2 : tie.Need-enum-known-answer-2
+enum-known-answer-2 : tie.Need-enum_known-answer-in-Answered-1
 enum-known-answer-2 c = search rules
 
-cast-result : tie.Need-overflow-cast-result
+cast-result : tie.Need-overflow_cast-result
 cast-result c =
-    let a = c.before in
-    let h = written_most a.answer2.given.1 a.before.before.requires in
+    let a = c in
+    let h = written_most a.in-Answered.is a.requires in
     record { fits = omega (arith, h) }
 
-returns : tie.Need-returns
-returns c = told (λ (a : WriteAnswer). reply_code (write_answer_of a)) c.before.before.answer.given.1 c.refused.ensures
+returns : tie.Need-returns-in-Refused
+returns c = told (λ (a : WriteAnswer). reply_code (write_answer_of a)) c.in-Refused.is c.refused.ensures
 
-returns-2 : tie.Need-returns-2
+returns-2 : tie.Need-returns-in-Answered
 returns-2 c = search rules
 
-pub write-code-spec : {M : Type 1} → statement M
-write-code-spec =
+pub write_code_spec : {M : Type 1} → statement M
+write_code_spec =
     tie.close
     (tie.spec enum-known-answer refused-requires enum-known-answer-2 cast-result returns returns-2)

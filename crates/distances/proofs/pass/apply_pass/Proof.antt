@@ -5,87 +5,87 @@ use borrow.Author.Rules.{rules}
 use Rattle.distances.proofs.pass.apply_pass.Statement.{statement}
 use Rattle.distances.proofs.pass.apply_pass.Tie as tie
 
-abbrev invariant-loop : tie.invariant-loop
+abbrev invariant-loop : tie.invariant-loop-p
 invariant-loop s₀ distances taken time records p₀ s p = Passing s₀ time distances taken s p
 
-abbrev decreases-loop : tie.decreases-loop
+abbrev decreases-loop : tie.decreases-loop-p
 decreases-loop s₀ distances taken time records p₀ s p = taken - p
 
-returns : tie.Need-returns invariant-loop decreases-loop
+returns : tie.Need-returns-then-records-eq0 invariant-loop decreases-loop
 returns c =
-    let k = c.before.before in
-    let st = k.before in
+    let k = c in
+    let st = k in
     let a = st.args in
-    let p = pass_appliable a.s.now a.time a.distances.now a.taken (λ j. (k.slice-known.given j).fits) st.requires.0 st.requires.1.0 st.requires.1.1.1.0 st.requires.1.1.1.1.0 in
-    passing_nothing a.s.now a.time a.distances.now a.taken p st.requires.1.1.1.1.1 c.if1.true
+    let p = pass_appliable a.s.now a.time a.distances.now a.taken (λ j. (k.slice_known-1.given j).fits) st.requires.0 st.requires.1.0 st.requires.1.1.1.0 st.requires.1.1.1.1.0 in
+    passing_nothing a.s.now a.time a.distances.now a.taken p st.requires.1.1.1.1.1 c.if-records-eq0.true
 
-loop-holds : tie.Need-loop-init invariant-loop decreases-loop
+loop-holds : tie.Need-loop-p-init invariant-loop decreases-loop
 loop-holds c =
-    let k = c.before.before in
-    let st = k.before in
+    let k = c in
+    let st = k in
     let a = st.args in
-    let p = pass_appliable a.s.now a.time a.distances.now a.taken (λ j. (k.slice-known.given j).fits) st.requires.0 st.requires.1.0 st.requires.1.1.1.0 st.requires.1.1.1.1.0 in
+    let p = pass_appliable a.s.now a.time a.distances.now a.taken (λ j. (k.slice_known-1.given j).fits) st.requires.0 st.requires.1.0 st.requires.1.1.1.0 st.requires.1.1.1.1.0 in
     passing_starts a.s.now a.time a.distances.now a.taken p
 
-mul-apply-one : tie.Need-overflow-mul-apply-one invariant-loop decreases-loop
+mul-apply-one : tie.Need-offset_bounds-distances-p invariant-loop decreases-loop
 mul-apply-one c = search rules
 
-shared-slice-read-apply-one : tie.Need-shared-slice-read-apply-one invariant-loop decreases-loop
+shared-slice-read-apply-one : tie.Need-bounds-distances-p invariant-loop decreases-loop
 shared-slice-read-apply-one c =
-    let i = c.before.before in
-    let st = i.before.before.before.before.before in
-    omega (arith, i.loop-test.true, st.requires.1.1.0)
+    let i = c in
+    let st = i in
+    omega (arith, i.loop-p-test.true, st.requires.1.1.0)
 
-apply-one-requires : tie.Need-apply-one-requires invariant-loop decreases-loop
+apply-one-requires : tie.Need-apply_one-requires invariant-loop decreases-loop
 apply-one-requires c κs =
-    let i = c.before.before in
-    let l = i.before in
-    let k = l.before.before.before in
-    let st = k.before in
+    let i = c in
+    let l = i in
+    let k = l in
+    let st = k in
     let a = st.args in
-    let p = pass_appliable a.s.now a.time a.distances.now a.taken (λ j. (k.slice-known.given j).fits) st.requires.0 st.requires.1.0 st.requires.1.1.1.0 st.requires.1.1.1.1.0 in
-    let w = l.loop.invariant in (
-      passing_holds a.s.now a.time a.distances.now a.taken p l.loop.s l.loop.p w,
+    let p = pass_appliable a.s.now a.time a.distances.now a.taken (λ j. (k.slice_known-1.given j).fits) st.requires.0 st.requires.1.0 st.requires.1.1.1.0 st.requires.1.1.1.1.0 in
+    let w = l.loop-p.invariant in (
+      passing_holds a.s.now a.time a.distances.now a.taken p l.loop-p.s l.loop-p.p w,
       (
-        passing_timely a.s.now a.time a.distances.now a.taken p l.loop.s l.loop.p w,
+        passing_timely a.s.now a.time a.distances.now a.taken p l.loop-p.s l.loop-p.p w,
         (
-          passing_formed a.s.now a.time a.distances.now a.taken p l.loop.s l.loop.p w st.requires.1.1.0 i.loop-test.true,
-          passing_room a.s.now a.time a.distances.now a.taken p l.loop.s l.loop.p w st.requires.1.1.0 i.loop-test.true,
+          passing_formed a.s.now a.time a.distances.now a.taken p l.loop-p.s l.loop-p.p w st.requires.1.1.0 i.loop-p-test.true,
+          passing_room a.s.now a.time a.distances.now a.taken p l.loop-p.s l.loop-p.p w st.requires.1.1.0 i.loop-p-test.true,
         ),
       ),
     )
 
-add-p : tie.Need-overflow-add-p invariant-loop decreases-loop
+add-p : tie.Need-overflow_add-p invariant-loop decreases-loop
 add-p c = search rules
 
-loop-less : tie.Need-loop-smaller invariant-loop decreases-loop
+loop-less : tie.Need-loop-p-smaller invariant-loop decreases-loop
 loop-less c = search rules
 
-loop-again : tie.Need-loop-preserved invariant-loop decreases-loop
+loop-again : tie.Need-loop-p-preserved invariant-loop decreases-loop
 loop-again c =
-    let w = c.before.before in
-    let i = w.before.before.before in
-    let l = i.before in
-    let k = l.before.before.before in
-    let st = k.before in
+    let w = c in
+    let i = w in
+    let l = i in
+    let k = l in
+    let st = k in
     let a = st.args in
-    let p = pass_appliable a.s.now a.time a.distances.now a.taken (λ j. (k.slice-known.given j).fits) st.requires.0 st.requires.1.0 st.requires.1.1.1.0 st.requires.1.1.1.1.0 in
-    passing_next a.s.now a.time a.distances.now a.taken p l.loop.s l.loop.p l.loop.invariant st.requires.1.1.0 i.loop-test.true _ w.apply_one.ensures
+    let p = pass_appliable a.s.now a.time a.distances.now a.taken (λ j. (k.slice_known-1.given j).fits) st.requires.0 st.requires.1.0 st.requires.1.1.1.0 st.requires.1.1.1.1.0 in
+    passing_next a.s.now a.time a.distances.now a.taken p l.loop-p.s l.loop-p.p l.loop-p.invariant st.requires.1.1.0 i.loop-p-test.true _ w.apply_one.ensures
 
-same_length : tie.Need-same-length invariant-loop decreases-loop
+same_length : tie.Need-shape_of-s invariant-loop decreases-loop
 same_length c = search rules
 
-returns-2 : tie.Need-returns-2 invariant-loop decreases-loop
+returns-2 : tie.Need-returns invariant-loop decreases-loop
 returns-2 c =
-    let l = c.before in
-    let k = l.before.before.before in
-    let st = k.before in
+    let l = c in
+    let k = l in
+    let st = k in
     let a = st.args in
-    let p = pass_appliable a.s.now a.time a.distances.now a.taken (λ j. (k.slice-known.given j).fits) st.requires.0 st.requires.1.0 st.requires.1.1.1.0 st.requires.1.1.1.1.0 in
-    passing_ends a.s.now a.time a.distances.now a.taken p l.loop.s l.loop.p l.loop.invariant st.requires.1.1.0 c.loop-test.false
+    let p = pass_appliable a.s.now a.time a.distances.now a.taken (λ j. (k.slice_known-1.given j).fits) st.requires.0 st.requires.1.0 st.requires.1.1.1.0 st.requires.1.1.1.1.0 in
+    passing_ends a.s.now a.time a.distances.now a.taken p l.loop-p.s l.loop-p.p l.loop-p.invariant st.requires.1.1.0 c.loop-p-test.false
 
-pub apply-pass-spec : {M : Type 1} → statement M
-apply-pass-spec =
+pub apply_pass_spec : {M : Type 1} → statement M
+apply_pass_spec =
     tie.close
     (tie.spec
     invariant-loop

@@ -7,60 +7,60 @@ use borrow.Author.Rules.{rules}
 use Rattle.distances.proofs.pass.given_at.Statement.{statement}
 use Rattle.distances.proofs.pass.given_at.Tie as tie
 
-mul-d : tie.Need-overflow-mul-d
+mul-d : tie.Need-offset_bounds-distances-p
 mul-d c = search rules
 
-shared-slice-read-d : tie.Need-shared-slice-read-d
+shared-slice-read-d : tie.Need-bounds-distances-p
 shared-slice-read-d c = search rules
 
-index-at-requires : tie.Need-index-at-requires
+index-at-requires : tie.Need-index_at-index-requires
 index-at-requires c κs = search rules
 
-enum_told : tie.Need-enum-told
+enum_told : tie.Need-enum_told-1
 enum_told c = search rules
 
-enum-known-index : tie.Need-enum-known-index
+enum-known-index : tie.Need-enum_known-index
 enum-known-index c = search rules
 
-given-in-requires : tie.Need-given-in-requires
+given-in-requires : tie.Need-given_in-g-requires
 given-in-requires c κs =
-    let st = c.before.before.before.before.before.before.before in
-    let e = index_told _ c.before.before.before.index_at.ensures c.before.index.given.1 in
+    let st = c in
+    let e = index_told _ c.index_at-index.ensures c.in-At.is in
     (ready_of st.args.s.now _ _ st.requires.0 e st.requires.1.1.1, st.requires.1.0)
 
-returns : tie.Need-returns
+returns : tie.Need-returns-then-g-eq0
 returns c =
-    let st = c.before.before.before.before.before.before.before.before.before.before in
+    let st = c in
     let a = st.args in
-    let e = index_told _ c.before.before.before.before.before.before.index_at.ensures c.before.before.before.before.index.given.1 in
-    yields_by e (yields_nothing a.time a.distances.now (table_of a.s.now) _ _ a.p e (omega (arith, st.requires.1.1.0)) c.before.before.given-in.ensures c.if1.true)
+    let e = index_told _ c.index_at-index.ensures c.in-At.is in
+    yields_by e (yields_nothing a.time a.distances.now (table_of a.s.now) _ _ a.p e (omega (arith, st.requires.1.1.0)) c.given_in-g.ensures c.if-g-eq0.true)
 
-stands-before-requires : tie.Need-stands-before-requires
+stands-before-requires : tie.Need-stands_before-requires
 stands-before-requires c κs = search rules
 
-returns-2 : tie.Need-returns-2
+returns-2 : tie.Need-returns-then-stands_before
 returns-2 c =
-    let st = c.before.before.before.before.before.before.before.before.before.before.before.before in
+    let st = c in
     let a = st.args in
-    let e = index_told _ c.before.before.before.before.before.before.before.before.index_at.ensures c.before.before.before.before.before.before.index.given.1 in
+    let e = index_told _ c.index_at-index.ensures c.in-At.is in
     yields_by e
     (yields_again a.time a.distances.now (table_of a.s.now) _ _ a.p e (omega (arith, st.requires.1.1.0)) (record { count = 0; records = 0; placed = 0 }) refl refl refl
-    (sym c.before.stands-before.ensures ∙ c.if2.true))
+    (sym c.stands_before.ensures ∙ c.if-stands_before.true))
 
-returns-3 : tie.Need-returns-3
-returns-3 c = yields_none _ _ _ (record { count = 0; records = 0; placed = 0 }) refl refl refl (index_told _ c.before.before.index_at.ensures c.enum_told.given.1)
+returns-3 : tie.Need-returns-in-Nothing
+returns-3 c = yields_none _ _ _ (record { count = 0; records = 0; placed = 0 }) refl refl refl (index_told _ c.index_at-index.ensures c.in-Nothing.is)
 
-returns-4 : tie.Need-returns-4
+returns-4 : tie.Need-returns-else-stands_before
 returns-4 c =
-    let st = c.before.before.before.before.before.before.before.before.before.before.before.before in
+    let st = c in
     let a = st.args in
-    let e = index_told _ c.before.before.before.before.before.before.before.before.index_at.ensures c.before.before.before.before.before.before.index.given.1 in
+    let e = index_told _ c.index_at-index.ensures c.in-At.is in
     yields_by e
-    (yields_first a.time a.distances.now (table_of a.s.now) _ _ a.p e (omega (arith, st.requires.1.1.0)) c.before.before.before.before.given-in.ensures
-    (sym c.before.stands-before.ensures ∙ c.if2.false))
+    (yields_first a.time a.distances.now (table_of a.s.now) _ _ a.p e (omega (arith, st.requires.1.1.0)) c.given_in-g.ensures
+    (sym c.stands_before.ensures ∙ c.if-stands_before.false))
 
-pub given-at-spec : {M : Type 1} → statement M
-given-at-spec =
+pub given_at_spec : {M : Type 1} → statement M
+given_at_spec =
     tie.close
     (tie.spec
     mul-d

@@ -11,38 +11,38 @@ use borrow.Author.Rules.{rules}
 use Rattle.distances.proofs.pass.stands_before.Statement.{statement}
 use Rattle.distances.proofs.pass.stands_before.Tie as tie
 
-abbrev invariant-loop : tie.invariant-loop
+abbrev invariant-loop : tie.invariant-loop-j
 invariant-loop distances p d j₀ j = (j ≤ p) × (all_below j (λ (k : ℕ). not (eqb (get_or distances k 0) d)) ≡ true)
 
-abbrev decreases-loop : tie.decreases-loop
+abbrev decreases-loop : tie.decreases-loop-j
 decreases-loop distances p d j₀ j = p - j
 
-loop-holds : tie.Need-loop-init invariant-loop decreases-loop
+loop-holds : tie.Need-loop-j-init invariant-loop decreases-loop
 loop-holds c = (omega arith, all_none _)
 
-mul-if1 : tie.Need-overflow-mul-if1 invariant-loop decreases-loop
+mul-if1 : tie.Need-offset_bounds-distances-j invariant-loop decreases-loop
 mul-if1 c = search rules
 
-shared-slice-read-if1 : tie.Need-shared-slice-read-if1 invariant-loop decreases-loop
+shared-slice-read-if1 : tie.Need-bounds-distances-j invariant-loop decreases-loop
 shared-slice-read-if1 c = search rules
 
-returns : tie.Need-returns invariant-loop decreases-loop
-returns c = let a = c.before.before.before.before.args in stands_found a.distances.now a.p a.d c.before.before.before.loop.j c.before.before.loop-test.true c.if1.true
+returns : tie.Need-returns-then-distances-j invariant-loop decreases-loop
+returns c = let a = c.args in stands_found a.distances.now a.p a.d c.loop-j.j c.loop-j-test.true c.if-distances-j.true
 
-add-j : tie.Need-overflow-add-j invariant-loop decreases-loop
+add-j : tie.Need-overflow_add-j invariant-loop decreases-loop
 add-j c = search rules
 
-loop-less : tie.Need-loop-smaller invariant-loop decreases-loop
+loop-less : tie.Need-loop-j-smaller invariant-loop decreases-loop
 loop-less c = search rules
 
-loop-again : tie.Need-loop-preserved invariant-loop decreases-loop
-loop-again c = let a = c.before.before.before.before.args in (omega arith, stands_on a.distances.now a.p a.d c.before.before.before.loop.j c.before.before.before.loop.invariant.1 c.if1.false)
+loop-again : tie.Need-loop-j-preserved invariant-loop decreases-loop
+loop-again c = let a = c.args in (omega arith, stands_on a.distances.now a.p a.d c.loop-j.j c.loop-j.invariant.1 c.if-distances-j.false)
 
-returns-2 : tie.Need-returns-2 invariant-loop decreases-loop
-returns-2 c = let a = c.before.before.args in let e : c.before.loop.j ≡ a.p = omega arith in stands_not a.distances.now a.p a.d 0 (rw e at c.before.loop.invariant.1)
+returns-2 : tie.Need-returns invariant-loop decreases-loop
+returns-2 c = let a = c.args in let e : c.loop-j.j ≡ a.p = omega arith in stands_not a.distances.now a.p a.d 0 (rw e at c.loop-j.invariant.1)
 
-pub stands-before-spec : {M : Type 1} → statement M
-stands-before-spec =
+pub stands_before_spec : {M : Type 1} → statement M
+stands_before_spec =
     tie.close
     (tie.spec
     invariant-loop

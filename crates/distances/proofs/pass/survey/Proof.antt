@@ -8,86 +8,86 @@ use borrow.Author.Rules.{rules}
 use Rattle.distances.proofs.pass.survey.Statement.{statement}
 use Rattle.distances.proofs.pass.survey.Tie as tie
 
-abbrev invariant-loop : tie.invariant-loop
+abbrev invariant-loop : tie.invariant-loop-p
 invariant-loop s distances n time records₀ seen₀ p₀ records seen p = Counting time n distances s records seen p
 
-abbrev decreases-loop : tie.decreases-loop
+abbrev decreases-loop : tie.decreases-loop-p
 decreases-loop s distances n time records₀ seen₀ p₀ records seen p = length distances - p
 
-loop-holds : tie.Need-loop-init invariant-loop decreases-loop
-loop-holds c = let a = c.before.before.args in counting_starts a.time a.n a.distances.now a.s.now
+loop-holds : tie.Need-loop-p-init invariant-loop decreases-loop
+loop-holds c = let a = c.args in counting_starts a.time a.n a.distances.now a.s.now
 
-mul-is-formed : tie.Need-overflow-mul-is-formed invariant-loop decreases-loop
+mul-is-formed : tie.Need-offset_bounds-distances-p invariant-loop decreases-loop
 mul-is-formed c = search rules
 
-shared-slice-read-is-formed : tie.Need-shared-slice-read-is-formed invariant-loop decreases-loop
+shared-slice-read-is-formed : tie.Need-bounds-distances-p invariant-loop decreases-loop
 shared-slice-read-is-formed c = search rules
 
-is-formed-requires : tie.Need-is-formed-requires invariant-loop decreases-loop
+is-formed-requires : tie.Need-is_formed-requires invariant-loop decreases-loop
 is-formed-requires c κs = search rules
 
-returns : tie.Need-returns invariant-loop decreases-loop
+returns : tie.Need-returns-then-not-is_formed invariant-loop decreases-loop
 returns c =
-    let b = c.before in
-    let i = b.before.before in
-    let l = i.before in
-    let a = l.before.before.before.args in
-    counting_fails a.time a.n a.distances.now a.s.now l.loop.invariant i.loop-test.true (sym b.is-formed.ensures ∙ not-true _ c.if1.true) _ refl
+    let b = c in
+    let i = b in
+    let l = i in
+    let a = l.args in
+    counting_fails a.time a.n a.distances.now a.s.now l.loop-p.invariant i.loop-p-test.true (sym b.is_formed.ensures ∙ not-true _ c.if-not-is_formed.true-raw) _ refl
 
-given-at-requires : tie.Need-given-at-requires invariant-loop decreases-loop
+given-at-requires : tie.Need-given_at-g-requires invariant-loop decreases-loop
 given-at-requires c κs =
-    let b = c.before in
-    let i = b.before.before in
-    let st = i.before.before.before.before in
-    (st.requires.0, (st.requires.1.0, (i.loop-test.true, sym b.is-formed.ensures ∙ not-false _ c.if1.false)))
+    let b = c in
+    let i = b in
+    let st = i in
+    (st.requires.0, (st.requires.1.0, (i.loop-p-test.true, sym b.is_formed.ensures ∙ not-false _ c.if-not-is_formed.false-raw)))
 
-add-records : tie.Need-overflow-add-records invariant-loop decreases-loop
+add-records : tie.Need-overflow_add-records invariant-loop decreases-loop
 add-records c =
-    let g = c.before in
-    let w = g.before.before.before.before.before.loop.invariant in
-    omega (arith, w.few, g.given_at.ensures.one)
+    let g = c in
+    let w = g.loop-p.invariant in
+    omega (arith, w.few, g.given_at-g.ensures.one)
 
-add-seen : tie.Need-overflow-add-seen invariant-loop decreases-loop
+add-seen : tie.Need-overflow_add-seen invariant-loop decreases-loop
 add-seen c =
-    let g = c.before.before in
-    let w = g.before.before.before.before.before.loop.invariant in
-    omega (arith, w.low, g.given_at.ensures.few)
+    let g = c in
+    let w = g.loop-p.invariant in
+    omega (arith, w.low, g.given_at-g.ensures.few)
 
-add-p : tie.Need-overflow-add-p invariant-loop decreases-loop
+add-p : tie.Need-overflow_add-p invariant-loop decreases-loop
 add-p c = search rules
 
-returns-2 : tie.Need-returns-2 invariant-loop decreases-loop
+returns-2 : tie.Need-returns-then-g-n invariant-loop decreases-loop
 returns-2 c =
-    let g = c.before.before.before.before in
-    let f = g.before in
-    let b = f.before in
-    let i = b.before.before in
-    let l = i.before in
-    let a = l.before.before.before.args in
-    counting_stops a.time a.n a.distances.now a.s.now l.loop.invariant i.loop-test.true (sym b.is-formed.ensures ∙ not-false _ f.if1.false) g.given_at.ensures c.if2.true _ refl refl refl
+    let g = c in
+    let f = g in
+    let b = f in
+    let i = b in
+    let l = i in
+    let a = l.args in
+    counting_stops a.time a.n a.distances.now a.s.now l.loop-p.invariant i.loop-p-test.true (sym b.is_formed.ensures ∙ not-false _ f.if-not-is_formed.false-raw) g.given_at-g.ensures c.if-g-n.true _ refl refl refl
 
-loop-less : tie.Need-loop-smaller invariant-loop decreases-loop
+loop-less : tie.Need-loop-p-smaller invariant-loop decreases-loop
 loop-less c = search rules
 
-loop-again : tie.Need-loop-preserved invariant-loop decreases-loop
+loop-again : tie.Need-loop-p-preserved invariant-loop decreases-loop
 loop-again c =
-    let g = c.before.before.before.before in
-    let f = g.before in
-    let b = f.before in
-    let i = b.before.before in
-    let l = i.before in
-    let st = l.before.before.before in
+    let g = c in
+    let f = g in
+    let b = f in
+    let i = b in
+    let l = i in
+    let st = l in
     let a = st.args in
-    counting_goes a.time a.n a.distances.now a.s.now l.loop.invariant i.loop-test.true (sym b.is-formed.ensures ∙ not-false _ f.if1.false) g.given_at.ensures st.requires.1.1 c.if2.false
+    counting_goes a.time a.n a.distances.now a.s.now l.loop-p.invariant i.loop-p-test.true (sym b.is_formed.ensures ∙ not-false _ f.if-not-is_formed.false-raw) g.given_at-g.ensures st.requires.1.1 c.if-g-n.false
 
-returns-3 : tie.Need-returns-3 invariant-loop decreases-loop
+returns-3 : tie.Need-returns invariant-loop decreases-loop
 returns-3 c =
-    let l = c.before in
-    let a = l.before.before.before.args in
-    counting_ends a.time a.n a.distances.now a.s.now l.loop.invariant c.loop-test.false _ refl refl refl
+    let l = c in
+    let a = l.args in
+    counting_ends a.time a.n a.distances.now a.s.now l.loop-p.invariant c.loop-p-test.false _ refl refl refl
 
-pub survey-spec : {M : Type 1} → statement M
-survey-spec =
+pub survey_spec : {M : Type 1} → statement M
+survey_spec =
     tie.close
     (tie.spec
     invariant-loop

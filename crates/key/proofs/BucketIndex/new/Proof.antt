@@ -15,29 +15,29 @@ use Rattle.key.proofs.BucketIndex.new.Tie as tie
 words : (s : tie.Start) → Words s.args.distance
 words s = omega arith
 
-leading-zeros-requires : tie.Need-leading-zeros-requires
+leading-zeros-requires : tie.Need-leading_zeros-bits-requires
 leading-zeros-requires c κs = search rules
 
-sub-bits : tie.Need-overflow-sub-bits
-sub-bits c = omega (arith, c.leading_zeros.ensures, leading_le 256 (num c.before.args.distance))
+sub-bits : tie.Need-overflow_sub-bits
+sub-bits c = omega (arith, c.leading_zeros-bits.ensures, leading_le 256 (num c.args.distance))
 
-returns : tie.Need-returns
+returns : tie.Need-returns-then-bits-eq0
 returns c =
     let f = c.before in
     let s = f.before in
     let d = num s.args.distance in
-    ap less_one (none_left d (num_lt s.args.distance (words s)) (ap (λ (n : ℕ). 256 - n) (sym f.leading_zeros.ensures) ∙ c.if1.true))
+    ap less_one (none_left d (num_lt s.args.distance (words s)) (ap (λ (n : ℕ). 256 - n) (sym f.leading_zeros-bits.ensures) ∙ c.if-bits-eq0.true))
     ∙ index_of_distance d
 
-sub-t3 : tie.Need-overflow-sub-t3
+sub-t3 : tie.Need-overflow_sub-result
 sub-t3 c = search rules
 
-returns-2 : tie.Need-returns-2
+returns-2 : tie.Need-returns
 returns-2 c =
     let f = c.before in
-    let d = num f.before.args.distance in
-    ap (λ (n : ℕ). bucket_index_of (BucketIndex.At (256 - n - 1))) f.leading_zeros.ensures
-    ∙ ap less_one (some_left d (λ e. c.if1.false (ap (λ (n : ℕ). 256 - n) f.leading_zeros.ensures ∙ e)))
+    let d = num f.args.distance in
+    ap (λ (n : ℕ). bucket_index_of (BucketIndex.At (256 - n - 1))) f.leading_zeros-bits.ensures
+    ∙ ap less_one (some_left d (λ e. c.if-bits-eq0.false (ap (λ (n : ℕ). 256 - n) f.leading_zeros-bits.ensures ∙ e)))
     ∙ index_of_distance d
 
 pub new_spec : {M : Type 1} → statement M

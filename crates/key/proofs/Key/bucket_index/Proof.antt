@@ -20,5 +20,5 @@ returns c =
     ∙ sym (index_of_distance (num f.distance.result))
     ∙ ap index_of f.distance.ensures ∙ sym (bucket_index_lem (num s.args.self) (num s.args.other))
 
-pub bucket-index-spec : {M : Type 1} → statement M
-bucket-index-spec = tie.close (tie.spec distance-requires new-requires returns)
+pub bucket_index_spec : {M : Type 1} → statement M
+bucket_index_spec = tie.close (tie.spec distance-requires new-requires returns)

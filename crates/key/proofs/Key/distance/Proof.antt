@@ -15,5 +15,5 @@ returns c =
     let s = c.before.before.before.before.before.before.before.before in
     xor_key_lem s.args.self s.args.other (words-self s) (words-other s)
 
-pub distance-spec : {M : Type 1} → statement M
-distance-spec = tie.close (tie.spec returns)
+pub distance_spec : {M : Type 1} → statement M
+distance_spec = tie.close (tie.spec returns)

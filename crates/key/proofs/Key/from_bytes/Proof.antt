@@ -12,9 +12,9 @@ load-requires c κs = search rules
 
 returns : tie.Need-returns
 returns c =
-    let b = c.before.before.args.bytes.now in
+    let b = c.args.bytes.now in
     let l : length b ≤ 32 = search rules in
     c.load.ensures ∙ ap number (part_all b 32 l)
 
-pub from-bytes-spec : {M : Type 1} → statement M
-from-bytes-spec = tie.close (tie.spec load-requires returns)
+pub from_bytes_spec : {M : Type 1} → statement M
+from_bytes_spec = tie.close (tie.spec load-requires returns)

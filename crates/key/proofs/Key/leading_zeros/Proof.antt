@@ -8,41 +8,41 @@ use Rattle.key.proofs.Key.leading_zeros.Tie as tie
 words : (s : tie.Start) → Words s.args.self
 words s = omega arith
 
-cast-result : tie.Need-overflow-cast-result
-cast-result c = omega (arith, leading_le 64 c.before.before.before.args.self.w0)
+cast-result : tie.Need-overflow_cast-result
+cast-result c = omega (arith, leading_le 64 c.args.self.w0)
 
-returns : tie.Need-returns
-returns c = let s = c.before.before.before in leading0 s.args.self (words s) c.before.if1.true
+returns : tie.Need-returns-then-self-ne0
+returns c = let s = c.before.before.before in leading0 s.args.self (words s) c.if-self-ne0.true
 
-cast-result-2 : tie.Need-overflow-cast-result-2
-cast-result-2 c = omega (arith, leading_le 64 c.before.before.before.before.before.args.self.w1)
+cast-result-2 : tie.Need-overflow_cast-result-then-self-ne0-2
+cast-result-2 c = omega (arith, leading_le 64 c.args.self.w1)
 
-add-result : tie.Need-overflow-add-result
-add-result c = omega (arith, leading_le 64 c.before.before.before.before.before.args.self.w1)
+add-result : tie.Need-overflow_add-result
+add-result c = omega (arith, leading_le 64 c.args.self.w1)
 
-returns-2 : tie.Need-returns-2
-returns-2 c = let s = c.before.before.before.before.before in leading1 s.args.self (words s) (omega arith) c.before.if2.true
+returns-2 : tie.Need-returns-then-self-ne0-2
+returns-2 c = let s = c.before.before.before.before.before in leading1 s.args.self (words s) (omega arith) c.if-self-ne0-2.true
 
-cast-result-3 : tie.Need-overflow-cast-result-3
-cast-result-3 c = omega (arith, leading_le 64 c.before.before.before.before.before.before.before.args.self.w2)
+cast-result-3 : tie.Need-overflow_cast-result-then-self-ne0-3
+cast-result-3 c = omega (arith, leading_le 64 c.args.self.w2)
 
-add-result-2 : tie.Need-overflow-add-result-2
-add-result-2 c = omega (arith, leading_le 64 c.before.before.before.before.before.before.before.args.self.w2)
+add-result-2 : tie.Need-overflow_add-result-then-self-ne0-3
+add-result-2 c = omega (arith, leading_le 64 c.args.self.w2)
 
-returns-3 : tie.Need-returns-3
-returns-3 c = let s = c.before.before.before.before.before.before.before in leading2 s.args.self (words s) (omega arith) (omega arith) c.before.if3.true
+returns-3 : tie.Need-returns-then-self-ne0-3
+returns-3 c = let s = c.before.before.before.before.before.before.before in leading2 s.args.self (words s) (omega arith) (omega arith) c.if-self-ne0-3.true
 
-cast-result-4 : tie.Need-overflow-cast-result-4
-cast-result-4 c = omega (arith, leading_le 64 c.before.before.before.before.before.before.before.args.self.w3)
+cast-result-4 : tie.Need-overflow_cast-result-2
+cast-result-4 c = omega (arith, leading_le 64 c.args.self.w3)
 
-add-result-3 : tie.Need-overflow-add-result-3
-add-result-3 c = omega (arith, leading_le 64 c.before.before.before.before.before.before.before.args.self.w3)
+add-result-3 : tie.Need-overflow_add-result-2
+add-result-3 c = omega (arith, leading_le 64 c.args.self.w3)
 
-returns-4 : tie.Need-returns-4
+returns-4 : tie.Need-returns
 returns-4 c = let s = c.before.before.before.before.before.before.before in leading3 s.args.self (words s) (omega arith) (omega arith) (omega arith)
 
-pub leading-zeros-spec : {M : Type 1} → statement M
-leading-zeros-spec =
+pub leading_zeros_spec : {M : Type 1} → statement M
+leading_zeros_spec =
     tie.close
     (tie.spec
     cast-result

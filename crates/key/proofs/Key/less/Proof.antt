@@ -10,28 +10,28 @@ words-self s = omega arith
 words-other : (s : tie.Start) → Words s.args.other
 words-other s = omega arith
 
-returns : tie.Need-returns
+returns : tie.Need-returns-then-self-other
 returns c =
     let t = c.before.before in
     let s = t.before.before.before in
-    less_first s.args.self s.args.other (words-self s) (words-other s) t.if1.true
+    less_first s.args.self s.args.other (words-self s) (words-other s) t.if-self-other.true
 
-returns-2 : tie.Need-returns-2
+returns-2 : tie.Need-returns-then-self-other-2
 returns-2 c =
     let t = c.before.before in
     let s = t.before.before.before.before.before.before in
-    less_second s.args.self s.args.other (words-self s) (words-other s) (omega arith) t.if2.true
+    less_second s.args.self s.args.other (words-self s) (words-other s) (omega arith) t.if-self-other-2.true
 
-returns-3 : tie.Need-returns-3
+returns-3 : tie.Need-returns-then-self-other-3
 returns-3 c =
     let t = c.before.before in
     let s = t.before.before.before.before.before.before.before.before.before in
-    less_third s.args.self s.args.other (words-self s) (words-other s) (omega arith) (omega arith) t.if3.true
+    less_third s.args.self s.args.other (words-self s) (words-other s) (omega arith) (omega arith) t.if-self-other-3.true
 
-returns-4 : tie.Need-returns-4
+returns-4 : tie.Need-returns
 returns-4 c =
     let s = c.before.before.before.before.before.before.before.before.before.before.before in
     less_last s.args.self s.args.other (words-self s) (words-other s) (omega arith) (omega arith) (omega arith)
 
-pub less-spec : {M : Type 1} → statement M
-less-spec = tie.close (tie.spec returns returns-2 returns-3 returns-4)
+pub less_spec : {M : Type 1} → statement M
+less_spec = tie.close (tie.spec returns returns-2 returns-3 returns-4)

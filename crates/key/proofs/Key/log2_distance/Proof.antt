@@ -26,32 +26,32 @@ D-lt : (s : tie.Start) → D s < 2 ^ 256
 D-lt s = xor_lt 256 (num s.args.self) (num s.args.other) (num_lt s.args.self (words-self s)) (num_lt s.args.other (words-other s))
 
 -- what was subtracted
-zeros : (f : tie.After-leading-zeros) → f.leading_zeros.result ≡ count_leading_zeros 256 (D f.before.before)
-zeros f = f.leading_zeros.ensures ∙ ap (count_leading_zeros 256) f.before.distance.ensures
+zeros : (f : tie.After-leading_zeros-bits) → f.leading_zeros-bits.result ≡ count_leading_zeros 256 (D f.before.before)
+zeros f = f.leading_zeros-bits.ensures ∙ ap (count_leading_zeros 256) f.distance-d.ensures
 
-distance-requires : tie.Need-distance-requires
+distance-requires : tie.Need-distance-d-requires
 distance-requires c κs = search rules
 
-leading-zeros-requires : tie.Need-leading-zeros-requires
+leading-zeros-requires : tie.Need-leading_zeros-bits-requires
 leading-zeros-requires c κs = search rules
 
-sub-bits : tie.Need-overflow-sub-bits
+sub-bits : tie.Need-overflow_sub-bits
 sub-bits c = omega (arith, zeros c, leading_le 256 (D c.before.before))
 
-returns : tie.Need-returns
+returns : tie.Need-returns-then-bits-eq0
 returns c =
     let f = c.before in
     let s = f.before.before in
-    none_left (D s) (D-lt s) (ap (λ (n : ℕ). 256 - n) (sym (zeros f)) ∙ c.if1.true) ∙ sym (log2_distance_lem (num s.args.self) (num s.args.other))
+    none_left (D s) (D-lt s) (ap (λ (n : ℕ). 256 - n) (sym (zeros f)) ∙ c.if-bits-eq0.true) ∙ sym (log2_distance_lem (num s.args.self) (num s.args.other))
 
-returns-2 : tie.Need-returns-2
+returns-2 : tie.Need-returns
 returns-2 c =
     let f = c.before in
     let s = f.before.before in
     ap (λ (n : ℕ). log2_distance_of (Log2Distance.At (256 - n))) (zeros f)
-    ∙ some_left (D s) (λ e. c.if1.false (ap (λ (n : ℕ). 256 - n) (zeros f) ∙ e))
+    ∙ some_left (D s) (λ e. c.if-bits-eq0.false (ap (λ (n : ℕ). 256 - n) (zeros f) ∙ e))
     ∙ sym (log2_distance_lem (num s.args.self) (num s.args.other))
 
-pub log2-distance-spec : {M : Type 1} → statement M
-log2-distance-spec =
+pub log2_distance_spec : {M : Type 1} → statement M
+log2_distance_spec =
     tie.close (tie.spec distance-requires leading-zeros-requires sub-bits returns returns-2)

@@ -8,28 +8,28 @@ use Rattle.key.proofs.Key.store.Tie as tie
 words : (s : tie.Start) → Words s.args.self
 words s = omega arith
 
-put-u64-requires : tie.Need-put-u64-requires
+put-u64-requires : tie.Need-put_u64-requires
 put-u64-requires c κs = search rules
 
-add-put-u64 : tie.Need-overflow-add-put-u64
+add-put-u64 : tie.Need-overflow_add-at
 add-put-u64 c = search rules
 
-put-u64-requires-2 : tie.Need-put-u64-requires-2
+put-u64-requires-2 : tie.Need-put_u64-requires-2
 put-u64-requires-2 c κs = search rules
 
-add-put-u64-2 : tie.Need-overflow-add-put-u64-2
+add-put-u64-2 : tie.Need-overflow_add-at-2
 add-put-u64-2 c = search rules
 
-put-u64-requires-3 : tie.Need-put-u64-requires-3
+put-u64-requires-3 : tie.Need-put_u64-requires-3
 put-u64-requires-3 c κs = search rules
 
-add-put-u64-3 : tie.Need-overflow-add-put-u64-3
+add-put-u64-3 : tie.Need-overflow_add-at-3
 add-put-u64-3 c = search rules
 
-put-u64-requires-4 : tie.Need-put-u64-requires-4
+put-u64-requires-4 : tie.Need-put_u64-requires-4
 put-u64-requires-4 c κs = search rules
 
-same_length : tie.Need-same-length
+same_length : tie.Need-shape_of-s
 same_length c = search rules
 
 returns : tie.Need-returns

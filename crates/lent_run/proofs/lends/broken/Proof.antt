@@ -4,11 +4,11 @@ use borrow.Author.Rules.{rules}
 use Rattle.lent_run.proofs.lends.broken.Statement.{statement}
 use Rattle.lent_run.proofs.lends.broken.Tie as tie
 
-empty-requires : tie.Need-empty-requires
+empty-requires : tie.Need-empty-b-requires
 empty-requires c κs = search rules
 
 returns : tie.Need-returns
-returns c = ap malformed c.before.empty.ensures
+returns c = ap malformed c.empty-b.ensures
 
-pub broken-spec : {M : Type 1} → statement M
-broken-spec = tie.close (tie.spec empty-requires returns)
+pub broken_spec : {M : Type 1} → statement M
+broken_spec = tie.close (tie.spec empty-requires returns)

@@ -8,49 +8,49 @@ use borrow.Author.Rules.{rules}
 use Rattle.positions.proofs.answers.result_names.Statement.{statement}
 use Rattle.positions.proofs.answers.result_names.Tie as tie
 
-enum_told : tie.Need-enum-told
+enum_told : tie.Need-enum_told-1
 enum_told c = search rules
 
-enum-known-r : tie.Need-enum-known-r
+enum-known-r : tie.Need-enum_known-r
 enum-known-r c = search rules
 
 eq-requires : tie.Need-eq-requires
 eq-requires c κs = search rules
 
-enum-told-2 : tie.Need-enum-told-2
+enum-told-2 : tie.Need-enum_told-in-FailedFilter
 enum-told-2 c = search rules
 
-enum-told-3 : tie.Need-enum-told-3
+enum-told-3 : tie.Need-enum_told-in-TooManyIncoming
 enum-told-3 c = search rules
 
-enum-told-4 : tie.Need-enum-told-4
+enum-told-4 : tie.Need-enum_told-in-Full
 enum-told-4 c = search rules
 
-enum-told-5 : tie.Need-enum-told-5
+enum-told-5 : tie.Need-enum_told-in-NodeExists
 enum-told-5 c = search rules
 
-returns : tie.Need-returns
+returns : tie.Need-returns-in-Inserted
 returns c = search rules
 
-returns-2 : tie.Need-returns-2
+returns-2 : tie.Need-returns-in-Pending
 returns-2 c =
-    let o = c.before.before.before.before.args in
-    c.eq.ensures ∙ ap (λ (x : InsertResult). names_key (num o.key) (Reply.Answered (insert_result_of x))) (sym c.before.before.r.given.1)
+    let o = c.args in
+    c.eq.ensures ∙ ap (λ (x : InsertResult). names_key (num o.key) (Reply.Answered (insert_result_of x))) (sym c.in-Pending.is)
 
-returns-3 : tie.Need-returns-3
+returns-3 : tie.Need-returns-in-FailedFilter
 returns-3 c = search rules
 
-returns-4 : tie.Need-returns-4
+returns-4 : tie.Need-returns-in-TooManyIncoming
 returns-4 c = search rules
 
-returns-5 : tie.Need-returns-5
+returns-5 : tie.Need-returns-in-Full
 returns-5 c = search rules
 
-returns-6 : tie.Need-returns-6
+returns-6 : tie.Need-returns-in-NodeExists
 returns-6 c = search rules
 
-pub result-names-spec : {M : Type 1} → statement M
-result-names-spec =
+pub result_names_spec : {M : Type 1} → statement M
+result_names_spec =
     tie.close
     (tie.spec
     enum_told

@@ -3,11 +3,11 @@ use borrow.Author.Rules.{rules}
 use Rattle.positions.proofs.rows.empty.Statement.{statement}
 use Rattle.positions.proofs.rows.empty.Tie as tie
 
-new-requires : tie.Need-new-requires
+new-requires : tie.Need-new-made-requires
 new-requires c κs = search rules
 
 returns : tie.Need-returns
-returns c = bucket_of_lem c.before.new.ensures
+returns c = bucket_of_lem c.new-made.ensures
 
-pub empty-spec : {M : Type 1} → statement M
-empty-spec = tie.close (tie.spec new-requires returns)
+pub empty_spec : {M : Type 1} → statement M
+empty_spec = tie.close (tie.spec new-requires returns)

@@ -2,7 +2,7 @@ use borrow.Author.Rules.{rules}
 use Rattle.positions.proofs.rows.node_at.Statement.{statement}
 use Rattle.positions.proofs.rows.node_at.Tie as tie
 
-key-from-requires : tie.Need-key-from-requires
+key-from-requires : tie.Need-key_from-key-requires
 key-from-requires c κs = search rules
 
 returns : tie.Need-returns

@@ -11,34 +11,34 @@ use borrow.Author.Rules.{rules}
 use Rattle.positions.proofs.rows.row10.Statement.{statement}
 use Rattle.positions.proofs.rows.row10.Tie as tie
 
-empty-requires : tie.Need-empty-requires
+empty-requires : tie.Need-empty-b-requires
 empty-requires c κs = search rules
 
-fill-requires : tie.Need-fill-requires
+fill-requires : tie.Need-fill-two-requires
 fill-requires c κs = search rules
 
-key-from-requires : tie.Need-key-from-requires
+key-from-requires : tie.Need-key_from-requires
 key-from-requires c κs = search rules
 
-update-status-requires : tie.Need-update-status-requires
+update-status-requires : tie.Need-update_status-requires
 update-status-requires c κs = search rules
 
 returns : tie.Need-returns
 returns c =
-    let k = c.before in
-    let f = k.before in
-    let e = f.fill.ensures ∙ ap (filled 2 32 1) f.before.empty.ensures in
-    let s = ap (λ (b : KBucket). update_status_call b k.key-from.result 1 2) e
-    ∙ ap (λ (x : Key). update_status_call (filled 2 32 1 (emptied 16 0)) x 1 2) k.key-from.ensures in
-    let b = bucket_of_lem c.update-status.ensures ∙ ap (λ (y : Reply UpdateResult × KBucket). y.1) s in (
+    let k = c in
+    let f = k in
+    let e = f.fill-two.ensures ∙ ap (filled 2 32 1) f.empty-b.ensures in
+    let s = ap (λ (b : KBucket). update_status_call b k.key_from.result 1 2) e
+    ∙ ap (λ (x : Key). update_status_call (filled 2 32 1 (emptied 16 0)) x 1 2) k.key_from.ensures in
+    let b = bucket_of_lem c.update_status.ensures ∙ ap (λ (y : Reply UpdateResult × KBucket). y.1) s in (
       ap (λ (x : KBucket). key_at x 0) b ∙ moved.0,
       (
         ap (λ (x : KBucket). key_at x 1) b ∙ moved.1,
-        answer_of c.update-status.ensures ∙ ap (λ (y : Reply UpdateResult × KBucket). y.0) s ∙ moved.2,
+        answer_of c.update_status.ensures ∙ ap (λ (y : Reply UpdateResult × KBucket). y.0) s ∙ moved.2,
       ),
     )
 
-pub row10-spec : {M : Type 1} → statement M
-row10-spec =
+pub row10_spec : {M : Type 1} → statement M
+row10_spec =
     tie.close
     (tie.spec empty-requires fill-requires key-from-requires update-status-requires returns)

@@ -8,38 +8,38 @@ use borrow.Author.Rules.{rules}
 use Rattle.positions.proofs.rows.row6.Statement.{statement}
 use Rattle.positions.proofs.rows.row6.Tie as tie
 
-empty-requires : tie.Need-empty-requires
+empty-requires : tie.Need-empty-b-requires
 empty-requires c κs = search rules
 
-fill-requires : tie.Need-fill-requires
+fill-requires : tie.Need-fill-full-requires
 fill-requires c κs = search rules
 
-node-from-requires : tie.Need-node-from-requires
+node-from-requires : tie.Need-node_from-node-requires
 node-from-requires c κs = search rules
 
-insert-requires : tie.Need-insert-requires
+insert-requires : tie.Need-insert-pending-requires
 insert-requires c κs = search rules
 
-apply-pending-requires : tie.Need-apply-pending-requires
+apply-pending-requires : tie.Need-apply_pending-e-requires
 apply-pending-requires c κs = search rules
 
-apply-pending-requires-2 : tie.Need-apply-pending-requires-2
+apply-pending-requires-2 : tie.Need-apply_pending-d-requires
 apply-pending-requires-2 c κs = search rules
 
 returns : tie.Need-returns
 returns c =
-    let a = c.before in
-    let i = a.before.before in
-    let n = i.before in
-    let f = n.before in
-    let e = f.fill.ensures ∙ ap (filled 16 32 0) f.before.empty.ensures in
-    let p = insert_leaves 100 e n.node-from.ensures i.insert.ensures in (
-      answer_of a.apply-pending.ensures.0 ∙ ap (λ (b : KBucket). (apply_pending_call b 60099).0) p ∙ not_due,
-      answer_of c.apply-pending2.ensures.0 ∙ ap (λ (b : KBucket). (apply_pending_call b 60100).0) p ∙ due,
+    let a = c in
+    let i = a in
+    let n = i in
+    let f = n in
+    let e = f.fill-full.ensures ∙ ap (filled 16 32 0) f.empty-b.ensures in
+    let p = insert_leaves 100 e n.node_from-node.ensures i.insert-pending.ensures in (
+      answer_of a.apply_pending-e.ensures.0 ∙ ap (λ (b : KBucket). (apply_pending_call b 60099).0) p ∙ not_due,
+      answer_of c.apply_pending-d.ensures.0 ∙ ap (λ (b : KBucket). (apply_pending_call b 60100).0) p ∙ due,
     )
 
-pub row6-spec : {M : Type 1} → statement M
-row6-spec =
+pub row6_spec : {M : Type 1} → statement M
+row6_spec =
     tie.close
     (tie.spec
     empty-requires

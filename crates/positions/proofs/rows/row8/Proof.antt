@@ -5,33 +5,33 @@ use borrow.Author.Rules.{rules}
 use Rattle.positions.proofs.rows.row8.Statement.{statement}
 use Rattle.positions.proofs.rows.row8.Tie as tie
 
-empty-requires : tie.Need-empty-requires
+empty-requires : tie.Need-empty-b-requires
 empty-requires c κs = search rules
 
-node-from-requires : tie.Need-node-from-requires
+node-from-requires : tie.Need-node_from-connected-requires
 node-from-requires c κs = search rules
 
-insert-requires : tie.Need-insert-requires
+insert-requires : tie.Need-insert-r-requires
 insert-requires c κs = search rules
 
-node-from-requires-2 : tie.Need-node-from-requires-2
+node-from-requires-2 : tie.Need-node_from-disconnected-requires
 node-from-requires-2 c κs = search rules
 
-insert-requires-2 : tie.Need-insert-requires-2
+insert-requires-2 : tie.Need-insert-s-requires
 insert-requires-2 c κs = search rules
 
 returns : tie.Need-returns
 returns c =
-    let m = c.before in
-    let i = m.before in
-    let n = i.before in
-    let e = n.before.empty.ensures in (
-      insert_answers 0 e n.node-from.ensures i.insert.ensures ∙ too_many,
-      insert_answers 0 e m.node-from2.ensures c.insert2.ensures ∙ not_too_many,
+    let m = c in
+    let i = m in
+    let n = i in
+    let e = n.empty-b.ensures in (
+      insert_answers 0 e n.node_from-connected.ensures i.insert-r.ensures ∙ too_many,
+      insert_answers 0 e m.node_from-disconnected.ensures c.insert-s.ensures ∙ not_too_many,
     )
 
-pub row8-spec : {M : Type 1} → statement M
-row8-spec =
+pub row8_spec : {M : Type 1} → statement M
+row8_spec =
     tie.close
     (tie.spec
     empty-requires

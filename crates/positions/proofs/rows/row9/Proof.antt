@@ -6,42 +6,42 @@ use borrow.Author.Rules.{rules}
 use Rattle.positions.proofs.rows.row9.Statement.{statement}
 use Rattle.positions.proofs.rows.row9.Tie as tie
 
-empty-requires : tie.Need-empty-requires
+empty-requires : tie.Need-empty-b-requires
 empty-requires c κs = search rules
 
-fill-requires : tie.Need-fill-requires
+fill-requires : tie.Need-fill-one-requires
 fill-requires c κs = search rules
 
-fill-requires-2 : tie.Need-fill-requires-2
+fill-requires-2 : tie.Need-fill-full-requires
 fill-requires-2 c κs = search rules
 
-node-from-requires : tie.Need-node-from-requires
+node-from-requires : tie.Need-node_from-x-requires
 node-from-requires c κs = search rules
 
-insert-requires : tie.Need-insert-requires
+insert-requires : tie.Need-insert-r-requires
 insert-requires c κs = search rules
 
-node-from-requires-2 : tie.Need-node-from-requires-2
+node-from-requires-2 : tie.Need-node_from-y-requires
 node-from-requires-2 c κs = search rules
 
-insert-requires-2 : tie.Need-insert-requires-2
+insert-requires-2 : tie.Need-insert-s-requires
 insert-requires-2 c κs = search rules
 
 returns : tie.Need-returns
 returns c =
-    let m = c.before in
-    let i = m.before.before in
-    let n = i.before in
-    let g = n.before in
-    let f = g.before in
-    let e = g.fill2.ensures ∙ ap (filled 15 33 1) (f.fill.ensures ∙ ap (filled 1 32 0) f.before.empty.ensures) in
-    let p = insert_leaves 0 e n.node-from.ensures i.insert.ensures in (
-      insert_answers 0 e n.node-from.ensures i.insert.ensures ∙ names_place_0,
-      insert_answers 0 p m.node-from2.ensures c.insert2.ensures ∙ full_beside,
+    let m = c in
+    let i = m in
+    let n = i in
+    let g = n in
+    let f = g in
+    let e = g.fill-full.ensures ∙ ap (filled 15 33 1) (f.fill-one.ensures ∙ ap (filled 1 32 0) f.empty-b.ensures) in
+    let p = insert_leaves 0 e n.node_from-x.ensures i.insert-r.ensures in (
+      insert_answers 0 e n.node_from-x.ensures i.insert-r.ensures ∙ names_place_0,
+      insert_answers 0 p m.node_from-y.ensures c.insert-s.ensures ∙ full_beside,
     )
 
-pub row9-spec : {M : Type 1} → statement M
-row9-spec =
+pub row9_spec : {M : Type 1} → statement M
+row9_spec =
     tie.close
     (tie.spec
     empty-requires
