@@ -10,7 +10,7 @@ from functools import lru_cache
 from pathlib import Path
 
 ROOT = Path(__file__).resolve().parent.parent
-ITEM = re.compile(r'^impl (\w+)|^( *)((?:pub(?:\(crate\))? )?)(?:extern "C" )?fn (\w+)', re.M)
+ITEM = re.compile(r'^impl (\w+)(?:<([^>{]*)>)?(?: for (\w+))?|^( *)((?:pub(?:\(crate\))? )?)(?:extern "C" )?fn (\w+)', re.M)
 CONSTANT = re.compile(r"^(?:pub(?:\(crate\))? )?const (\w+)\b.*?;$", re.M | re.S)
 # the name of a step of a function, in its proof, is of several words with dashes; a test's fact may have another form
 STEP = re.compile(r"\w+(?:-\w+)+(?:\.(?:true|false)(?:-raw)?)?")
@@ -32,13 +32,15 @@ def functions_of(crate, file):
     kind, found = None, []
     for item in ITEM.finditer(text):
         if item[1]:
-            kind = item[1]
+            # rt names the functions of an impl of a trait by the type, the trait and the trait's arguments together
+            of = "".join(part[0].upper() + part[1:] for part in re.findall(r"\w+", item[2] or "")) if item[3] else ""
+            kind = (item[3] or "") + item[1] + of
             continue
         # a clause ends with a brace that closes, so that the first line of the head that ends with one that opens is its last
         opens = re.compile(r"^(?!\s*(?:requires|ensures)\b).*\{$", re.M).search(text, item.start())
-        closes = re.compile(rf"^{item[2]}\}}$", re.M).search(text, item.start())
-        name = "::".join([crate, *module, *([kind] if item[2] else []), item[4]])
-        found.append(Function(name, bool(item[3]), is_internal(text[: item.start()]), item.start(), opens.end(), closes.end()))
+        closes = re.compile(rf"^{item[4]}\}}$", re.M).search(text, item.start())
+        name = "::".join([crate, *module, *([kind] if item[4] else []), item[6]])
+        found.append(Function(name, bool(item[5]), is_internal(text[: item.start()]), item.start(), opens.end(), closes.end()))
     return found
 
 

@@ -19,11 +19,10 @@ pub fn asked_at(s: &[u8], i: usize, key: Key, windows: &[u16], closed: &[u16], m
     requires { Ready s.now i }
     ensures { first_failed (hours_questions (session_of windows.now closed.now moment) (not (is_absent (kind_of (num key) ((table_of s.now).buckets i))))) ≡ refusal result }
 {
-    if windows.len() == 0 {
+    if windows.is_empty() {
         return 0;
     }
     let stored = buckets::load_bucket(s, i);
-    let found = entry::kind_of(stored, key);
-    let known = !entry::is_absent(found);
+    let known = !entry::is_absent(entry::kind_of(stored, key));
     session::asked(windows, closed, moment, known)
 }

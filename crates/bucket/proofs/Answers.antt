@@ -1,8 +1,8 @@
--- The answers of the status step, and what a step on the pending answers and leaves.
+-- What a step on the pending answers and leaves, and question 2 test by test.
 use Prim.Native.Nat.{ℕ, ◌≤◌}
 use mathlib.Core.Path.{◌≡◌, refl, sym, ap, ◌∙◌, subst}
-use mathlib.Core.Bool.{Bool, true, false, cond, not, ◌&&◌, ◌||◌, beq}
-use mathlib.Core.List.{[], map}
+use mathlib.Core.Bool.{Bool, true, false, cond, not, ◌&&◌}
+use mathlib.Core.List.{map}
 use mathlib.Core.Option.{Option, none, some}
 use lib.ListN.{length, take, drop, length-map}
 use lib.Dec.{eqb, leb, ltb}
@@ -11,12 +11,10 @@ use native.Mathlib.Omega.{arith}
 use Rattle.model.specs.Base.{same, is_some, every}
 use Rattle.model.specs.Node as model
 use Rattle.model.specs.Call.{is_one, optional}
-use Rattle.model.specs.Result.{FailureReason, UpdateResult}
-use Rattle.model.specs.Bucket.{Bucket, max_nodes_per_bucket, nodes, holds, incoming_nodes, with_pending, status_result, update_if_pending, pending_with_status, update_pending}
+use Rattle.model.specs.Bucket.{Bucket, max_nodes_per_bucket, nodes, holds, incoming_nodes, with_pending, update_if_pending, pending_with_status, update_pending}
 use Rattle.model.specs.Fits.{Opt}
 use Rattle.laws.proofs.Tests.{split}
 use Rattle.laws.proofs.KeepLists.{get_nodes}
-use Rattle.key.specs.declared.Key.{Key}
 use Rattle.key.specs.Key.{num}
 use Rattle.node.specs.declared.Node.{Node}
 use Rattle.node.specs.Node.{node_of, node_codes, is_zero, stored_node}
@@ -26,64 +24,13 @@ use Rattle.places.proofs.Model.{held_is}
 use Rattle.bucket.specs.declared.Pending.{Pending}
 use Rattle.bucket.specs.declared.Pending.TheVariants.{Nothing, Waiting}
 use Rattle.bucket.specs.declared.KBucket.{KBucket}
-use Rattle.bucket.specs.declared.Ending.{Ending}
-use Rattle.bucket.specs.declared.Ending.TheVariants as ending
-use Rattle.bucket.specs.declared.EndedPending.{EndedPending}
-use Rattle.bucket.specs.declared.EndedPending.TheVariants.{Dropped}
-use Rattle.bucket.specs.Calls.{records_of}
-use Rattle.bucket.specs.Bucket.{pending_of, held_of, bucket_of, settings_of, stored_pending, pending_fits, pending_sound, sound, Sound, Becomes, repending}
-use Rattle.bucket.proofs.Sound.{nodes_of, pending_of_lem, formed_of}
+use Rattle.bucket.specs.Calls.{update_result_of}
+use Rattle.bucket.specs.Bucket.{pending_of, held_of, bucket_of, settings_of, stored_pending, pending_fits, pending_sound, sound, Sound, Becomes, repending, changes_pending}
+use Rattle.bucket.specs.declared.Updated.{Updated}
+use Rattle.bucket.proofs.Sound.{nodes_of, pending_of_lem, formed_of, becomes_itself}
 use Rattle.bucket.proofs.Steps.{pending_becomes, place_of}
 
--- a pending that was not placed gives a bucket by itself no record
-pub not_placed : (x : EndedPending) (k : Key) (e : Ending) → x ≡ Dropped k e → [] ≡ model.placed_of (records_of x)
-not_placed x k e p = go e ∙ ap (λ (y : EndedPending). model.placed_of (records_of y)) (sym p)
-  where
-    go : (e : Ending) → [] ≡ model.placed_of (records_of (Dropped k e))
-    go ending.FirstConnected = refl
-    go ending.BucketFilter = refl
-    go ending.TooManyIncoming = refl
-    go ending.Inserted = refl
-    go ending.FirstConfirmed = refl
-
--- The status step's answer.
-
-same_test : (a b : Bool) → ((a && b) || (not a && not b)) ≡ beq a b
-same_test true true = refl
-same_test true false = refl
-same_test false true = refl
-same_test false false = refl
-
-pub same_tests : (a b c d : Bool) → (((a && b) || (not a && not b)) && ((c && d) || (not c && not d))) ≡ (beq a b && beq c d)
-same_tests a b c d = rw (same_test a b, same_test c d)
-
-module _ (m n : model.Node) where
-  pub result_same : model.same_status m n ≡ true → UpdateResult.NotModified ≡ status_result m n none
-  result_same e = rw e
-
-  module _ (new : model.same_status m n ≡ false) (was is : Bool) (ew : was ≡ m.connected) (ei : is ≡ n.connected) where
-    same_flags : (not was && is) ≡ model.promotes m n
-    same_flags = ap (λ (t : Bool). not t && is) ew ∙ ap (λ (t : Bool). not m.connected && t) ei
-
-    pub result_promoted : (not was && is) ≡ true → UpdateResult.UpdatedAndPromoted ≡ status_result m n none
-    result_promoted e = rw (new, sym same_flags ∙ e)
-
-    pub result_updated : (not was && is) ≡ false → UpdateResult.Updated ≡ status_result m n none
-    result_updated e = rw (new, sym same_flags ∙ e)
-
 -- A step on the pending.
-
-module _ (k : ℕ) (f : model.Node → model.Node) (b : Bucket) where
-  pub pending_none : (p : Option model.PendingNode) → p ≡ none → update_if_pending k f b p ≡ (UpdateResult.Failed FailureReason.KeyNonExistent, b)
-  pending_none p e = rw e
-
-  module _ (p : Option model.PendingNode) (q : model.PendingNode) (e : p ≡ some q) where
-    pub pending_other : same q.node.key k ≡ false → update_if_pending k f b p ≡ (UpdateResult.Failed FailureReason.KeyNonExistent, b)
-    pending_other h = rw (e, h)
-
-    pub pending_same : same q.node.key k ≡ true
-        → update_if_pending k f b p ≡ (UpdateResult.UpdatedPending, with_pending (some (record { node = f q.node; deadline = q.deadline })) b)
-    pending_same h = rw (e, h)
 
 waiting_stored : (n m : Node) (d : ℕ) → Waiting n d ≡ Waiting m d → n ≡ m
 waiting_stored n m d e = cc
@@ -101,6 +48,18 @@ module _ (b : KBucket) (s : Sound b) (n : Node) (d : ℕ) (e : b.pending ≡ Wai
   pending_changed n' m k q =
       pending_becomes b s (Waiting n' d) (some (record { node = m; deadline = d })) (ap (λ (x : Node). Waiting x d) q)
       (ap (λ (x : ℕ). holds x (bucket_of b)) k ∙ pending_apart)
+
+-- what the step answers and leaves, where f makes of a stored node what g makes of the model's
+pub pending_step : (b : KBucket) → Sound b → (k : ℕ) (g : model.Node → model.Node) (f : Node → Node → Type 0) → ((n : model.Node) → (g n).key ≡ n.key)
+    → ((n m : Node) → n ≡ stored_node (node_of n) → f n m → m ≡ stored_node (g (node_of n)))
+    → (p : Pending) → b.pending ≡ p → (r : Updated) → changes_pending f k b p r
+    → (update_result_of r.result ≡ (update_if_pending k g (bucket_of b) (pending_of p)).0)
+    × Becomes (settings_of b) (update_if_pending k g (bucket_of b) (pending_of p)).1 r.bucket
+pending_step b s k g f same-key changes Nothing e r h = rw h (refl, becomes_itself b s)
+pending_step b s k g f same-key changes (Waiting n d) e r h =
+    split (same (num n.key) k)
+    (λ t. let x = h.1 t in rw (t, x.2) (refl, pending_changed b s n d e x.0 (g (node_of n)) (same-key (node_of n)) (changes n x.0 (pending_stored b s n d e) x.1)))
+    (λ t. rw (t, h.0 t) (refl, becomes_itself b s))
 
 pub pending_unchanged : (u d : Bool) (b : Bucket) → b.pending ≡ none → update_pending u d b ≡ b
 unfolding update_pending

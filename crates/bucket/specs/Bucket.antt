@@ -1,5 +1,5 @@
 -- The model's bucket that a KBucket stands for, how a bucket is stored in sixteen places, and question 2 of a bucket by itself.
-use Rattle.std.specs.Prelude.{ℕ, ◌≤◌, ◌≡◌, Bool, true, cond, not, ◌&&◌, List, map, length, take, drop, get_or, eqb, leb}
+use Rattle.std.specs.Prelude.{ℕ, ◌≤◌, ◌≡◌, Bool, true, false, cond, not, ◌&&◌, List, map, length, take, drop, get_or, eqb, leb}
 use Rattle.std.proofs.Math.Option.{Option, none, some}
 use Rattle.model.specs.Base.{same, every}
 use Rattle.model.specs.Node as model
@@ -12,6 +12,9 @@ use Rattle.places.specs.Places.{padded, position, in_state, different}
 use Rattle.bucket.specs.declared.Pending.{Pending}
 use Rattle.bucket.specs.declared.Pending.TheVariants.{Nothing, Waiting}
 use Rattle.bucket.specs.declared.KBucket.{KBucket}
+use Rattle.bucket.specs.declared.FailureReason.TheVariants.{KeyNonExistent}
+use Rattle.bucket.specs.declared.UpdateResult.TheVariants.{UpdatedPending, Failed}
+use Rattle.bucket.specs.declared.Updated.{Updated}
 
 abbrev pub pending_of : Pending → Option model.PendingNode
 pending_of Nothing = none
@@ -114,3 +117,10 @@ repending p b =
       max_incoming = b.max_incoming;
       filter = b.filter;
     }
+
+-- the step on a pending of key k answers and leaves r; f says what it makes of the node
+abbrev pub changes_pending : (Node → Node → Type 0) → ℕ → KBucket → Pending → Updated → Type 0
+changes_pending f k b Nothing r = r ≡ record { bucket = b; result = Failed KeyNonExistent }
+changes_pending f k b (Waiting n deadline) r =
+    (same (num n.key) k ≡ false → r ≡ record { bucket = b; result = Failed KeyNonExistent })
+    × (same (num n.key) k ≡ true → (m : Node) × f n m × (r ≡ record { bucket = repending (Waiting m deadline) b; result = UpdatedPending }))

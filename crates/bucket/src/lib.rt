@@ -8,14 +8,14 @@ ghost use Rattle.model.specs.Base.{is_some};
 ghost use Rattle.model.specs.Value.{Value};
 ghost use Rattle.model.specs.Node as ends;
 ghost use Rattle.model.specs.Node.{placed_of, with_status, with_value, same_status};
-ghost use Rattle.model.specs.Bucket.{BucketSettings, max_nodes_per_bucket, empty_bucket, holds, fails_bucket_filter, is_max_incoming, placed, take_out, insert_full, insert, apply_pending, apply_due, update_status, update_status_of, update_if_pending, update_value, update_value_of, update_pending, remove, status_result, get};
+ghost use Rattle.model.specs.Bucket.{BucketSettings, max_nodes_per_bucket, empty_bucket, holds, fails_bucket_filter, is_max_incoming, placed, take_out, insert_full, insert, apply_pending, apply_due, reinsert, update_status, update_status_of, update_if_pending, update_value, update_value_of, update_pending, remove, status_result, get};
 ghost use Rattle.model.specs.Call.{is_one, optional};
 ghost use Rattle.model.specs.Question.{first_failed};
 ghost use Rattle.model.specs.Layout.{ending_kind};
 ghost use Rattle.key.specs.Key.{num, Words};
 ghost use Rattle.node.specs.Node.{value_of, node_of, value_codes, node_codes, zero_node};
 ghost use Rattle.bucket.specs.declared.Pending.TheVariants.{Nothing, Waiting};
-ghost use Rattle.bucket.specs.Bucket.{pending_of, key_at, bucket_of, settings_of, stored, sound, Sound, Becomes, repending, cleared_pending, pending_fits, PendingWords};
+ghost use Rattle.bucket.specs.Bucket.{pending_of, key_at, bucket_of, settings_of, stored, sound, Sound, Becomes, repending, cleared_pending, pending_fits, PendingWords, changes_pending};
 ghost use Rattle.bucket.specs.Calls.{refusal_number, questions, timely, insert_result_of, update_result_of, ending_of, records_of, applied_codes, insert_answer_of, apply_answer_of, apply_codes, update_answer_of, pending_answer_of, remove_answer_of, new_answer_of, insert_call, apply_pending_call, update_status_call, update_value_call, update_pending_call, remove_call, new_call};
 
 use key::Key;
@@ -212,23 +212,14 @@ impl KBucket {
     pub fn new(pending_timeout: u64, max_incoming: usize, filter: u8) -> NewReply
         ensures { new_call pending_timeout max_incoming filter ≡ (new_answer_of result.answer, result.bucket) }
     {
-        if KBucket::MAX_NODES_PER_BUCKET < max_incoming {
-            let zero = KBucket::empty(0, 0, 0);
+        if KBucket::MAX_NODES_PER_BUCKET < max_incoming || 1 < filter {
             return NewReply {
-                bucket: zero,
+                bucket: KBucket::empty(0, 0, 0),
                 answer: NewAnswer::Refused(4),
             };
         }
-        if 1 < filter {
-            let zero = KBucket::empty(0, 0, 0);
-            return NewReply {
-                bucket: zero,
-                answer: NewAnswer::Refused(4),
-            };
-        }
-        let bucket = KBucket::empty(pending_timeout, max_incoming, filter);
         NewReply {
-            bucket: bucket,
+            bucket: KBucket::empty(pending_timeout, max_incoming, filter),
             answer: NewAnswer::Created,
         }
     }
@@ -238,17 +229,14 @@ impl KBucket {
         requires { filter ≤ 1 }
         ensures { result ≡ stored (record { pending_timeout = pending_timeout; max_incoming = max_incoming; filter = is_one filter }) empty_bucket }
     {
-        let z = Node::zero();
-        let nodes = [z; KBucket::MAX_NODES_PER_BUCKET];
-        let p = Pending::Nothing;
         KBucket {
-            nodes: nodes,
+            nodes: [Node::zero(); KBucket::MAX_NODES_PER_BUCKET],
             count: 0,
             first_connected_pos: 0,
-            pending: p,
-            pending_timeout: pending_timeout,
-            max_incoming: max_incoming,
-            filter: filter,
+            pending: Pending::Nothing,
+            pending_timeout,
+            max_incoming,
+            filter,
         }
     }
 
@@ -257,9 +245,7 @@ impl KBucket {
         requires { Sound self }
         ensures { result ≡ holds (num key) (bucket_of self) }
     {
-        let nodes = self.nodes;
-        let count = self.count;
-        places::position(nodes, 0, count, key) < count
+        places::position(self.nodes, 0, self.count, key) < self.count
     }
 
     // Internal: does the bucket filter fail?
@@ -267,17 +253,13 @@ impl KBucket {
         requires { Sound self }
         ensures { result ≡ fails_bucket_filter (settings_of self) (value_of value) (bucket_of self) }
     {
-        if self.filter != 1 {
-            return false;
-        }
-        let nodes = self.nodes;
-        let count = self.count;
-        !places::ip_filter(
-            nodes,
-            count,
-            value,
-            node::filter::MAX_NODES_PER_SUBNET_BUCKET,
-        )
+        self.filter == 1
+            && !places::ip_filter(
+                self.nodes,
+                self.count,
+                value,
+                node::filter::MAX_NODES_PER_SUBNET_BUCKET,
+            )
     }
 
     // Internal: is the node connected and incoming, with max_incoming such nodes held?
@@ -285,28 +267,15 @@ impl KBucket {
         requires { Sound self }
         ensures { result ≡ is_max_incoming (settings_of self) (node_of node) (bucket_of self) }
     {
-        if !node.is_connected_incoming() {
-            return false;
-        }
-        let nodes = self.nodes;
-        let count = self.count;
-        self.max_incoming <= places::incoming(nodes, count)
+        node.is_connected_incoming()
+            && self.max_incoming <= places::incoming(self.nodes, self.count)
     }
 
     // Internal: another pending, and all else as it is.
     pub fn with_pending(self, pending: Pending) -> KBucket
         ensures { result ≡ repending pending self }
     {
-        let nodes = self.nodes;
-        KBucket {
-            nodes: nodes,
-            count: self.count,
-            first_connected_pos: self.first_connected_pos,
-            pending: pending,
-            pending_timeout: self.pending_timeout,
-            max_incoming: self.max_incoming,
-            filter: self.filter,
-        }
+        KBucket { pending, ..self }
     }
 
     // Internal: places a node where there is room: connected at the end, disconnected just before the first connected. A pending of its key
@@ -319,32 +288,21 @@ impl KBucket {
         requires self_value_2 { is_max_incoming (settings_of self) (node_of node) (bucket_of self) ≡ false }
         ensures { Becomes (settings_of self) (placed (node_of node) (bucket_of self)) result }
     {
-        let nodes = self.nodes;
-        let count = self.count;
-        let first = self.first_connected_pos;
-        let p = self.pending;
-        let pending = cleared(node.key, p);
+        let pending = cleared(node.key, self.pending);
         if node.is_connected() {
-            let put = places::insert_at(nodes, count, node);
             return KBucket {
-                nodes: put,
-                count: count + 1,
-                first_connected_pos: first,
-                pending: pending,
-                pending_timeout: self.pending_timeout,
-                max_incoming: self.max_incoming,
-                filter: self.filter,
+                nodes: places::insert_at(self.nodes, self.count, node),
+                count: self.count + 1,
+                pending,
+                ..self
             };
         }
-        let put = places::insert_at(nodes, first, node);
         KBucket {
-            nodes: put,
-            count: count + 1,
-            first_connected_pos: first + 1,
-            pending: pending,
-            pending_timeout: self.pending_timeout,
-            max_incoming: self.max_incoming,
-            filter: self.filter,
+            nodes: places::insert_at(self.nodes, self.first_connected_pos, node),
+            count: self.count + 1,
+            first_connected_pos: self.first_connected_pos + 1,
+            pending,
+            ..self
         }
     }
 
@@ -354,25 +312,17 @@ impl KBucket {
         requires pos_lt_count { pos < self.count }
         ensures { Becomes (settings_of self) (take_out (key_at self pos) (bucket_of self)) result }
     {
-        let nodes = self.nodes;
-        let count = self.count;
-        let first = self.first_connected_pos;
-        let pending = self.pending;
-        let left = places::remove_at(nodes, pos);
-        let next = first - (pos < first) as usize;
         KBucket {
-            nodes: left,
-            count: count - 1,
-            first_connected_pos: next,
-            pending: pending,
-            pending_timeout: self.pending_timeout,
-            max_incoming: self.max_incoming,
-            filter: self.filter,
+            nodes: places::remove_at(self.nodes, pos),
+            count: self.count - 1,
+            first_connected_pos: self.first_connected_pos
+                - usize::from(pos < self.first_connected_pos),
+            ..self
         }
     }
 
     // Internal: inserts a node into a sound bucket.
-    pub fn insert_sound(mut self, node: Node, now: u64) -> Inserted
+    pub fn insert_sound(self, node: Node, now: u64) -> Inserted
         requires sound { Sound self }
         requires node_value { node_codes node ≡ true }
         requires pending_timeout_bound { now + self.pending_timeout < 2 ^ 64 }
@@ -398,9 +348,8 @@ impl KBucket {
             };
         }
         if self.count < KBucket::MAX_NODES_PER_BUCKET {
-            let put = self.placed(node);
             return Inserted {
-                bucket: put,
+                bucket: self.placed(node),
                 result: InsertResult::Inserted,
             };
         }
@@ -408,7 +357,7 @@ impl KBucket {
     }
 
     // Internal: what an insert of a node that is not held does with 16 held: the node becomes the pending, or nothing changes.
-    pub fn insert_full(mut self, node: Node, now: u64) -> Inserted
+    pub fn insert_full(self, node: Node, now: u64) -> Inserted
         requires sound { Sound self }
         requires node_value { node_codes node ≡ true }
         requires pending_timeout_bound { now + self.pending_timeout < 2 ^ 64 }
@@ -416,37 +365,21 @@ impl KBucket {
         ensures result_value { insert_result_of result.result ≡ (insert_full (settings_of self) now (node_of node) (bucket_of self) (node_of node).connected (bucket_of self).disconnected (bucket_of self).pending).0 }
         ensures becomes { Becomes (settings_of self) (insert_full (settings_of self) now (node_of node) (bucket_of self) (node_of node).connected (bucket_of self).disconnected (bucket_of self).pending).1 result.bucket }
     {
-        if !node.is_connected() {
+        if !node.is_connected() || self.first_connected_pos == 0 || waits(self.pending) {
             return Inserted {
                 bucket: self,
                 result: InsertResult::Full,
             };
         }
-        if self.first_connected_pos == 0 {
-            return Inserted {
-                bucket: self,
-                result: InsertResult::Full,
-            };
-        }
-        let p = self.pending;
-        if waits(p) {
-            return Inserted {
-                bucket: self,
-                result: InsertResult::Full,
-            };
-        }
-        let first = self.nodes[0];
-        let key = first.key;
         let deadline = now + self.pending_timeout;
-        self = self.with_pending(Pending::Waiting(node, deadline));
         Inserted {
-            bucket: self,
-            result: InsertResult::Pending(key),
+            bucket: self.with_pending(Pending::Waiting(node, deadline)),
+            result: InsertResult::Pending(self.nodes[0].key),
         }
     }
 
     // Internal: applies a due node, which is the pending no more, to a sound bucket.
-    pub fn apply_due(mut self, node: Node, now: u64) -> Applied
+    pub fn apply_due(self, node: Node, now: u64) -> Applied
         requires sound { Sound self }
         requires node_value { node_codes node ≡ true }
         requires pending_timeout_bound { now + self.pending_timeout < 2 ^ 64 }
@@ -456,38 +389,36 @@ impl KBucket {
         ensures becomes { Becomes (settings_of self) (apply_due (settings_of self) now (node_of node) (bucket_of self)).0 result.bucket }
         ensures applied_value_2 { applied_codes result.applied ≡ true }
     {
-        let key = node.key;
         let full = KBucket::MAX_NODES_PER_BUCKET <= self.count;
-        if full & (self.first_connected_pos == 0) {
+        if full && self.first_connected_pos == 0 {
             return Applied {
                 bucket: self,
-                applied: EndedPending::Dropped(key, Ending::FirstConnected),
+                applied: EndedPending::Dropped(node.key, Ending::FirstConnected),
             };
         }
         if self.fails_filter(node.value) {
             return Applied {
                 bucket: self,
-                applied: EndedPending::Dropped(key, Ending::BucketFilter),
+                applied: EndedPending::Dropped(node.key, Ending::BucketFilter),
             };
         }
         if self.is_max_incoming(node) {
             return Applied {
                 bucket: self,
-                applied: EndedPending::Dropped(key, Ending::TooManyIncoming),
+                applied: EndedPending::Dropped(node.key, Ending::TooManyIncoming),
             };
         }
         if full {
             return self.evict(node);
         }
-        self = self.placed(node);
         Applied {
-            bucket: self,
-            applied: EndedPending::Placed(key),
+            bucket: self.placed(node),
+            applied: EndedPending::Placed(node.key),
         }
     }
 
     // Internal: a node that is not held in place of the node at place 0, which is disconnected.
-    pub fn evict(mut self, node: Node) -> Applied
+    pub fn evict(self, node: Node) -> Applied
         requires sound { Sound self }
         requires node_value { node_codes node ≡ true }
         requires max_nodes_per_bucket_le_count { max_nodes_per_bucket ≤ self.count }
@@ -497,45 +428,35 @@ impl KBucket {
         ensures becomes { Becomes (settings_of self) (placed (node_of node) (take_out (key_at self 0) (bucket_of self))) result.bucket }
         ensures applied_value_2 { applied_codes result.applied ≡ true }
     {
-        let key = node.key;
         let evicted = self.nodes[0];
-        self = self.taken_out(0);
-        self = self.placed(node);
+        let rest = self.taken_out(0);
         Applied {
-            bucket: self,
-            applied: EndedPending::Replaced(key, evicted),
+            bucket: rest.placed(node),
+            applied: EndedPending::Replaced(node.key, evicted),
         }
     }
 
     // Internal: applies the pending of a sound bucket when its deadline has come.
-    pub fn apply_pending_sound(mut self, now: u64) -> Applied
+    pub fn apply_pending_sound(self, now: u64) -> Applied
         requires sound { Sound self }
         requires pending_timeout_bound { now + self.pending_timeout < 2 ^ 64 }
         ensures applied_value { records_of result.applied ≡ (apply_pending (settings_of self) now (bucket_of self)).1 }
         ensures becomes { Becomes (settings_of self) (apply_pending (settings_of self) now (bucket_of self)).0 result.bucket }
         ensures applied_value_2 { applied_codes result.applied ≡ true }
     {
-        let p = self.pending;
-        match p {
-            Pending::Nothing => Applied {
+        match self.pending {
+            Pending::Waiting(node, deadline) if deadline <= now => {
+                self.with_pending(Pending::Nothing).apply_due(node, now)
+            }
+            _ => Applied {
                 bucket: self,
                 applied: EndedPending::Nothing,
             },
-            Pending::Waiting(node, deadline) => {
-                if now < deadline {
-                    return Applied {
-                        bucket: self,
-                        applied: EndedPending::Nothing,
-                    };
-                }
-                self = self.with_pending(Pending::Nothing);
-                self.apply_due(node, now)
-            }
         }
     }
 
     // Internal: the status step on the node at place pos of a sound bucket.
-    pub fn status_at(mut self, pos: usize, state: u8, direction: u8) -> Updated
+    pub fn status_at(self, pos: usize, state: u8, direction: u8) -> Updated
         requires sound { Sound self }
         requires pos_lt_count { pos < self.count }
         requires state_bound { state ≤ 1 }
@@ -545,8 +466,20 @@ impl KBucket {
     {
         let old = self.nodes[pos];
         let node = old.with_status(state, direction);
-        self = self.taken_out(pos);
-        self = self.without_pending((state == 1) & (pos == 0));
+        let left = self.taken_out(pos);
+        let rest = left.without_pending((state == 1) & (pos == 0));
+        rest.reinserted(old, node)
+    }
+
+    // Inserts a node that was taken out, and that was `old` before. It stays out where a test fails.
+    fn reinserted(self, old: Node, node: Node) -> Updated
+        requires sound { Sound self }
+        requires count_lt_max_nodes_per_bucket { self.count < max_nodes_per_bucket }
+        requires node_value { node_codes node ≡ true }
+        requires self_value { holds (num node.key) (bucket_of self) ≡ false }
+        ensures result_value { update_result_of result.result ≡ status_result (node_of old) (node_of node) (reinsert (settings_of self) (node_of node) (bucket_of self)).0 }
+        ensures becomes { Becomes (settings_of self) (reinsert (settings_of self) (node_of node) (bucket_of self)).1 result.bucket }
+    {
         if self.fails_filter(node.value) {
             return Updated {
                 bucket: self,
@@ -559,9 +492,8 @@ impl KBucket {
                 result: UpdateResult::Failed(FailureReason::TooManyIncoming),
             };
         }
-        self = self.placed(node);
         Updated {
-            bucket: self,
+            bucket: self.placed(node),
             result: status_result(old, node),
         }
     }
@@ -570,56 +502,51 @@ impl KBucket {
     pub fn without_pending(self, go: bool) -> KBucket
         ensures { result ≡ repending (cond go Nothing self.pending) self }
     {
-        let p = self.pending;
         if go {
-            return self.with_pending(Pending::Nothing);
+            self.with_pending(Pending::Nothing)
+        } else {
+            self
         }
-        self.with_pending(p)
+    }
+
+    // The step on a pending of this key; `f` is what it does to the node.
+    fn pending_changed<F: FnOnce(Node) -> Node>(self, key: Key, f: F) -> Updated
+        requires { F.IsAlwaysCallable f }
+        ensures { changes_pending (F.post f) (num key) self self.pending result }
+    {
+        match self.pending {
+            Pending::Waiting(node, deadline) if node.key.eq(key) => Updated {
+                bucket: self.with_pending(Pending::Waiting(f(node), deadline)),
+                result: UpdateResult::UpdatedPending,
+            },
+            _ => Updated {
+                bucket: self,
+                result: UpdateResult::Failed(FailureReason::KeyNonExistent),
+            },
+        }
     }
 
     // Internal: the status step on a pending of this key.
-    pub fn status_pending(mut self, key: Key, state: u8, direction: u8) -> Updated
+    pub fn status_pending(self, key: Key, state: u8, direction: u8) -> Updated
         requires sound { Sound self }
         requires state_bound { state ≤ 1 }
         requires direction_bound { direction ≤ 2 }
         ensures result_value { update_result_of result.result ≡ (update_if_pending (num key) (with_status (is_one state) (optional direction)) (bucket_of self) (pending_of self.pending)).0 }
         ensures becomes { Becomes (settings_of self) (update_if_pending (num key) (with_status (is_one state) (optional direction)) (bucket_of self) (pending_of self.pending)).1 result.bucket }
     {
-        let p = self.pending;
-        match p {
-            Pending::Nothing => Updated {
-                bucket: self,
-                result: UpdateResult::Failed(FailureReason::KeyNonExistent),
-            },
-            Pending::Waiting(node, deadline) => {
-                if !node.key.eq(key) {
-                    return Updated {
-                        bucket: self,
-                        result: UpdateResult::Failed(FailureReason::KeyNonExistent),
-                    };
-                }
-                let n = node.with_status(state, direction);
-                self = self.with_pending(Pending::Waiting(n, deadline));
-                Updated {
-                    bucket: self,
-                    result: UpdateResult::UpdatedPending,
-                }
-            }
-        }
+        self.pending_changed(key, |node| node.with_status(state, direction))
     }
 
     // Internal: update_status on a sound bucket; direction 2 is none given.
-    pub fn update_status_sound(mut self, key: Key, state: u8, direction: u8) -> Updated
+    pub fn update_status_sound(self, key: Key, state: u8, direction: u8) -> Updated
         requires sound { Sound self }
         requires state_bound { state ≤ 1 }
         requires direction_bound { direction ≤ 2 }
         ensures result_value { update_result_of result.result ≡ (update_status (settings_of self) (num key) (is_one state) (optional direction) (bucket_of self)).0 }
         ensures becomes { Becomes (settings_of self) (update_status (settings_of self) (num key) (is_one state) (optional direction) (bucket_of self)).1 result.bucket }
     {
-        let nodes = self.nodes;
-        let count = self.count;
-        let pos = places::position(nodes, 0, count, key);
-        if pos < count {
+        let pos = places::position(self.nodes, 0, self.count, key);
+        if pos < self.count {
             return self.status_at(pos, state, direction);
         }
         self.status_pending(key, state, direction)
@@ -649,8 +576,7 @@ impl KBucket {
                 };
             }
         }
-        let node = old.with_value(value);
-        self.nodes[pos] = node;
+        self.nodes[pos] = old.with_value(value);
         Updated {
             bucket: self,
             result: UpdateResult::Updated,
@@ -658,104 +584,57 @@ impl KBucket {
     }
 
     // Internal: the value step on a pending of this key.
-    pub fn value_pending(mut self, key: Key, value: Value) -> Updated
+    pub fn value_pending(self, key: Key, value: Value) -> Updated
         requires sound { Sound self }
         requires value_value { value_codes value ≡ true }
         ensures result_value { update_result_of result.result ≡ (update_if_pending (num key) (with_value (value_of value)) (bucket_of self) (pending_of self.pending)).0 }
         ensures becomes { Becomes (settings_of self) (update_if_pending (num key) (with_value (value_of value)) (bucket_of self) (pending_of self.pending)).1 result.bucket }
     {
-        let p = self.pending;
-        match p {
-            Pending::Nothing => Updated {
-                bucket: self,
-                result: UpdateResult::Failed(FailureReason::KeyNonExistent),
-            },
-            Pending::Waiting(node, deadline) => {
-                if !node.key.eq(key) {
-                    return Updated {
-                        bucket: self,
-                        result: UpdateResult::Failed(FailureReason::KeyNonExistent),
-                    };
-                }
-                let n = node.with_value(value);
-                self = self.with_pending(Pending::Waiting(n, deadline));
-                Updated {
-                    bucket: self,
-                    result: UpdateResult::UpdatedPending,
-                }
-            }
-        }
+        self.pending_changed(key, |node| node.with_value(value))
     }
 
     // Internal: update_value on a sound bucket.
-    pub fn update_value_sound(mut self, key: Key, value: Value) -> Updated
+    pub fn update_value_sound(self, key: Key, value: Value) -> Updated
         requires sound { Sound self }
         requires value_value { value_codes value ≡ true }
         ensures result_value { update_result_of result.result ≡ (update_value (settings_of self) (num key) (value_of value) (bucket_of self)).0 }
         ensures becomes { Becomes (settings_of self) (update_value (settings_of self) (num key) (value_of value) (bucket_of self)).1 result.bucket }
     {
-        let nodes = self.nodes;
-        let count = self.count;
-        let pos = places::position(nodes, 0, count, key);
-        if pos < count {
+        let pos = places::position(self.nodes, 0, self.count, key);
+        if pos < self.count {
             return self.value_at(pos, value);
         }
         self.value_pending(key, value)
     }
 
     // Internal: update_pending on a sound bucket.
-    pub fn update_pending_sound(mut self, state: u8, direction: u8) -> KBucket
+    pub fn update_pending_sound(self, state: u8, direction: u8) -> KBucket
         requires sound { Sound self }
         requires state_bound { state ≤ 1 }
         requires direction_bound { direction ≤ 1 }
         ensures { Becomes (settings_of self) (update_pending (is_one state) (is_one direction) (bucket_of self)) result }
     {
-        let p = self.pending;
-        match p {
+        match self.pending {
             Pending::Nothing => self,
             Pending::Waiting(node, deadline) => {
-                let n = node.with_status(state, direction);
-                self = self.with_pending(Pending::Waiting(n, deadline));
-                self
+                self.with_pending(Pending::Waiting(node.with_status(state, direction), deadline))
             }
         }
     }
 
     // Internal: remove on a sound bucket.
-    pub fn remove_sound(mut self, key: Key, now: u64) -> Removed
+    pub fn remove_sound(self, key: Key, now: u64) -> Removed
         requires sound { Sound self }
         requires pending_timeout_bound { now + self.pending_timeout < 2 ^ 64 }
         ensures found_value { result.found ≡ (remove (settings_of self) now (num key) (bucket_of self)).0 }
         ensures becomes { Becomes (settings_of self) (remove (settings_of self) now (num key) (bucket_of self)).1 result.bucket }
     {
-        let nodes = self.nodes;
-        let count = self.count;
-        let pos = places::position(nodes, 0, count, key);
-        if pos < count {
-            self = self.taken_out(pos);
-            let p = self.pending;
-            match p {
-                Pending::Nothing => {
-                    return Removed {
-                        bucket: self,
-                        found: true,
-                    };
-                }
-                Pending::Waiting(_, deadline) => {
-                    if deadline <= now {
-                        let a = self.apply_pending_sound(now);
-                        self = a.bucket;
-                        return Removed {
-                            bucket: self,
-                            found: true,
-                        };
-                    }
-                    return Removed {
-                        bucket: self,
-                        found: true,
-                    };
-                }
-            }
+        let pos = places::position(self.nodes, 0, self.count, key);
+        if pos < self.count {
+            return Removed {
+                bucket: self.taken_out(pos).apply_pending_sound(now).bucket,
+                found: true,
+            };
         }
         Removed {
             bucket: self,
@@ -780,9 +659,10 @@ impl KBucket {
         let different = places::all_different(nodes, count);
         let placed = places::in_places(nodes, first, count);
         let few = places::incoming(nodes, count) <= self.max_incoming;
-        let p = self.pending;
-        let pending = pending_sound(nodes, count, p);
+        let pending = pending_sound(nodes, count, self.pending);
         let codes = (self.max_incoming <= KBucket::MAX_NODES_PER_BUCKET) & (self.filter <= 1);
+        // The tests are made one by one and joined at the end: what `in_places` and `pending_sound` ensure of the keys is needed beside what they
+        // answer.
         different & (placed & (few & (pending & codes)))
     }
 
@@ -811,18 +691,17 @@ impl KBucket {
         if !codes {
             return 4;
         }
-        if 0xFFFF_FFFF_FFFF_FFFF - self.pending_timeout < now {
+        if u64::MAX - self.pending_timeout < now {
             return 5;
         }
         0
     }
 
     // Inserts a node: the first match of 01, Insert.
-    pub fn insert(mut self, node: Node, now: u64) -> InsertReply
+    pub fn insert(self, node: Node, now: u64) -> InsertReply
         ensures { insert_call self node now ≡ (insert_answer_of result.answer, result.bucket) }
     {
-        let codes = node.in_range();
-        let q = self.asked_at(codes, now);
+        let q = self.asked_at(node.in_range(), now);
         if q != 0 {
             return InsertReply {
                 bucket: self,
@@ -830,16 +709,14 @@ impl KBucket {
             };
         }
         let r = self.insert_sound(node, now);
-        let b = r.bucket;
-        let o = r.result;
         InsertReply {
-            bucket: b,
-            answer: InsertAnswer::Answered(o),
+            bucket: r.bucket,
+            answer: InsertAnswer::Answered(r.result),
         }
     }
 
     // Applies the pending when its deadline has come.
-    pub fn apply_pending(mut self, now: u64) -> ApplyReply
+    pub fn apply_pending(self, now: u64) -> ApplyReply
         ensures value { apply_pending_call self now ≡ (apply_answer_of result.answer, result.bucket) }
         ensures answer_value { apply_codes result.answer ≡ true }
     {
@@ -851,17 +728,14 @@ impl KBucket {
             };
         }
         let r = self.apply_pending_sound(now);
-        let b = r.bucket;
-        let a = r.applied;
-        let o = only_placed(a);
         ApplyReply {
-            bucket: b,
-            answer: ApplyAnswer::Answered(o),
+            bucket: r.bucket,
+            answer: ApplyAnswer::Answered(only_placed(r.applied)),
         }
     }
 
     // Takes the node of the key out, changes its status and inserts it; direction 2 is none given.
-    pub fn update_status(mut self, key: Key, state: u8, direction: u8) -> UpdateReply
+    pub fn update_status(self, key: Key, state: u8, direction: u8) -> UpdateReply
         ensures { update_status_call self key state direction ≡ (update_answer_of result.answer, result.bucket) }
     {
         let q = self.asked((state <= 1) & (direction <= 2));
@@ -872,20 +746,17 @@ impl KBucket {
             };
         }
         let r = self.update_status_sound(key, state, direction);
-        let b = r.bucket;
-        let o = r.result;
         UpdateReply {
-            bucket: b,
-            answer: UpdateAnswer::Answered(o),
+            bucket: r.bucket,
+            answer: UpdateAnswer::Answered(r.result),
         }
     }
 
     // Changes the value of the node of the key, in its place.
-    pub fn update_value(mut self, key: Key, value: Value) -> UpdateReply
+    pub fn update_value(self, key: Key, value: Value) -> UpdateReply
         ensures { update_value_call self key value ≡ (update_answer_of result.answer, result.bucket) }
     {
-        let codes = value.in_range();
-        let q = self.asked(codes);
+        let q = self.asked(value.in_range());
         if q != 0 {
             return UpdateReply {
                 bucket: self,
@@ -893,16 +764,14 @@ impl KBucket {
             };
         }
         let r = self.update_value_sound(key, value);
-        let b = r.bucket;
-        let o = r.result;
         UpdateReply {
-            bucket: b,
-            answer: UpdateAnswer::Answered(o),
+            bucket: r.bucket,
+            answer: UpdateAnswer::Answered(r.result),
         }
     }
 
     // Sets the status of the pending, if any.
-    pub fn update_pending(mut self, status: NodeStatus) -> PendingReply
+    pub fn update_pending(self, status: NodeStatus) -> PendingReply
         ensures { update_pending_call self status ≡ (pending_answer_of result.answer, result.bucket) }
     {
         let q = self.asked((status.state <= 1) & (status.direction <= 1));
@@ -912,15 +781,14 @@ impl KBucket {
                 answer: PendingAnswer::Refused(q),
             };
         }
-        self = self.update_pending_sound(status.state, status.direction);
         PendingReply {
-            bucket: self,
+            bucket: self.update_pending_sound(status.state, status.direction),
             answer: PendingAnswer::Done,
         }
     }
 
     // Takes the node of the key out, then applies a due pending and throws its record away.
-    pub fn remove(mut self, key: Key, now: u64) -> RemoveReply
+    pub fn remove(self, key: Key, now: u64) -> RemoveReply
         ensures { remove_call self key now ≡ (remove_answer_of result.answer, result.bucket) }
     {
         let q = self.asked_at(true, now);
@@ -931,11 +799,9 @@ impl KBucket {
             };
         }
         let r = self.remove_sound(key, now);
-        let b = r.bucket;
-        let o = r.found;
         RemoveReply {
-            bucket: b,
-            answer: RemoveAnswer::Answered(o),
+            bucket: r.bucket,
+            answer: RemoveAnswer::Answered(r.found),
         }
     }
 }
@@ -944,10 +810,7 @@ impl KBucket {
 pub fn waits(p: Pending) -> bool
     ensures { result ≡ is_some (pending_of p) }
 {
-    match p {
-        Pending::Nothing => false,
-        Pending::Waiting(_, _) => true,
-    }
+    matches!(p, Pending::Waiting(..))
 }
 
 // Internal: the record of a pending that was placed; none of one that was not.
@@ -957,10 +820,8 @@ pub fn only_placed(ended: EndedPending) -> EndedPending
     ensures result_value_2 { applied_codes result ≡ true }
 {
     match ended {
-        EndedPending::Nothing => EndedPending::Nothing,
-        EndedPending::Placed(key) => EndedPending::Placed(key),
-        EndedPending::Replaced(key, node) => EndedPending::Replaced(key, node),
-        EndedPending::Dropped(_, _) => EndedPending::Nothing,
+        EndedPending::Dropped(..) => EndedPending::Nothing,
+        _ => ended,
     }
 }
 
@@ -970,9 +831,7 @@ pub fn count_of(ended: EndedPending) -> usize
 {
     match ended {
         EndedPending::Nothing => 0,
-        EndedPending::Placed(_) => 1,
-        EndedPending::Replaced(_, _) => 1,
-        EndedPending::Dropped(_, _) => 1,
+        _ => 1,
     }
 }
 
@@ -994,13 +853,8 @@ pub fn cleared(key: Key, p: Pending) -> Pending
     ensures { result ≡ cleared_pending (num key) p }
 {
     match p {
-        Pending::Nothing => Pending::Nothing,
-        Pending::Waiting(node, deadline) => {
-            if node.key.eq(key) {
-                return Pending::Nothing;
-            }
-            Pending::Waiting(node, deadline)
-        }
+        Pending::Waiting(node, _) if node.key.eq(key) => Pending::Nothing,
+        _ => p,
     }
 }
 
@@ -1013,9 +867,7 @@ pub fn pending_sound(nodes: [Node; KBucket::MAX_NODES_PER_BUCKET], count: usize,
     match p {
         Pending::Nothing => true,
         Pending::Waiting(node, _) => {
-            let absent = places::position(nodes, 0, count, node.key) == count;
-            let fits = has_codes(node);
-            absent & fits
+            has_codes(node) && places::position(nodes, 0, count, node.key) == count
         }
     }
 }
@@ -1031,24 +883,20 @@ fn has_codes(node: Node) -> bool
 pub fn status_result(old: Node, node: Node) -> UpdateResult
     ensures { update_result_of result ≡ status_result (node_of old) (node_of node) none }
 {
-    let was = old.is_connected();
-    let is = node.is_connected();
     if same_status(old, node) {
-        return UpdateResult::NotModified;
+        UpdateResult::NotModified
+    } else if !old.is_connected() && node.is_connected() {
+        UpdateResult::UpdatedAndPromoted
+    } else {
+        UpdateResult::Updated
     }
-    if !was & is {
-        return UpdateResult::UpdatedAndPromoted;
-    }
-    UpdateResult::Updated
 }
 
-// Internal: do both nodes have the same state and direction?
+// Internal: do both nodes have the same state and direction? No derived equality: a code counts as 1 or as not 1, and all codes but 1 are
+// the same.
 pub fn same_status(x: Node, y: Node) -> bool
     ensures { result ≡ same_status (node_of x) (node_of y) }
 {
-    let a = x.status.state == 1;
-    let b = y.status.state == 1;
-    let c = x.status.direction == 1;
-    let d = y.status.direction == 1;
-    ((a & b) | (!a & !b)) & ((c & d) | (!c & !d))
+    x.status.is_connected() == y.status.is_connected()
+        && x.status.is_incoming() == y.status.is_incoming()
 }

@@ -1,10 +1,11 @@
 -- Question 2 of a bucket by itself, place by place as the code goes.
 use mathlib.Core.Path.{◌≡◌, refl, sym, ap, ◌∙◌}
-use mathlib.Core.Bool.{Bool, true, false, ◌&&◌, and-true, and-false}
+use mathlib.Core.Bool.{Bool, true, false, cond, ◌&&◌, and-true, and-false}
 use mathlib.Core.List.{List}
 use Prim.Native.Nat.{ℕ, ◌+◌, ◌*◌, ◌-◌, ◌≤◌, ◌<◌}
 use native.Mathlib.Nat.{zero-add}
 use native.Mathlib.Omega.{arith}
+use Rattle.std.specs.Int.{from_bool}
 use lib.Dec.{eqb, leb}
 use lib.ListN.{length, get_or}
 use borrow.Author.Tests.{leb-true}
@@ -44,6 +45,15 @@ pub incoming_is : (s : List ℕ) (j : ℕ) (n : declared.Node) → j < max_nodes
 incoming_is s j n h e =
     let at : List ℕ = part s (place_at j) node_size in
     ap connected_incoming (place_node s 0 j h ∙ ap (λ (i : ℕ). node_in (part s i node_size)) (zero-add (place_at j)) ∙ sym (node_of_read at) ∙ ap node_of (sym e))
+
+-- a test as a number
+pub flag_is : (b : Bool) → from_bool b ≡ cond b 1 0
+flag_is true = refl
+flag_is false = refl
+
+pub flag_low : (b : Bool) → from_bool b ≤ 1
+flag_low true = omega arith
+flag_low false = omega arith
 
 regroup : (d p z f i q : Bool) → ((d && (p && z)) && (f && (i && q))) ≡ (z && (f && (((p && d) && i) && q)))
 regroup true true true f i q = refl

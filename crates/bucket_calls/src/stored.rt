@@ -47,12 +47,10 @@ fn places_sound(s: &[u8], count: usize, first: usize, max_incoming: usize) -> bo
 {
     let mut ok = true;
     let mut n: usize = 0;
-    let mut j: usize = 0;
-    while j < count {
+    for j in 0..count {
         let node = storage::load_node(s, Layout::PLACES_AT + j * Layout::NODE);
-        ok = ok & place_sound(s, first, j, node);
-        n += well_formed::one(node.is_connected_incoming());
-        j += 1;
+        ok &= place_sound(s, first, j, node);
+        n += usize::from(node.is_connected_incoming());
     }
     ok & (n <= max_incoming)
 }
@@ -76,9 +74,9 @@ fn lent_formed(s: &[u8]) -> bool
     requires { lent_size ≤ length s.now }
     ensures { result ≡ lent_formed s.now }
 {
-    let count = well_formed::size(s[0]);
-    let first = well_formed::size(s[1]);
-    let max_incoming = well_formed::size(s[Lent::MAX_INCOMING_AT]);
+    let count = usize::from(s[0]);
+    let first = usize::from(s[1]);
+    let max_incoming = usize::from(s[Lent::MAX_INCOMING_AT]);
     if model::MAX_NODES_PER_BUCKET < count {
         return false;
     }
@@ -131,7 +129,7 @@ pub fn load(s: &[u8]) -> KBucket
     ensures { Becomes (lent_settings s.now) (lent_bucket s.now) result }
 {
     let pending_timeout = words::get_u64(s, Lent::TIMEOUT_AT);
-    let max_incoming = well_formed::size(s[Lent::MAX_INCOMING_AT]);
+    let max_incoming = usize::from(s[Lent::MAX_INCOMING_AT]);
     let filter = s[Lent::FILTER_AT];
     buckets::load_at(s, 0, pending_timeout, max_incoming, filter)
 }

@@ -1,6 +1,6 @@
 -- What update_node and insert_or_update answer and leave, case by case.
 use Prim.Native.Nat.{ℕ}
-use mathlib.Core.Path.{◌≡◌, refl, sym, ap, ◌∙◌, subst}
+use mathlib.Core.Path.{◌≡◌, refl, ap, ◌∙◌, subst}
 use mathlib.Core.Bool.{Bool, true, false, cond}
 use mathlib.Core.Option.{Option, none, some}
 use borrow.Author.Tests.{eq-eqb, ne_eqb}
@@ -10,12 +10,8 @@ use Rattle.model.specs.Result.{FailureReason, UpdateResult, InsertResult, is_fai
 use Rattle.model.specs.Bucket.{Bucket, BucketSettings, holds, insert, update_status, update_value, remove}
 use Rattle.model.specs.Table.{Answer, both_updates, update_node_in, insert_updates, inserts, insert_or_update_in}
 use Rattle.model.specs.Call.{is_one, optional}
-use Rattle.bucket.specs.declared.UpdateResult as code
-use Rattle.bucket.specs.declared.FailureReason.{FailureReason as Reason}
-use Rattle.bucket.specs.declared.UpdateResult.TheVariants as variants
 use Rattle.bucket.specs.declared.KBucket.{KBucket}
 use Rattle.bucket.specs.Bucket.{Becomes}
-use Rattle.bucket.specs.Calls.{update_result_of, failure_reason_of}
 
 pub both_failed : (v : UpdateResult) (r : FailureReason) → UpdateResult.Failed r ≡ both_updates v (UpdateResult.Failed r)
 both_failed UpdateResult.Updated r = refl
@@ -23,11 +19,6 @@ both_failed UpdateResult.UpdatedAndPromoted r = refl
 both_failed UpdateResult.UpdatedPending r = refl
 both_failed (UpdateResult.Failed q) r = refl
 both_failed UpdateResult.NotModified r = refl
-
--- a failed status's step is what both answer
-pub failed_status : (v : UpdateResult) {status : code.UpdateResult} (r : Reason) → status ≡ variants.Failed r
-    → UpdateResult.Failed (failure_reason_of r) ≡ both_updates v (update_result_of status)
-failed_status v r e = both_failed v (failure_reason_of r) ∙ ap (λ (x : code.UpdateResult). both_updates v (update_result_of x)) (sym e)
 
 -- a code that may be "not given"
 pub not_given : (n : ℕ) → n ≡ 2 → optional n ≡ none

@@ -2,7 +2,6 @@
 #![tactic(auto)]
 
 ghost use Rattle.std.specs.Prelude.{◌≡◌, true, false, ◌+◌, ◌≤◌, ◌<◌, ◌^◌};
-ghost use Rattle.model.specs.Result as model;
 ghost use Rattle.model.specs.Result.{is_failed};
 ghost use Rattle.model.specs.Bucket.{status_result};
 ghost use Rattle.model.specs.Table.{Answer, both_updates, update_node_in, insert_updates, inserts, insert_or_update_in};
@@ -44,77 +43,20 @@ pub struct InsertedOrUpdated {
 pub fn is_failed(r: UpdateResult) -> bool
     ensures { result ≡ is_failed (update_result_of r) }
 {
-    match r {
-        UpdateResult::Updated => false,
-        UpdateResult::UpdatedAndPromoted => false,
-        UpdateResult::UpdatedPending => false,
-        UpdateResult::Failed(_) => true,
-        UpdateResult::NotModified => false,
-    }
-}
-
-// What the two steps of update_node answer, where the status's step promoted the node.
-fn with_promoted(value: UpdateResult) -> UpdateResult
-    ensures { update_result_of result ≡ both_updates (update_result_of value) model.UpdateResult.UpdatedAndPromoted }
-{
-    match value {
-        UpdateResult::Updated => UpdateResult::UpdatedAndPromoted,
-        UpdateResult::UpdatedAndPromoted => UpdateResult::UpdatedAndPromoted,
-        UpdateResult::UpdatedPending => UpdateResult::UpdatedAndPromoted,
-        UpdateResult::Failed(reason) => UpdateResult::Failed(reason),
-        UpdateResult::NotModified => UpdateResult::UpdatedAndPromoted,
-    }
-}
-
-// The same, where the status's step changed a pending.
-fn with_pending(value: UpdateResult) -> UpdateResult
-    ensures { update_result_of result ≡ both_updates (update_result_of value) model.UpdateResult.UpdatedPending }
-{
-    match value {
-        UpdateResult::Updated => UpdateResult::UpdatedPending,
-        UpdateResult::UpdatedAndPromoted => UpdateResult::UpdatedPending,
-        UpdateResult::UpdatedPending => UpdateResult::UpdatedPending,
-        UpdateResult::Failed(reason) => UpdateResult::Failed(reason),
-        UpdateResult::NotModified => UpdateResult::UpdatedPending,
-    }
-}
-
-// The same, where the status's step updated the node.
-fn with_updated(value: UpdateResult) -> UpdateResult
-    ensures { update_result_of result ≡ both_updates (update_result_of value) model.UpdateResult.Updated }
-{
-    match value {
-        UpdateResult::Updated => UpdateResult::Updated,
-        UpdateResult::UpdatedAndPromoted => UpdateResult::Updated,
-        UpdateResult::UpdatedPending => UpdateResult::UpdatedPending,
-        UpdateResult::Failed(reason) => UpdateResult::Failed(reason),
-        UpdateResult::NotModified => UpdateResult::Updated,
-    }
-}
-
-// The same, where the status's step changed nothing.
-fn with_not_modified(value: UpdateResult) -> UpdateResult
-    ensures { update_result_of result ≡ both_updates (update_result_of value) model.UpdateResult.NotModified }
-{
-    match value {
-        UpdateResult::Updated => UpdateResult::Updated,
-        UpdateResult::UpdatedAndPromoted => UpdateResult::Updated,
-        UpdateResult::UpdatedPending => UpdateResult::UpdatedPending,
-        UpdateResult::Failed(reason) => UpdateResult::Failed(reason),
-        UpdateResult::NotModified => UpdateResult::NotModified,
-    }
+    matches!(r, UpdateResult::Failed(_))
 }
 
 // Internal: what the value's step and the status's step of update_node answer together.
 pub fn both_updates(value: UpdateResult, status: UpdateResult) -> UpdateResult
     ensures { update_result_of result ≡ both_updates (update_result_of value) (update_result_of status) }
 {
-    match status {
-        UpdateResult::Updated => with_updated(value),
-        UpdateResult::UpdatedAndPromoted => with_promoted(value),
-        UpdateResult::UpdatedPending => with_pending(value),
-        UpdateResult::Failed(reason) => UpdateResult::Failed(reason),
-        UpdateResult::NotModified => with_not_modified(value),
+    match (value, status) {
+        (_, UpdateResult::Failed(_)) => status,
+        (UpdateResult::Failed(_), _) => value,
+        (_, UpdateResult::UpdatedAndPromoted | UpdateResult::UpdatedPending) => status,
+        (UpdateResult::UpdatedPending, _) => value,
+        (UpdateResult::NotModified, UpdateResult::NotModified) => UpdateResult::NotModified,
+        _ => UpdateResult::Updated,
     }
 }
 
@@ -123,9 +65,10 @@ pub fn value_result(old: Value, value: Value) -> UpdateResult
     ensures { update_result_of result ≡ value_result (value_of old) (value_of value) }
 {
     if old.eq(value) {
-        return UpdateResult::NotModified;
+        UpdateResult::NotModified
+    } else {
+        UpdateResult::Updated
     }
-    UpdateResult::Updated
 }
 
 // Takes out the node at place pos and inserts one of its key, where the bucket filter is off. Answers as the status's step of a node that
@@ -214,42 +157,29 @@ pub fn update_node_in(
     }
 }
 
-// What the two steps of insert_or_update answer, where the value's step updated the node.
-fn value_updated(status: UpdateResult) -> InsertResult
-    ensures { table_insert_result_of result ≡ insert_updates model.UpdateResult.Updated (update_result_of status) }
-{
-    match status {
-        UpdateResult::Updated => InsertResult::Updated(false),
-        UpdateResult::UpdatedAndPromoted => InsertResult::Updated(true),
-        UpdateResult::UpdatedPending => InsertResult::ValueUpdated,
-        UpdateResult::Failed(reason) => InsertResult::Failed(reason),
-        UpdateResult::NotModified => InsertResult::ValueUpdated,
-    }
-}
-
-// The same, where the value's step changed nothing.
-fn value_kept(status: UpdateResult) -> InsertResult
-    ensures { table_insert_result_of result ≡ insert_updates model.UpdateResult.NotModified (update_result_of status) }
-{
-    match status {
-        UpdateResult::Updated => InsertResult::StatusUpdated(false),
-        UpdateResult::UpdatedAndPromoted => InsertResult::StatusUpdated(true),
-        UpdateResult::UpdatedPending => InsertResult::UpdatedPending,
-        UpdateResult::Failed(reason) => InsertResult::Failed(reason),
-        UpdateResult::NotModified => InsertResult::Updated(false),
-    }
-}
-
 // Internal: what the value's step and the status's step of insert_or_update on a held key answer together.
 pub fn insert_updates(value: UpdateResult, status: UpdateResult) -> InsertResult
     ensures { table_insert_result_of result ≡ insert_updates (update_result_of value) (update_result_of status) }
 {
+    // A match within a match: one on the pair that binds the reason is not proved by the search.
     match value {
-        UpdateResult::Updated => value_updated(status),
-        UpdateResult::UpdatedAndPromoted => InsertResult::UpdatedPending,
-        UpdateResult::UpdatedPending => InsertResult::UpdatedPending,
+        UpdateResult::Updated => match status {
+            UpdateResult::Updated => InsertResult::Updated(false),
+            UpdateResult::UpdatedAndPromoted => InsertResult::Updated(true),
+            UpdateResult::UpdatedPending | UpdateResult::NotModified => InsertResult::ValueUpdated,
+            UpdateResult::Failed(reason) => InsertResult::Failed(reason),
+        },
+        UpdateResult::NotModified => match status {
+            UpdateResult::Updated => InsertResult::StatusUpdated(false),
+            UpdateResult::UpdatedAndPromoted => InsertResult::StatusUpdated(true),
+            UpdateResult::UpdatedPending => InsertResult::UpdatedPending,
+            UpdateResult::NotModified => InsertResult::Updated(false),
+            UpdateResult::Failed(reason) => InsertResult::Failed(reason),
+        },
+        UpdateResult::UpdatedAndPromoted | UpdateResult::UpdatedPending => {
+            InsertResult::UpdatedPending
+        }
         UpdateResult::Failed(reason) => InsertResult::Failed(reason),
-        UpdateResult::NotModified => value_kept(status),
     }
 }
 

@@ -15,12 +15,6 @@ use bucket::{KBucket, Pending};
 use node::Node;
 use storage::Layout;
 
-fn size(x: u8) -> usize
-    ensures { result ≡ x }
-{
-    x as usize
-}
-
 // The pending whose bytes stand at `at`.
 fn load_pending(s: &[u8], at: usize) -> Pending
     requires { at + pending_size ≤ length s.now }
@@ -29,9 +23,10 @@ fn load_pending(s: &[u8], at: usize) -> Pending
     if s[at] == 1 {
         let node = storage::load_node(s, at + 1);
         let deadline = words::get_u64(s, at + (1 + Layout::NODE));
-        return Pending::Waiting(node, deadline);
+        Pending::Waiting(node, deadline)
+    } else {
+        Pending::Nothing
     }
-    Pending::Nothing
 }
 
 // Internal: the bucket whose bytes stand at `at` and pass question 2, all but the index, under settings that are in range.
@@ -47,24 +42,21 @@ pub fn load_at(
     requires max_incoming_le_max_nodes_per_bucket { (max_incoming ≤ max_nodes_per_bucket) × (filter ≤ 1) }
     ensures { Becomes (settings pending_timeout max_incoming filter) (bucket_in (part s.now at bucket_size)) result }
 {
-    let count = size(s[at]);
-    let first = size(s[at + 1]);
+    let count = usize::from(s[at]);
+    let first = usize::from(s[at + 1]);
     let pending = load_pending(s, at + Layout::PENDING_AT);
-    let z = Node::zero();
-    let mut nodes = [z; 16];
-    let mut i: usize = 0;
-    while i < count {
+    let mut nodes = [Node::zero(); 16];
+    for i in 0..count {
         nodes[i] = storage::load_node(s, at + (Layout::PLACES_AT + i * Layout::NODE));
-        i += 1;
     }
     KBucket {
-        nodes: nodes,
-        count: count,
+        nodes,
+        count,
         first_connected_pos: first,
-        pending: pending,
-        pending_timeout: pending_timeout,
-        max_incoming: max_incoming,
-        filter: filter,
+        pending,
+        pending_timeout,
+        max_incoming,
+        filter,
     }
 }
 
@@ -77,7 +69,7 @@ pub fn load_bucket(s: &[u8], i: usize) -> KBucket
     ensures { Becomes (table_of s.now).settings.bucket ((table_of s.now).buckets i) result }
 {
     let pending_timeout = words::get_u64(s, Layout::TIMEOUT_AT);
-    let max_incoming = size(s[Layout::MAX_INCOMING_AT]);
+    let max_incoming = usize::from(s[Layout::MAX_INCOMING_AT]);
     let filter = s[Layout::BUCKET_FILTER_AT];
     load_at(
         s,
@@ -88,8 +80,8 @@ pub fn load_bucket(s: &[u8], i: usize) -> KBucket
     )
 }
 
-// The bytes of a pending, put at `at`.
-fn store_pending(s: &mut [u8], at: usize, p: Pending)
+// Internal: the bytes of a pending, put at `at`.
+pub fn store_pending(s: &mut [u8], at: usize, p: Pending)
     requires { (at + pending_size ≤ length s.old) × (pending_codes p ≡ true) }
     ensures { s.new ≡ splice s.old at (pending_bytes (pending_of p)) }
 {
@@ -112,21 +104,17 @@ pub fn store_at(s: &mut [u8], at: usize, b: KBucket)
     ensures { s.new ≡ splice s.old at (bucket_bytes (bucket_of b)) }
 {
     let count = b.count;
-    let first = b.first_connected_pos;
-    let pending = b.pending;
     words::put_byte(s, at, count as u8);
-    words::put_byte(s, at + 1, first as u8);
-    let mut i: usize = 0;
-    while i < count {
+    words::put_byte(s, at + 1, b.first_connected_pos as u8);
+    for i in 0..count {
         storage::store_node(s, at + (Layout::PLACES_AT + i * Layout::NODE), b.nodes[i]);
-        i += 1;
     }
     words::put_zeros(
         s,
         at + (Layout::PLACES_AT + count * Layout::NODE),
         (KBucket::MAX_NODES_PER_BUCKET - count) * Layout::NODE,
     );
-    store_pending(s, at + Layout::PENDING_AT, pending);
+    store_pending(s, at + Layout::PENDING_AT, b.pending);
 }
 
 // Internal: a sound bucket, stored as bucket i of the storage.

@@ -1,6 +1,6 @@
 -- DEMAND 3 FOR THE CODE. For every list of the table's calls on storage that `new` has just made and that nobody else writes, refused
 -- calls, `new` again and clocks that go back included: what the code leaves in every bucket is what the log says, within the limits
--- (`StorageClaim`, crates/log, specs/Claim). The log is fed what a host sees: the calls, what the code answered, and the records that it
+-- (`StorageClaim`, crates/table_log, specs/Claim). The log is fed what a host sees: the calls, what the code answered, and the records that it
 -- finds in the queue behind those that were there before.
 use Prim.Native.Nat.{ℕ}
 use mathlib.Core.Path.{◌≡◌, refl, sym, ap, ap₂, ◌∙◌, subst, subst⁻¹}

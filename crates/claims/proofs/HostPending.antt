@@ -46,10 +46,10 @@ export_pending_claim {c} {answer} {s} {code} {s'} {out'} run h b = by (told run)
     by (inl x) =
         let p = pending_step c s h b in
         record {
-          due_ended_lem = λ q.
+          ended_due = λ q.
               subst⁻¹ (λ (y : List ℕ). due_ended c (table_of s) (fed c s (answer_of c code out') y).records ≡ true) x.storage
-              (p.due_ended_lem (read_accepted c s code s' out' x q));
-          one_record_lem = subst⁻¹ (λ (y : List ℕ). one_record c (fed c s (answer_of c code out') y).records ≡ true) x.storage p.one_record_lem;
+              (p.ended_due (read_accepted c s code s' out' x q));
+          single_record = subst⁻¹ (λ (y : List ℕ). one_record c (fed c s (answer_of c code out') y).records ≡ true) x.storage p.single_record;
         }
     by (inr x) =
         kept_claim c s (answer_of c code out') s' x.storage

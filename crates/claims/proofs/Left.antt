@@ -72,11 +72,11 @@ stepped_records c s z =
 act_settings : (c : Call) (t : Table) → touches_all c ≡ false → (act c t).table.settings ≡ t.settings
 unfolding act
 act_settings (Call.new k timeout m tf bf) t n = clash refl n
-act_settings (Call.on_key k c) t n = on_key_lem (own_answer c) (effect c k t) (index_in t (number k))
+act_settings (Call.on_key k c) t n = by_key (own_answer c) (effect c k t) (index_in t (number k))
   where
-    on_key_lem : (self : Answer) (f : ℕ → Bucket → Effect) (o : Option ℕ) → (on_key t self f o).table.settings ≡ t.settings
-    on_key_lem self f none = refl
-    on_key_lem self f (some i) = refl
+    by_key : (self : Answer) (f : ℕ → Bucket → Effect) (o : Option ℕ) → (on_key t self f o).table.settings ≡ t.settings
+    by_key self f none = refl
+    by_key self f (some i) = refl
 act_settings (Call.list l n now out) t m = apply_all_settings now (applies l n now t) t
 act_settings Call.take_applied_pending t n = taken t.queue
   where

@@ -265,10 +265,10 @@ own_listed (KeyCall.present_update st dr) h = h
 own_listed (KeyCall.pending_update st dr) h = h
 own_listed (KeyCall.absent_insert v st dr now hs) h = h
 
-on_key_lem : (c : KeyCall) (k : List ℕ) (t : Table) (o : Option ℕ) → (key_arguments c).kind (kind_in t (number k) o) ≡ true
+by_key : (c : KeyCall) (k : List ℕ) (t : Table) (o : Option ℕ) → (key_arguments c).kind (kind_in t (number k) o) ≡ true
     → among (Listed.on_key (key_kinds c)) (on_key t (own_answer c) (effect c k t) o).answer ≡ true
-on_key_lem c k t none h = own_listed c h
-on_key_lem c k t (some i) h = effect_listed c k t i (t.buckets i) h
+by_key c k t none h = own_listed c h
+by_key c k t (some i) h = effect_listed c k t i (t.buckets i) h
 
 taken : (t : Table) (q : List EndedPending) → among (kinds_of Call.take_applied_pending) (take_oldest t q).answer ≡ true
 taken t [] = refl
@@ -278,7 +278,7 @@ taken t (a ∷ q) = refl
 pub act_listed : (c : Call) (t : Table) → kind_fits c t ≡ true → among (kinds_of c) (act c t).answer ≡ true
 unfolding act kind_fits
 act_listed (Call.new k timeout m tf bf) t h = refl
-act_listed (Call.on_key k c) t h = on_key_lem c k t (index_in t (number k)) h
+act_listed (Call.on_key k c) t h = by_key c k t (index_in t (number k)) h
 act_listed (Call.list l n now out) t h = refl
 act_listed Call.take_applied_pending t h = taken t t.queue
 act_listed (Call.read bs) t h = refl

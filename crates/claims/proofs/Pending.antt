@@ -34,8 +34,8 @@ use Rattle.claims.proofs.Demand.{made}
 pub kept_claim : (c : Call) (s : List ℕ) (a : Answer) (s' : List ℕ) → s' ≡ s → is_refused a ≡ true → PendingClaim c s a s'
 kept_claim c s a s' e r =
     record {
-      due_ended_lem = λ h. clash r h;
-      one_record_lem =
+      ended_due = λ h. clash r h;
+      single_record =
           subst⁻¹ (λ (rs : List EndedPending). one_record c rs ≡ true)
           (ap (λ (x : List ℕ). behind (table_of s).queue (table_of x).queue) e ∙ drop-length (table_of s).queue) (or_second (lists c) true refl);
     }
@@ -58,10 +58,10 @@ pending_step c s h b = by (first_failed (all_questions c s)) refl
         let o : step c t ≡ act c t = step_accepted c t (accepted_bytes c s e).passes in
         let r : behind t.queue (table_of (step_bytes c s).storage).queue ≡ (step c t).records = accepted_records c s h b e ∙ ap (λ (x : Outcome). x.records) (sym o) in
         record {
-          due_ended_lem = λ q.
+          ended_due = λ q.
               subst⁻¹ (λ (rs : List EndedPending). due_ended c t rs ≡ true) r
               (theorem_due c t (ap (λ (x : Outcome). is_refused x.answer) o ∙ ap is_refused (sym (accepted_is c s e)) ∙ q));
-          one_record_lem = subst⁻¹ (λ (rs : List EndedPending). one_record c rs ≡ true) r (theorem_one c t);
+          single_record = subst⁻¹ (λ (rs : List EndedPending). one_record c rs ≡ true) r (theorem_one c t);
         }
 
 pub pending_claim : {c : Call} {s : List ℕ} {a : Answer} {s' out' : List ℕ} → Ran c s a s' out' → FitsCall c → Bytes s → PendingClaim c s a s'

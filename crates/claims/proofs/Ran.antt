@@ -26,11 +26,11 @@ use Rattle.claims.specs.Ran.{Ran}
 no_items : (c : Call) (t : Table) → lists c ≡ false → ((act c t).items ≡ []) × (output_of c ≡ [])
 unfolding act
 no_items (Call.new k timeout m tf bf) t h = (refl, refl)
-no_items (Call.on_key k c) t h = (on_key_lem (own_answer c) (effect c k t) (index_in t (number k)), refl)
+no_items (Call.on_key k c) t h = (by_key (own_answer c) (effect c k t) (index_in t (number k)), refl)
   where
-    on_key_lem : (self : Answer) (f : ℕ → Bucket → Effect) (o : Option ℕ) → (on_key t self f o).items ≡ []
-    on_key_lem self f none = refl
-    on_key_lem self f (some i) = refl
+    by_key : (self : Answer) (f : ℕ → Bucket → Effect) (o : Option ℕ) → (on_key t self f o).items ≡ []
+    by_key self f none = refl
+    by_key self f (some i) = refl
 no_items (Call.list l n now out) t h = clash refl h
 no_items Call.take_applied_pending t h = (taken t.queue, refl)
   where

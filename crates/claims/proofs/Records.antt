@@ -15,9 +15,9 @@ use Rattle.model.specs.Step.{on_key, own_answer, effect, take_oldest, act, quest
 use Rattle.laws.proofs.Applied.{apply_all_queue}
 use Rattle.claims.specs.Runs.{behind}
 
-on_key_lem : (t : Table) (self : Answer) (f : ℕ → Bucket → Effect) (o : Option ℕ) → behind t.queue (on_key t self f o).table.queue ≡ (on_key t self f o).records
-on_key_lem t self f none = drop-length t.queue
-on_key_lem t self f (some i) = drop-append_seam t.queue (f i (t.buckets i)).records
+by_key : (t : Table) (self : Answer) (f : ℕ → Bucket → Effect) (o : Option ℕ) → behind t.queue (on_key t self f o).table.queue ≡ (on_key t self f o).records
+by_key t self f none = drop-length t.queue
+by_key t self f (some i) = drop-append_seam t.queue (f i (t.buckets i)).records
 
 nothing_behind : (q : List EndedPending) → behind q [] ≡ []
 nothing_behind [] = refl
@@ -35,7 +35,7 @@ taken t (a ∷ q) e = one_less a q
 pub of_act : (c : Call) (t : Table) → behind t.queue (act c t).table.queue ≡ (act c t).records
 unfolding act
 of_act (Call.new k timeout m tf bf) t = nothing_behind t.queue
-of_act (Call.on_key k c) t = on_key_lem t (own_answer c) (effect c k t) (index_in t (number k))
+of_act (Call.on_key k c) t = by_key t (own_answer c) (effect c k t) (index_in t (number k))
 of_act (Call.list l n now out) t =
     ap (behind t.queue) (apply_all_queue now (applies l n now t) t) ∙ drop-append_seam t.queue (apply_all now (applies l n now t) t).1
 of_act Call.take_applied_pending t = taken t t.queue refl

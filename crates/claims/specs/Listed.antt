@@ -81,7 +81,7 @@ pub record Kinds : Type 0 where
   pub found : Bool
   pub take : Bool
   pub read : Bool
-  pub on_key_lem : KeyKinds
+  pub by_key : KeyKinds
 
 abbrev pub among : Kinds → Answer → Bool
 among k (Answer.Refused n) = false
@@ -89,11 +89,11 @@ among k Answer.New = k.new
 among k (Answer.Found n) = k.found
 among k (Answer.TakeAppliedPending r) = k.take
 among k (Answer.Read n) = k.read
-among k (Answer.Remove r) = k.on_key_lem.remove
-among k (Answer.Entry e) = k.on_key_lem.entry
-among k (Answer.Update r) = k.on_key_lem.update r
-among k (Answer.InsertOrUpdate r) = k.on_key_lem.insert_or_update r
-among k (Answer.Insert r) = k.on_key_lem.insert r
+among k (Answer.Remove r) = k.by_key.remove
+among k (Answer.Entry e) = k.by_key.entry
+among k (Answer.Update r) = k.by_key.update r
+among k (Answer.InsertOrUpdate r) = k.by_key.insert_or_update r
+among k (Answer.Insert r) = k.by_key.insert r
 
 abbrev pub key_kinds : KeyCall → KeyKinds
 key_kinds (KeyCall.update_node_status st dr now) = kinds false false status_updates no no
@@ -106,14 +106,14 @@ key_kinds (KeyCall.pending_update st dr) = kinds false false pending_updates no 
 key_kinds (KeyCall.absent_insert v st dr now hs) = kinds false false no no absent_inserts
 
 abbrev pub on_key : KeyKinds → Kinds
-on_key k = record { new = false; found = false; take = false; read = false; on_key_lem = k }
+on_key k = record { new = false; found = false; take = false; read = false; by_key = k }
 
 abbrev pub kinds_of : Call → Kinds
-kinds_of (Call.new k timeout m tf bf) = record { new = true; found = false; take = false; read = false; on_key_lem = kinds false false no no no }
+kinds_of (Call.new k timeout m tf bf) = record { new = true; found = false; take = false; read = false; by_key = kinds false false no no no }
 kinds_of (Call.on_key k c) = on_key (key_kinds c)
-kinds_of (Call.list l n now out) = record { new = false; found = true; take = false; read = false; on_key_lem = kinds false false no no no }
-kinds_of Call.take_applied_pending = record { new = false; found = false; take = true; read = false; on_key_lem = kinds false false no no no }
-kinds_of (Call.read bs) = record { new = false; found = false; take = false; read = true; on_key_lem = kinds false false no no no }
+kinds_of (Call.list l n now out) = record { new = false; found = true; take = false; read = false; by_key = kinds false false no no no }
+kinds_of Call.take_applied_pending = record { new = false; found = false; take = true; read = false; by_key = kinds false false no no no }
+kinds_of (Call.read bs) = record { new = false; found = false; take = false; read = true; by_key = kinds false false no no no }
 
 -- a refusal, or an answer of the call's own kind
 abbrev pub can_answer : Call → Answer → Bool

@@ -47,5 +47,5 @@ pub record ClosestList (l : Listing) (x : List ℕ) (n time : ℕ) (out s : List
 -- 02, slip 4, of a call that answered a and left s' where it found s: accepted, it ended what was due in the buckets that it applies; and
 -- unless it is a listing it left no more than one record
 pub record PendingClaim (c : Call) (s : List ℕ) (a : Answer) (s' : List ℕ) : Type 0 where
-  pub due_ended_lem : is_refused a ≡ false → due_ended c (table_of s) (fed c s a s').records ≡ true
-  pub one_record_lem : one_record c (fed c s a s').records ≡ true
+  pub ended_due : is_refused a ≡ false → due_ended c (table_of s) (fed c s a s').records ≡ true
+  pub single_record : one_record c (fed c s a s').records ≡ true

@@ -26,14 +26,14 @@ impl Answer {
 pub fn refused(q: u8) -> u32
     ensures { result ≡ refused_code q }
 {
-    0x1_0000 + q as u32
+    0x1_0000 + u32::from(q)
 }
 
 // Internal: 1 for true.
 pub fn flag_code(b: bool) -> u32
     ensures { (result ≡ flag_byte b) × (result ≤ 1) }
 {
-    if b { 1 } else { 0 }
+    u32::from(b)
 }
 
 // Internal: the number of a reason.

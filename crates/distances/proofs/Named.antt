@@ -1,15 +1,17 @@
 -- The buckets that the distances name, and what a bucket gives that was named before.
 use mathlib.Core.Path.{◌≡◌, refl, sym, ap, ◌∙◌, subst}
-use mathlib.Core.Bool.{Bool, true, false, cond, not, not-not}
+use mathlib.Core.Bool.{Bool, true, false, cond, not, not-not, ◌&&◌, ◌||◌}
 use mathlib.Core.List.{List, [], ◌∷◌, ◌++◌}
 use mathlib.Core.Option.{Option, none, some}
+use Rattle.std.specs.List.{list_any}
+use Rattle.std.proofs.lemmas.List.Folds.{list_any_more}
 use Prim.Native.Nat.{ℕ, zero, suc, ◌+◌, ◌-◌, ◌≤◌, ◌<◌}
 use native.Mathlib.Numerals.{add-one}
 use native.Mathlib.Omega.{arith}
 use lib.Dec.{eqb}
 use lib.ListN.{length, get_or, take}
 use lib.Seq.{take-suc}
-use borrow.Author.Tests.{eq-eqb, ne_eqb, eqb-true, eqb-false, le-leb, lt-leb}
+use borrow.Author.Tests.{ne_eqb, eqb-true, eqb-false, le-leb, lt-leb}
 use Rattle.model.specs.Base.{same, every, joined, all_below}
 use Rattle.model.specs.Bytes.{Bytes}
 use Rattle.model.specs.Layout.{table_of}
@@ -18,14 +20,12 @@ use Rattle.model.specs.Bucket.{Bucket, num_entries, apply_pending}
 use Rattle.model.specs.Table.{Table}
 use Rattle.model.specs.Listing.{apply_all, applied, index_at, indices, buckets_at}
 use Rattle.laws.proofs.Tests.{same_self, same_not, split}
-use Rattle.laws.proofs.Lists.{joined_append, all_fails, all_more, every_append}
+use Rattle.laws.proofs.Lists.{joined_append, every_append}
 use Rattle.laws.proofs.Frame.{apply_all_settings}
 use Rattle.laws.proofs.Touched.{distance_of}
 use Rattle.laws.proofs.Keep.{apply_pending_well_formed}
 use Rattle.laws.proofs.TableBytes.{well_formed_at}
 use Rattle.laws.proofs.Applied.{apply_again, apply_all_buckets, apply_all_append}
-use Rattle.key.specs.declared.BucketIndex.{BucketIndex}
-use Rattle.key.specs.Answers.{bucket_index_of}
 use Rattle.on_key.specs.Answers.{Ready}
 use Rattle.visit.specs.declared.Given.{Given}
 use Rattle.visit.specs.Passes.{GivenAt}
@@ -42,27 +42,24 @@ module _ (d : ℕ) where
   unfolding index_at
   index_past h = rw (le-leb 1 d (omega arith), lt-leb d 256 h)
 
-  pub index_in : (d ≡ 0 → ⊥) → d ≤ 256 → index_at d ≡ some (d - 1)
+  pub index_in : 1 ≤ d → d ≤ 256 → index_at d ≡ some (d - 1)
   unfolding index_at
-  index_in n h = rw (le-leb 1 d (omega arith), le-leb d 256 h)
-
--- the index that was answered
-pub index_told : (d : ℕ) {r v : BucketIndex} → bucket_index_of r ≡ index_at d → r ≡ v → index_at d ≡ bucket_index_of v
-index_told d e f = sym e ∙ ap bucket_index_of f
+  index_in n h = rw (le-leb 1 d n, le-leb d 256 h)
 
 -- a distance stands before place p
 
-module _ (ds : List ℕ) (p d j : ℕ) where
-  pub stands_found : j < p → get_or ds j 0 ≡ d → true ≡ stands_before ds p d
-  unfolding stands_before
-  stands_found h e = sym (ap not (all_fails p (λ (k : ℕ). not (eqb (get_or ds k 0) d)) j h (ap not (eq-eqb (get_or ds j 0) d e))))
+one_more : (a b : Bool) → (not a || b) ≡ not (a && not b)
+one_more true true = refl
+one_more true false = refl
+one_more false b = refl
 
-  pub stands_on : all_below j (λ (k : ℕ). not (eqb (get_or ds k 0) d)) ≡ true → (get_or ds j 0 ≡ d → ⊥) → all_below (j + 1) (λ (k : ℕ). not (eqb (get_or ds k 0) d)) ≡ true
-  stands_on h n = all_more j (λ (k : ℕ). not (eqb (get_or ds k 0) d)) ∙ rw (h, ne_eqb (get_or ds j 0) d n)
-
-  pub stands_not : all_below p (λ (k : ℕ). not (eqb (get_or ds k 0) d)) ≡ true → false ≡ stands_before ds p d
-  unfolding stands_before
-  stands_not h = sym (ap not h)
+pub stands_is : (ds : List ℕ) (d p : ℕ) → p ≤ length ds → list_any (λ (y : ℕ). eqb y d) (take p ds) ≡ stands_before ds p d
+unfolding stands_before all_below
+stands_is ds d zero h = refl
+stands_is ds d (suc p) h =
+    ap (λ (k : ℕ). list_any (λ (y : ℕ). eqb y d) (take k ds)) (sym (add-one p)) ∙ list_any_more (λ (y : ℕ). eqb y d) ds p 0 (omega arith)
+    ∙ ap (λ (a : Bool). a || eqb (get_or ds p 0) d) (stands_is ds d p (omega arith))
+    ∙ one_more (all_below p (λ (j : ℕ). not (eqb (get_or ds j 0) d))) (eqb (get_or ds p 0) d)
 
 -- what a bucket gives
 

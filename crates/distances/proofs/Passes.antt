@@ -9,7 +9,7 @@ use native.Mathlib.Numerals.{add-one}
 use native.Mathlib.Omega.{arith}
 use lib.Dec.{eqb, leb}
 use lib.ListN.{length, get_or, take, drop, length-append, take-append-drop}
-use lib.Seq.{drop-cons, drop-length, take-suc, length-take-le, get_or-take}
+use lib.Seq.{drop-cons, drop-length, take-suc}
 use borrow.Author.Tests.{eqb-true, leb-false}
 use Rattle.model.specs.Base.{joined}
 use Rattle.model.specs.Bytes.{Bytes}
@@ -18,7 +18,7 @@ use Rattle.model.specs.Table.{Table, max_records}
 use Rattle.model.specs.Listing.{apply_all, applied_pass, index_at, indices, buckets_at}
 use Rattle.model.specs.Layout.{table_of}
 use Rattle.model.specs.Formed.{bucket_formed_at, buckets_formed}
-use Rattle.laws.proofs.Tests.{split, clash, and_left, and_right, and_none}
+use Rattle.laws.proofs.Tests.{split, and_left, and_right, and_none}
 use Rattle.laws.proofs.Lists.{joined_append, every_append}
 use Rattle.laws.proofs.Touched.{distance_of, distances_below}
 use Rattle.laws.proofs.ReadBack.{header_fits}
@@ -26,8 +26,7 @@ use Rattle.on_key.specs.Answers.{Ready, Timely}
 use Rattle.visit.specs.declared.Given.{Given}
 use Rattle.visit.specs.Passes.{visit_one, applied_in}
 use Rattle.visit.proofs.Applying.{Appliable, Applying, applying_starts, applying_size, applying_bytes, applying_header, applying_timely, applying_rest, applying_room, applying_next, applying_ends, applying_nothing}
-use Rattle.distances.specs.declared.pass.Tally.{Tally}
-use Rattle.distances.specs.Passes.{records_at, yields, held_at, Yields, next_table, table_at, distance_pass, passed, Taken, Surveyed, Holds}
+use Rattle.distances.specs.Passes.{records_at, yields, held_at, Yields, next_table, table_at, distance_pass, passed, Taken, Told, Holds}
 use Rattle.distances.proofs.Named.{held_none, table_none, table_next}
 
 -- one distance further
@@ -120,23 +119,17 @@ module _ (now n : ℕ) (ds s : List ℕ) where
       }
 
   -- the pass is at its end
-  surveyed : {taken records : ℕ} (r : Tally) → Taken now n ds t taken records → buckets_formed s (buckets_at (take taken ds)) ≡ true
-      → r.formed ≡ true → r.taken ≡ taken → r.records ≡ records → Surveyed now n ds s r
-  surveyed r k f a b c =
-      record {
-        formed = a ∙ sym f ∙ ap (buckets_formed s) k.buckets;
-        passes =
-            λ _. record { within = omega (arith, k.within); buckets = ap (λ (m : ℕ). buckets_at (take m ds)) b ∙ k.buckets; given = c ∙ k.given };
-      }
+  told : {taken records : ℕ} → Taken now n ds t taken records → buckets_formed s (buckets_at (take taken ds)) ≡ true
+      → Told now n ds s (record { records = records; taken = taken })
+  told k f = record { formed = sym (ap (buckets_formed s) k.buckets) ∙ f; pass = k }
 
   module _ {records seen p : ℕ} (w : Counting now n ds s records seen p) where
-    pub counting_ends : length ds ≤ p → (r : Tally) → r.formed ≡ true → r.taken ≡ p → r.records ≡ records → Surveyed now n ds s r
+    pub counting_ends : p ≡ length ds → Told now n ds s (record { records = records; taken = p })
     unfolding distance_pass joined
-    counting_ends h r a b c =
-        let e : p ≡ length ds = omega (arith, w.within) in
+    counting_ends e =
         let f : drop p ds ≡ [] = ap (λ (k : ℕ). drop k ds) e ∙ drop-length ds in
         let g : length (distance_pass now n seen (drop p ds) (table_at now ds p t)).1 ≡ 0 = ap (λ (l : List ℕ). length (distance_pass now n seen l (table_at now ds p t)).1) f in
-        surveyed r
+        told
         (record {
           within = w.within;
           buckets =
@@ -144,7 +137,7 @@ module _ (now n : ℕ) (ds s : List ℕ) where
               ∙ ap (λ (l : List ℕ). buckets_at (take p ds) ++ applied_pass now n seen (buckets_at l) (table_at now ds p t)) (sym f) ∙ sym w.all;
           given = omega (arith, w.total);
         })
-        w.asked a b c
+        w.asked
 
     module _ (h : p < length ds) where
       abbrev d : ℕ
@@ -170,16 +163,11 @@ module _ (now n : ℕ) (ds s : List ℕ) where
       all_then : passed now n ds t ≡ buckets_at (take (p + 1) ds) ++ behind
       all_then = all_here ∙ sym (append_assoc (buckets_at (take p ds)) (indices o) behind) ∙ ap (λ (is : List ℕ). is ++ behind) (sym (named_next ds p h))
 
-      pub counting_fails : buckets_formed s (indices o) ≡ false → (r : Tally) → r.formed ≡ false → Surveyed now n ds s r
-      counting_fails e r a =
-          record {
-            formed =
-                a
-                ∙ sym (ap (buckets_formed s) all_here ∙ every_append (bucket_formed_at s) (buckets_at (take p ds)) (indices o ++ behind)
-                ∙ and_none (buckets_formed s (buckets_at (take p ds))) (buckets_formed s (indices o ++ behind))
-                (every_append (bucket_formed_at s) (indices o) behind ∙ ap (λ (b : Bool). b && buckets_formed s behind) e));
-            passes = λ g. clash g a;
-          }
+      pub counting_fails : buckets_formed s (indices o) ≡ false → buckets_formed s (passed now n ds t) ≡ false
+      counting_fails e =
+          ap (buckets_formed s) all_here ∙ every_append (bucket_formed_at s) (buckets_at (take p ds)) (indices o ++ behind)
+          ∙ and_none (buckets_formed s (buckets_at (take p ds))) (buckets_formed s (indices o ++ behind))
+          (every_append (bucket_formed_at s) (indices o) behind ∙ ap (λ (b : Bool). b && buckets_formed s behind) e)
 
       module _ (f : buckets_formed s (indices o) ≡ true) {g : Given} (y : Yields now u o g) where
         asked_then : buckets_formed s (buckets_at (take (p + 1) ds)) ≡ true
@@ -188,19 +176,18 @@ module _ (now n : ℕ) (ds s : List ℕ) where
         there : length (distance_pass now n seen (drop p ds) u).1 ≡ length (distance_pass now n seen (d ∷ drop (suc p) ds) u).1
         there = ap (λ (l : List ℕ). length (distance_pass now n seen l u).1) (drop-cons ds p 0 h)
 
-        pub counting_stops : (not (eqb g.placed 0) && leb n (seen + g.count)) ≡ true → (r : Tally) → r.formed ≡ true → r.taken ≡ p + 1
-            → r.records ≡ records + g.records → Surveyed now n ds s r
-        counting_stops e r a b c =
+        pub counting_stops : (not (eqb g.placed 0) && leb n (seen + g.count)) ≡ true → Told now n ds s (record { records = records + g.records; taken = p + 1 })
+        counting_stops e =
             let z = test_is now n seen u o true y e in
             let q = ap (λ (x : Table × List EndedPending). length x.1) (pass_stops now n seen d (drop (suc p) ds) u z) in
             let v = ap length (append-nil (records_at now u o)) in
-            surveyed r
+            told
             (record {
               within = omega arith;
               buckets = sym (all_then ∙ ap (λ (b : Bool). buckets_at (take (p + 1) ds) ++ cond b [] (applied_pass now n (seen + held_at now u o) (buckets_at (drop (suc p) ds)) (next_table now u o))) z ∙ append-nil (buckets_at (take (p + 1) ds)));
               given = omega (arith, w.total, there, y.records);
             })
-            asked_then a b c
+            asked_then
 
         pub counting_goes : n ≤ 4096 → (not (eqb g.placed 0) && leb n (seen + g.count)) ≡ false → Counting now n ds s (records + g.records) (seen + g.count) (p + 1)
         counting_goes m e =
@@ -261,30 +248,26 @@ one_bucket s now d i e f = f ∙ ap (λ (o : Option ℕ). applied_in s now (indi
 
 -- the applying pass
 
--- the buckets at the first distances, at place p
-here_is : (ds : List ℕ) (taken p : ℕ) → taken ≤ length ds → p < taken
-    → buckets_at (drop p (take taken ds)) ≡ indices (index_at (get_or ds p 0)) ++ buckets_at (drop (p + 1) (take taken ds))
+-- the buckets from place p on
+here_is : (ds : List ℕ) (p : ℕ) → p < length ds → buckets_at (drop p ds) ≡ indices (index_at (get_or ds p 0)) ++ buckets_at (drop (p + 1) ds)
 unfolding joined
-here_is ds taken p l h =
-    let e : length (take taken ds) ≡ taken = length-take-le taken ds l in
-    ap buckets_at (drop-cons (take taken ds) p 0 (omega arith))
-    ∙ ap (λ (d : ℕ). indices (index_at d) ++ buckets_at (drop (suc p) (take taken ds))) (get_or-take taken ds p 0 h)
-    ∙ ap (λ (k : ℕ). indices (index_at (get_or ds p 0)) ++ buckets_at (drop k (take taken ds))) (sym (add-one p))
+here_is ds p h =
+    ap buckets_at (drop-cons ds p 0 h)
+    ∙ ap (λ (k : ℕ). indices (index_at (get_or ds p 0)) ++ buckets_at (drop k ds)) (sym (add-one p))
 
 -- each of them was asked
-pub formed_at : (s ds : List ℕ) (taken p : ℕ) → taken ≤ length ds → p < taken → buckets_formed s (buckets_at (take taken ds)) ≡ true
+pub formed_at : (s ds : List ℕ) (p : ℕ) → p < length ds → buckets_formed s (buckets_at ds) ≡ true
     → buckets_formed s (indices (index_at (get_or ds p 0))) ≡ true
-formed_at s ds taken p l h f =
-    let es : List ℕ = take taken ds in
+formed_at s ds p h f =
     let d : ℕ = get_or ds p 0 in
-    let rest : List ℕ = buckets_at (drop (p + 1) es) in
-    let e : buckets_at es ≡ buckets_at (take p es) ++ buckets_at (drop p es) =
-    ap buckets_at (sym (take-append-drop p es)) ∙ joined_append (λ (x : ℕ). indices (index_at x)) (take p es) (drop p es) in
-    let g : (buckets_formed s (buckets_at (take p es)) && buckets_formed s (buckets_at (drop p es))) ≡ true =
-    sym (every_append (bucket_formed_at s) (buckets_at (take p es)) (buckets_at (drop p es))) ∙ ap (buckets_formed s) (sym e) ∙ f in
+    let rest : List ℕ = buckets_at (drop (p + 1) ds) in
+    let e : buckets_at ds ≡ buckets_at (take p ds) ++ buckets_at (drop p ds) =
+    ap buckets_at (sym (take-append-drop p ds)) ∙ joined_append (λ (x : ℕ). indices (index_at x)) (take p ds) (drop p ds) in
+    let g : (buckets_formed s (buckets_at (take p ds)) && buckets_formed s (buckets_at (drop p ds))) ≡ true =
+    sym (every_append (bucket_formed_at s) (buckets_at (take p ds)) (buckets_at (drop p ds))) ∙ ap (buckets_formed s) (sym e) ∙ f in
     and_left (buckets_formed s (indices (index_at d))) (buckets_formed s rest)
-    (sym (every_append (bucket_formed_at s) (indices (index_at d)) rest) ∙ ap (buckets_formed s) (sym (here_is ds taken p l h))
-    ∙ and_right (buckets_formed s (buckets_at (take p es))) (buckets_formed s (buckets_at (drop p es))) g)
+    (sym (every_append (bucket_formed_at s) (indices (index_at d)) rest) ∙ ap (buckets_formed s) (sym (here_is ds p h))
+    ∙ and_right (buckets_formed s (buckets_at (take p ds))) (buckets_formed s (buckets_at (drop p ds))) g)
 
 -- one distance further
 module _ (s₀ : List ℕ) (now : ℕ) (is : List ℕ) (a : Appliable s₀ now is) (s rest : List ℕ) where
@@ -306,55 +289,47 @@ module _ (s₀ : List ℕ) (now : ℕ) (is : List ℕ) (a : Appliable s₀ now i
       subst (λ (x : List ℕ). Applying s₀ now is x rest) f w
   next_applying (some i) w s' e = applying_next s₀ now is a s i rest w s' e
 
-module _ (s₀ : List ℕ) (now : ℕ) (ds : List ℕ) (taken : ℕ) where
+pub pass_appliable : (s₀ : List ℕ) (now : ℕ) (ds : List ℕ) (taken : ℕ) → Bytes s₀ → Holds s₀ → Timely s₀ now → buckets_formed s₀ (buckets_at (take taken ds)) ≡ true
+    → length (table_at now ds taken (table_of s₀)).queue ≤ max_records → Appliable s₀ now (buckets_at (take taken ds))
+unfolding table_at
+pass_appliable s₀ now ds taken h f c b q =
+    record { bytes = h; size = f.size; header = f.header; timely = c; below = distances_below (take taken ds); formed = b; room = q }
+
+-- the storage while the distances are visited
+pub record Passing (s₀ : List ℕ) (now : ℕ) (ds s : List ℕ) (p : ℕ) : Type 0 where
+  pub appliable : Appliable s₀ now (buckets_at ds)
+  pub applying : Applying s₀ now (buckets_at ds) s (buckets_at (drop p ds))
+
+pub passing_starts : (s₀ : List ℕ) (now : ℕ) (ds : List ℕ) → Appliable s₀ now (buckets_at ds) → Passing s₀ now ds s₀ 0
+passing_starts s₀ now ds a = record { appliable = a; applying = applying_starts s₀ now (buckets_at ds) a }
+
+module _ {s₀ : List ℕ} {now : ℕ} {ds s : List ℕ} {p : ℕ} (w : Passing s₀ now ds s p) where
   abbrev is : List ℕ
-  is = buckets_at (take taken ds)
+  is = buckets_at ds
 
-  pub pass_appliable : Bytes s₀ → Holds s₀ → Timely s₀ now → buckets_formed s₀ is ≡ true → length (table_at now ds taken (table_of s₀)).queue ≤ max_records
-      → Appliable s₀ now is
-  unfolding table_at
-  pass_appliable h f c b q =
-      record { bytes = h; size = f.size; header = f.header; timely = c; below = distances_below (take taken ds); formed = b; room = q }
+  pub passing_ends : p ≡ length ds → s ≡ applied_in s₀ now is
+  unfolding joined
+  passing_ends e =
+      applying_ends s₀ now is w.appliable s (buckets_at (drop p ds)) w.applying (ap buckets_at (ap (λ (k : ℕ). drop k ds) e ∙ drop-length ds))
 
-  -- the storage while the distances are visited
-  pub record Passing (s : List ℕ) (p : ℕ) : Type 0 where
-    pub within : p ≤ taken
-    pub applying : Applying s₀ now is s (buckets_at (drop p (take taken ds)))
+  pub passing_holds : Holds s
+  passing_holds = holds_here s₀ now is w.appliable s [] (buckets_at (drop p ds)) w.applying
 
-  module _ (a : Appliable s₀ now is) where
-    pub passing_starts : Passing s₀ 0
-    passing_starts = record { within = omega arith; applying = applying_starts s₀ now is a }
+  pub passing_timely : Timely s now
+  passing_timely = applying_timely s₀ now is w.appliable s (buckets_at (drop p ds)) w.applying
 
-    -- no record was counted
-    pub passing_nothing : {records : ℕ} → records ≡ length (apply_all now is (table_of s₀)).1 → records ≡ 0 → s₀ ≡ applied_in s₀ now is
-    passing_nothing e f = applying_nothing s₀ now is a (sym e ∙ f)
+  module _ (h : p < length ds) where
+    abbrev later : List ℕ
+    later = buckets_at (drop (p + 1) ds)
 
-    module _ (s : List ℕ) (p : ℕ) (w : Passing s p) where
-      pub passing_ends : taken ≤ length ds → taken ≤ p → s ≡ applied_in s₀ now is
-      unfolding joined
-      passing_ends l h =
-          let k : length (take taken ds) ≡ taken = length-take-le taken ds l in
-          let e : p ≡ length (take taken ds) = omega (arith, w.within) in
-          applying_ends s₀ now is a s (buckets_at (drop p (take taken ds))) w.applying (ap buckets_at (ap (λ (k : ℕ). drop k (take taken ds)) e ∙ drop-length (take taken ds)))
+    here : Applying s₀ now is s (indices (index_at (get_or ds p 0)) ++ later)
+    here = subst (Applying s₀ now is s) (here_is ds p h) w.applying
 
-      pub passing_holds : Holds s
-      passing_holds = holds_here s₀ now is a s [] (buckets_at (drop p (take taken ds))) w.applying
+    pub passing_formed : buckets_formed s (indices (index_at (get_or ds p 0))) ≡ true
+    passing_formed = next_formed s₀ now is w.appliable s later (index_at (get_or ds p 0)) here
 
-      pub passing_timely : Timely s now
-      passing_timely = applying_timely s₀ now is a s (buckets_at (drop p (take taken ds))) w.applying
+    pub passing_room : length (next_table now (table_of s) (index_at (get_or ds p 0))).queue ≤ max_records
+    passing_room = next_room s₀ now is w.appliable s later (index_at (get_or ds p 0)) here
 
-      module _ (l : taken ≤ length ds) (h : p < taken) where
-        abbrev later : List ℕ
-        later = buckets_at (drop (p + 1) (take taken ds))
-
-        here : Applying s₀ now is s (indices (index_at (get_or ds p 0)) ++ later)
-        here = subst (Applying s₀ now is s) (here_is ds taken p l h) w.applying
-
-        pub passing_formed : buckets_formed s (indices (index_at (get_or ds p 0))) ≡ true
-        passing_formed = next_formed s₀ now is a s later (index_at (get_or ds p 0)) here
-
-        pub passing_room : length (next_table now (table_of s) (index_at (get_or ds p 0))).queue ≤ max_records
-        passing_room = next_room s₀ now is a s later (index_at (get_or ds p 0)) here
-
-        pub passing_next : (s' : List ℕ) → s' ≡ applied_in s now (indices (index_at (get_or ds p 0))) → Passing s' (p + 1)
-        passing_next s' e = record { within = omega arith; applying = next_applying s₀ now is a s later (index_at (get_or ds p 0)) here s' e }
+    pub passing_next : {s' : List ℕ} → s' ≡ applied_in s now (indices (index_at (get_or ds p 0))) → Passing s₀ now ds s' (p + 1)
+    passing_next {s'} e = record { appliable = w.appliable; applying = next_applying s₀ now is w.appliable s later (index_at (get_or ds p 0)) here s' e }

@@ -7,7 +7,7 @@ use native.Mathlib.Nat.{zero-add, add-mul, mul-le-mul_right}
 use native.Mathlib.Numerals.{add-one}
 use native.Mathlib.Omega.{arith}
 use lib.ListN.{length, get_or, take, length-take, length-append}
-use lib.Seq.{take-suc, take-nil}
+use lib.Seq.{take-suc, take-nil, take-length}
 use Rattle.model.specs.Base.{joined}
 use Rattle.model.specs.Bytes.{splice}
 use Rattle.model.specs.Node.{Node}
@@ -103,9 +103,10 @@ module _ (t : Table) where
       pub count_most : k ≤ n
       count_most = omega (arith, w.count, length_listed (take p ds))
 
-      pub writing_ends : (taken : ℕ) → p ≡ taken → (k ≡ length (listed_nodes t n (take taken ds))) × (out ≡ splice o 0 (joined node_bytes (listed_nodes t n (take taken ds))))
-      writing_ends taken e =
-          (w.count ∙ ap (λ (m : ℕ). length (listed_nodes t n (take m ds))) e, w.there ∙ ap (λ (m : ℕ). splice o 0 (joined node_bytes (listed_nodes t n (take m ds)))) e)
+      pub writing_ends : p ≡ length ds → (k ≡ length (listed_nodes t n ds)) × (out ≡ splice o 0 (joined node_bytes (listed_nodes t n ds)))
+      writing_ends e =
+          let f : take p ds ≡ ds = ap (λ (m : ℕ). take m ds) e ∙ take-length ds in
+          (w.count ∙ ap (λ (l : List ℕ). length (listed_nodes t n l)) f, w.there ∙ ap (λ (l : List ℕ). splice o 0 (joined node_bytes (listed_nodes t n l))) f)
 
       pub writing_next : {k' : ℕ} {out' : List ℕ} → p < length ds → n * node_size ≤ length o → length out' ≡ length out
           → k' ≡ k + length (listed_nodes t (n - k) (get_or ds p 0 ∷ [])) → out' ≡ splice out (k * node_size) (joined node_bytes (listed_nodes t (n - k) (get_or ds p 0 ∷ [])))

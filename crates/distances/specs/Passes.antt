@@ -1,5 +1,6 @@
 -- The passes of nodes_by_distances (01, "kbucket.rs (871)"), distance by distance.
-use Rattle.std.specs.Prelude.{ℕ, ◌≤◌, ◌≡◌, Bool, cond, not, List, [], length, get_or, take, eqb}
+use Rattle.std.specs.Prelude.{ℕ, ◌≤◌, ◌≡◌, Bool, cond, not, List, [], length, get_or, take, eqb, MatchOption}
+use Rattle.std.specs.Prelude as code
 use Rattle.std.proofs.Math.Option.{Option, none, some}
 use Rattle.model.specs.Base.{joined, all_below}
 use Rattle.model.specs.Node.{Node, EndedPending, placed_of}
@@ -61,9 +62,12 @@ pub record Taken (now n : ℕ) (ds : List ℕ) (t : Table) (taken records : ℕ)
   pub given : records ≡ length (distance_pass now n 0 ds t).1
 
 -- 02, slip 7: question 2 of the buckets of the pass, and where it passes how far the pass goes
-pub record Surveyed (now n : ℕ) (ds s : List ℕ) (r : Tally) : Type 0 where
-  pub formed : r.formed ≡ buckets_formed s (passed now n ds (table_of s))
-  pub passes : r.formed ≡ Bool.true → Taken now n ds (table_of s) r.taken r.records
+pub record Told (now n : ℕ) (ds s : List ℕ) (y : Tally) : Type 0 where
+  pub formed : buckets_formed s (passed now n ds (table_of s)) ≡ Bool.true
+  pub pass : Taken now n ds (table_of s) y.taken y.records
+
+abbrev pub Surveyed : ℕ → ℕ → List ℕ → List ℕ → code.Option Tally → Type 0
+Surveyed now n ds s r = MatchOption r (buckets_formed s (passed now n ds (table_of s)) ≡ Bool.false) (Told now n ds s)
 
 -- storage whose settings and queue pass question 2
 pub record Holds (s : List ℕ) : Type 0 where

@@ -18,10 +18,7 @@ use storage::Layout;
 fn at_least_one(n: usize) -> usize
     ensures { result ≡ at_least_one n }
 {
-    if n == 0 {
-        return 1;
-    }
-    n
+    n.max(1)
 }
 
 // The first failed question of 1, 2 (the settings and the queue), 5 and 6, or 0. room: the bytes of output.
@@ -58,17 +55,14 @@ pub fn nodes_by_distances(
     if q != 0 {
         return ListAnswer::Refused(q);
     }
-    let y = crate::pass::survey(s, distances, n, time);
-    if !y.formed {
+    let Some(tally) = pass::survey(s, distances, n, time) else {
         return ListAnswer::Refused(2);
-    }
-    let records = y.records;
-    if Layout::MAX_RECORDS - header::record_count(s) < records {
+    };
+    if Layout::MAX_RECORDS - header::record_count(s) < tally.records {
         return ListAnswer::Refused(8);
     }
-    let taken = y.taken;
-    crate::pass::apply_pass(s, distances, taken, time, records);
+    pass::apply_pass(s, distances, tally.taken, time, tally.records);
     let most = at_least_one(n);
-    let count = crate::pass::put_all(s, distances, taken, out, most);
+    let count = pass::put_all(s, distances, tally.taken, out, most);
     ListAnswer::Found(count)
 }

@@ -10,38 +10,33 @@ ghost use Rattle.model.specs.Question.{max_count};
 ghost use Rattle.model.specs.Sizes.{node_size};
 ghost use Rattle.model.specs.Layout.{node_bytes, table_of};
 ghost use Rattle.model.specs.Formed.{buckets_formed};
-ghost use Rattle.key.specs.Answers.{bucket_index_of};
+ghost use Rattle.key.specs.Answers.{option_of};
 ghost use Rattle.on_key.specs.Answers.{Ready, Timely};
 ghost use Rattle.visit.specs.Passes.{applied_in};
 ghost use Rattle.distances.specs.Passes.{stands_before, Yields, next_table, table_at, Surveyed, Holds, listed_nodes};
 
 use items::Shape;
-use key::BucketIndex;
 use visit::Given;
 
 // The largest log2 distance, that of the last bucket.
 const MAX_DISTANCE: u64 = 256;
 
-// What the survey tells: every bucket of the applying pass passes question 2, and if so how many records they give and how many distances the
+// What the survey tells where every bucket of the applying pass passes question 2: how many records they give and how many distances the
 // pass takes.
 #[derive(Clone, Copy)]
 pub struct Tally {
-    pub formed: bool,
     pub records: usize,
     pub taken: usize,
 }
 
-// The index of the bucket at a distance from 1 to 256; nothing at any other.
-fn index_at(d: u64) -> BucketIndex
-    ensures { bucket_index_of result ≡ index_at d }
+// The index of the bucket at a distance from 1 to 256; none at any other.
+fn index_at(d: u64) -> Option<usize>
+    ensures { option_of result ≡ index_at d }
 {
-    if d == 0 {
-        return BucketIndex::Nothing;
+    match d {
+        1..=MAX_DISTANCE => Some((d - 1) as usize),
+        _ => None,
     }
-    if MAX_DISTANCE < d {
-        return BucketIndex::Nothing;
-    }
-    BucketIndex::At((d - 1) as usize)
 }
 
 // The distance d stands before place p of the list.
@@ -49,14 +44,7 @@ fn stands_before(distances: &[u64], p: usize, d: u64) -> bool
     requires { p ≤ length distances.now }
     ensures { result ≡ stands_before distances.now p d }
 {
-    let mut j: usize = 0;
-    while j < p {
-        if distances[j] == d {
-            return true;
-        }
-        j += 1;
-    }
-    false
+    distances[..p].contains(&d)
 }
 
 // What bucket i gives; the nodes that it holds are counted only where it gives the record of a placed pending.
@@ -68,9 +56,8 @@ fn given_in(s: &[u8], i: usize, time: u64) -> Given
     let g = visit::given_at(s, i, time);
     if g.placed == 0 {
         return Given {
-            count: 0,
             records: g.records,
-            placed: 0,
+            ..Given::default()
         };
     }
     g
@@ -85,28 +72,17 @@ fn given_at(s: &[u8], distances: &[u64], p: usize, time: u64) -> Given
     ensures { Yields time (table_at time distances.now p (table_of s.now)) (index_at (get_or distances.now p 0)) result }
 {
     let d = distances[p];
-    let index = index_at(d);
-    match index {
-        BucketIndex::Nothing => Given {
-            count: 0,
-            records: 0,
-            placed: 0,
-        },
-        BucketIndex::At(i) => {
-            let g = given_in(s, i, time);
-            if g.records == 0 {
-                return g;
-            }
-            if stands_before(distances, p, d) {
-                return Given {
-                    count: 0,
-                    records: 0,
-                    placed: 0,
-                };
-            }
-            g
-        }
+    let Some(i) = index_at(d) else {
+        return Given::default();
+    };
+    let g = given_in(s, i, time);
+    if g.records == 0 {
+        return g;
     }
+    if stands_before(distances, p, d) {
+        return Given::default();
+    }
+    g
 }
 
 // Question 2 of the bucket at distance d; it passes where there is none.
@@ -114,49 +90,40 @@ fn is_formed(s: &[u8], d: u64) -> bool
     requires { Holds s.now }
     ensures { result ≡ buckets_formed s.now (indices (index_at d)) }
 {
-    let index = index_at(d);
-    match index {
-        BucketIndex::Nothing => true,
-        BucketIndex::At(i) => well_formed::bucket_formed_at(s, i),
+    match index_at(d) {
+        Some(i) => well_formed::bucket_formed_at(s, i),
+        None => true,
     }
 }
 
 // Internal: question 2 of each bucket that the applying pass comes to, the records that they would give, and how far the pass goes. Nothing
 // of a bucket is read before it is asked, and nothing is written.
-pub fn survey(s: &[u8], distances: &[u64], n: usize, time: u64) -> Tally
+pub fn survey(s: &[u8], distances: &[u64], n: usize, time: u64) -> Option<Tally>
     requires holds { Holds s.now }
     requires timely { Timely s.now time }
     requires n_le_max_count { n ≤ max_count }
     ensures { Surveyed time n distances.now s.now result }
 {
-    let mut records: usize = 0;
-    let mut seen: usize = 0;
-    let mut p: usize = 0;
-    while p < distances.len() {
+    let mut records = 0;
+    let mut seen = 0;
+    for p in 0..distances.len() {
         if !is_formed(s, distances[p]) {
-            return Tally {
-                formed: false,
-                records: 0,
-                taken: 0,
-            };
+            return None;
         }
         let g = given_at(s, distances, p, time);
         records += g.records;
         seen += g.count;
-        p += 1;
         if (g.placed != 0) & (n <= seen) {
-            return Tally {
-                formed: true,
+            return Some(Tally {
                 records,
-                taken: p,
-            };
+                taken: p + 1,
+            });
         }
     }
-    Tally {
-        formed: true,
+    Some(Tally {
         records,
-        taken: p,
-    }
+        taken: distances.len(),
+    })
 }
 
 // Applies the due pending of the bucket at distance d in the storage.
@@ -167,12 +134,8 @@ fn apply_one(s: &mut [u8], d: u64, time: u64)
     requires d_len_bound { length (next_table time (table_of s.old) (index_at d)).queue ≤ max_records }
     ensures { s.new ≡ applied_in s.old time (indices (index_at d)) }
 {
-    let index = index_at(d);
-    match index {
-        BucketIndex::Nothing => {}
-        BucketIndex::At(i) => {
-            visit::apply_in(s, i, time);
-        }
+    if let Some(i) = index_at(d) {
+        visit::apply_in(s, i, time);
     }
 }
 
@@ -190,10 +153,8 @@ pub fn apply_pass(s: &mut [u8], distances: &[u64], taken: usize, time: u64, reco
     if records == 0 {
         return;
     }
-    let mut p: usize = 0;
-    while p < taken {
-        apply_one(s, distances[p], time);
-        p += 1;
+    for d in &distances[..taken] {
+        apply_one(s, *d, time);
     }
 }
 
@@ -207,10 +168,9 @@ fn put_one(s: &[u8], d: u64, out: &mut [u8], k: usize, n: usize) -> usize
     ensures value { result ≡ k + length (listed_nodes (table_of s.now) (n - k) (d ∷ [])) }
     ensures out_after { out.new ≡ splice out.old (k * node_size) (joined node_bytes (listed_nodes (table_of s.now) (n - k) (d ∷ []))) }
 {
-    let index = index_at(d);
-    match index {
-        BucketIndex::Nothing => k,
-        BucketIndex::At(i) => items::put_bucket(s, i, Shape::Nodes, out, k, n),
+    match index_at(d) {
+        Some(i) => items::put_bucket(s, i, Shape::Nodes, out, k, n),
+        None => k,
     }
 }
 
@@ -224,11 +184,9 @@ pub fn put_all(s: &[u8], distances: &[u64], taken: usize, out: &mut [u8], n: usi
     ensures value { result ≡ length (listed_nodes (table_of s.now) n (take taken distances.now)) }
     ensures out_after { out.new ≡ splice out.old 0 (joined node_bytes (listed_nodes (table_of s.now) n (take taken distances.now))) }
 {
-    let mut k: usize = 0;
-    let mut p: usize = 0;
-    while p < taken {
-        k = put_one(s, distances[p], out, k, n);
-        p += 1;
+    let mut k = 0;
+    for d in &distances[..taken] {
+        k = put_one(s, *d, out, k, n);
     }
     k
 }

@@ -44,24 +44,13 @@ pub fn kind_of(b: KBucket, key: Key) -> EntryKind
     ensures result_value { kind.kind_of result ≡ kind_of (num key) (bucket_of b) }
     ensures result_value_2 { kind.kind_codes result ≡ true }
 {
-    let nodes = b.nodes;
-    let count = b.count;
-    let pos = places::position(nodes, 0, count, key);
-    if pos < count {
-        let held = nodes[pos];
-        let status = held.status;
-        return EntryKind::Present(status);
+    let pos = places::position(b.nodes, 0, b.count, key);
+    if pos < b.count {
+        return EntryKind::Present(b.nodes[pos].status);
     }
-    let p = b.pending;
-    match p {
-        Pending::Nothing => EntryKind::Absent,
-        Pending::Waiting(node, _) => {
-            if node.key.eq(key) {
-                let status = node.status;
-                return EntryKind::Pending(status);
-            }
-            EntryKind::Absent
-        }
+    match b.pending {
+        Pending::Waiting(node, _) if node.key.eq(key) => EntryKind::Pending(node.status),
+        _ => EntryKind::Absent,
     }
 }
 
@@ -115,36 +104,21 @@ pub fn entry(s: &mut [u8], key: &[u8], time: u64) -> EntryAnswer
 pub fn is_present(found: EntryKind) -> bool
     ensures { result ≡ is_present (kind.kind_of found) }
 {
-    match found {
-        EntryKind::Present(_) => true,
-        EntryKind::Pending(_) => false,
-        EntryKind::Absent => false,
-        EntryKind::SelfEntry => false,
-    }
+    matches!(found, EntryKind::Present(_))
 }
 
 // Internal: the kind is Pending.
 pub fn is_pending(found: EntryKind) -> bool
     ensures { result ≡ is_pending (kind.kind_of found) }
 {
-    match found {
-        EntryKind::Present(_) => false,
-        EntryKind::Pending(_) => true,
-        EntryKind::Absent => false,
-        EntryKind::SelfEntry => false,
-    }
+    matches!(found, EntryKind::Pending(_))
 }
 
 // Internal: the kind is Absent.
 pub fn is_absent(found: EntryKind) -> bool
     ensures { result ≡ is_absent (kind.kind_of found) }
 {
-    match found {
-        EntryKind::Present(_) => false,
-        EntryKind::Pending(_) => false,
-        EntryKind::Absent => true,
-        EntryKind::SelfEntry => false,
-    }
+    matches!(found, EntryKind::Absent)
 }
 
 // Present: sets the status of the node; direction 2 is none given.

@@ -4,7 +4,9 @@ use mathlib.Core.List.{List, [], ◌++◌}
 use Prim.Native.Nat.{ℕ, ◌+◌, ◌*◌, ◌≤◌, ◌<◌}
 use native.Mathlib.Numerals.{add-one}
 use native.Mathlib.Omega.{arith}
-use lib.ListN.{length, get_or, set, take, length-append}
+use borrow.Rule.Slice.PartMut.{put_mid}
+use Rattle.std.proofs.lemmas.List.{drop-drop}
+use lib.ListN.{length, get_or, take, length-append}
 use lib.Seq.{take-suc, take_all, length-take-le}
 use Rattle.model.specs.Base.{joined}
 use Rattle.model.specs.Bytes.{bytes, splice}
@@ -14,7 +16,6 @@ use Rattle.laws.proofs.All.{all_any}
 use Rattle.laws.proofs.Lists.{joined_snoc, length_joined}
 use Rattle.laws.proofs.Parts.{splice_nil, splice_append, splice_next}
 use Rattle.laws.proofs.Bytes.{length_bytes}
-use Rattle.words.proofs.Words.{set_more}
 use Rattle.explanation.specs.Put.{Put, key_text_size}
 
 -- pieces
@@ -29,11 +30,6 @@ put_then {a} {b} {o} {t} {u} {at} p q h =
       output = q.output ∙ rw (p.output, p.next) (splice_append o at a b h);
       next = q.next ∙ rw (p.next, length-append) (omega arith);
     }
-
--- one byte more of a word
-pub word_next : {t : List ℕ} (o : List ℕ) (at : ℕ) (w : List ℕ) (i : ℕ) → t ≡ splice o at (take i w) → i < length w → at + i < length o
-    → set t (at + i) (get_or w i 0) ≡ splice o at (take (i + 1) w)
-word_next o at w i e h l = rw (add-one, take-suc w i 0) (set_more o at i (take i w) (get_or w i 0) e (length-take-le i w (omega arith)) l)
 
 -- keys
 

@@ -70,6 +70,7 @@ pub struct Why {
 }
 
 // The nodes that a reason names: those that count against a value, the same but for a key's own, or those connected incoming.
+// An enum and not a closure: the contracts name by it the nodes that pass.
 #[derive(Clone, Copy)]
 enum Test {
     Counts(Value),
@@ -84,46 +85,73 @@ struct Room {
     left: usize,
 }
 
+// What is told of an update.
+impl From<bucket::UpdateResult> for Told {
+    ghost from_gives = { λ x y. told_of y ≡ told_update (update_result_of x) };
+
+    fn from(x: bucket::UpdateResult) -> Told {
+        match x {
+            bucket::UpdateResult::Updated => Told::Updated,
+            bucket::UpdateResult::UpdatedAndPromoted => Told::UpdatedAndPromoted,
+            bucket::UpdateResult::UpdatedPending => Told::UpdatedPending,
+            bucket::UpdateResult::Failed(r) => Told::Failed(r),
+            bucket::UpdateResult::NotModified => Told::NotModified,
+        }
+    }
+}
+
+// What is told of a bucket's insert.
+impl From<bucket::InsertResult> for Told {
+    ghost from_gives = { λ x y. told_of y ≡ told_insert (insert_result_of x) };
+
+    fn from(x: bucket::InsertResult) -> Told {
+        match x {
+            bucket::InsertResult::Inserted => Told::Inserted,
+            bucket::InsertResult::Pending(k) => Told::Pending(k),
+            bucket::InsertResult::FailedFilter => Told::FailedFilter,
+            bucket::InsertResult::TooManyIncoming => Told::TooManyIncoming,
+            bucket::InsertResult::Full => Told::Full,
+            bucket::InsertResult::NodeExists => Told::NodeExists,
+        }
+    }
+}
+
+// What is told of insert_or_update.
+impl From<bucket_update::InsertResult> for Told {
+    ghost from_gives = { λ x y. told_of y ≡ told_insert_or_update (table_insert_result_of x) };
+
+    fn from(x: bucket_update::InsertResult) -> Told {
+        match x {
+            bucket_update::InsertResult::Inserted => Told::Inserted,
+            bucket_update::InsertResult::Pending(k) => Told::Pending(k),
+            bucket_update::InsertResult::StatusUpdated(p) => Told::StatusUpdated(p),
+            bucket_update::InsertResult::ValueUpdated => Told::ValueUpdated,
+            bucket_update::InsertResult::Updated(p) => Told::UpdatedBoth(p),
+            bucket_update::InsertResult::UpdatedPending => Told::UpdatedPending,
+            bucket_update::InsertResult::Failed(r) => Told::Failed(r),
+        }
+    }
+}
+
 // Internal: what is told of an update.
 pub fn told_update(x: bucket::UpdateResult) -> Told
     ensures { told_of result ≡ told_update (update_result_of x) }
 {
-    match x {
-        bucket::UpdateResult::Updated => Told::Updated,
-        bucket::UpdateResult::UpdatedAndPromoted => Told::UpdatedAndPromoted,
-        bucket::UpdateResult::UpdatedPending => Told::UpdatedPending,
-        bucket::UpdateResult::Failed(r) => Told::Failed(r),
-        bucket::UpdateResult::NotModified => Told::NotModified,
-    }
+    Told::from(x)
 }
 
 // Internal: what is told of a bucket's insert.
 pub fn told_insert(x: bucket::InsertResult) -> Told
     ensures { told_of result ≡ told_insert (insert_result_of x) }
 {
-    match x {
-        bucket::InsertResult::Inserted => Told::Inserted,
-        bucket::InsertResult::Pending(k) => Told::Pending(k),
-        bucket::InsertResult::FailedFilter => Told::FailedFilter,
-        bucket::InsertResult::TooManyIncoming => Told::TooManyIncoming,
-        bucket::InsertResult::Full => Told::Full,
-        bucket::InsertResult::NodeExists => Told::NodeExists,
-    }
+    Told::from(x)
 }
 
 // Internal: what is told of insert_or_update.
 pub fn told_insert_or_update(x: bucket_update::InsertResult) -> Told
     ensures { told_of result ≡ told_insert_or_update (table_insert_result_of x) }
 {
-    match x {
-        bucket_update::InsertResult::Inserted => Told::Inserted,
-        bucket_update::InsertResult::Pending(k) => Told::Pending(k),
-        bucket_update::InsertResult::StatusUpdated(p) => Told::StatusUpdated(p),
-        bucket_update::InsertResult::ValueUpdated => Told::ValueUpdated,
-        bucket_update::InsertResult::Updated(p) => Told::UpdatedBoth(p),
-        bucket_update::InsertResult::UpdatedPending => Told::UpdatedPending,
-        bucket_update::InsertResult::Failed(r) => Told::Failed(r),
-    }
+    Told::from(x)
 }
 
 // The bytes of the word, put at `at`. It answers the place behind them, as all that put text do.
@@ -131,12 +159,9 @@ fn put_word(out: &mut [u8], at: usize, word: &[u8]) -> usize
     requires { at + length word.now ≤ length out.old }
     ensures { Put word.now out.old at out.new result }
 {
-    let mut i: usize = 0;
-    while i < word.len() {
-        out[at + i] = word[i];
-        i += 1;
-    }
-    at + i
+    let end = at + word.len();
+    out[at..end].copy_from_slice(word);
+    end
 }
 
 // A small hexadecimal digit.
@@ -165,12 +190,10 @@ fn put_key(out: &mut [u8], at: usize, key: Key) -> usize
     ensures { Put (key_text (num key)) out.old at out.new result }
 {
     let bytes = key.to_bytes();
-    let mut i: usize = 0;
-    while i < Key::BYTES {
-        put_digits(out, at + 2 * i, bytes[i]);
-        i += 1;
+    for (i, b) in bytes.iter().enumerate() {
+        put_digits(out, at + 2 * i, *b);
     }
-    at + 2 * i
+    at + 2 * Key::BYTES
 }
 
 // The failure's name, put at `at`.
@@ -276,11 +299,8 @@ fn put_held(out: &mut [u8], room: Room, nodes: [Node; 16], count: usize, test: T
     ensures { PutKeys (keys_of (select (passes test) (map node_of (take count nodes)))) out.old room out.new result }
 {
     let mut next = room;
-    let mut j: usize = 0;
-    while j < count {
-        let node = nodes[j];
-        next = put_node(out, next, test, node);
-        j += 1;
+    for node in &nodes[..count] {
+        next = put_node(out, next, test, *node);
     }
     next
 }
@@ -294,13 +314,11 @@ fn put_stored(s: &[u8], at: usize, out: &mut [u8], room: Room, test: Test) -> Ro
     if room.left == 0 {
         return room;
     }
-    let count = s[at] as usize;
+    let count = usize::from(s[at]);
     let mut next = room;
-    let mut j: usize = 0;
-    while j < count {
+    for j in 0..count {
         let stored = storage::load_node(s, at + (Layout::PLACES_AT + j * Layout::NODE));
         next = put_node(out, next, test, stored);
-        j += 1;
     }
     next
 }
@@ -312,10 +330,8 @@ fn put_table(s: &[u8], out: &mut [u8], room: Room, test: Test) -> Room
     ensures { PutKeys (keys_of (select (passes test) (held_nodes num_buckets (table_of s.now).buckets))) out.old room out.new result }
 {
     let mut next = room;
-    let mut i: usize = 0;
-    while i < model::NUM_BUCKETS {
+    for i in 0..model::NUM_BUCKETS {
         next = put_stored(s, Layout::HEADER + i * Layout::BUCKET, out, next, test);
-        i += 1;
     }
     next
 }

@@ -41,7 +41,7 @@ pub fn record_count(s: &[u8]) -> usize
     requires { length s.now ≡ storage_size }
     ensures { result ≡ length (table_of s.now).queue }
 {
-    s[Layout::RECORD_COUNT_AT] as usize
+    usize::from(s[Layout::RECORD_COUNT_AT])
 }
 
 // The bytes of a record of this kind without an evicted node, put at `at`.
@@ -76,8 +76,7 @@ pub fn store_record(s: &mut [u8], at: usize, ended: EndedPending)
         EndedPending::Placed(key) => store_plain(s, at, key, 0),
         EndedPending::Replaced(key, node) => store_replaced(s, at, key, node),
         EndedPending::Dropped(key, ending) => {
-            let kind = bucket::ending_code(ending);
-            store_plain(s, at, key, kind);
+            store_plain(s, at, key, bucket::ending_code(ending))
         }
     }
 }
@@ -103,19 +102,13 @@ fn ending_of(kind: u8) -> Ending
     requires { (2 ≤ kind) × (kind ≤ last_kind) }
     ensures { code.ending_of result ≡ ending_of kind }
 {
-    if kind == 2 {
-        return Ending::FirstConnected;
+    match kind {
+        2 => Ending::FirstConnected,
+        3 => Ending::BucketFilter,
+        4 => Ending::TooManyIncoming,
+        5 => Ending::Inserted,
+        _ => Ending::FirstConfirmed,
     }
-    if kind == 3 {
-        return Ending::BucketFilter;
-    }
-    if kind == 4 {
-        return Ending::TooManyIncoming;
-    }
-    if kind == 5 {
-        return Ending::Inserted;
-    }
-    Ending::FirstConfirmed
 }
 
 // The record whose bytes stand at `at`.
@@ -128,14 +121,12 @@ fn load_record(s: &[u8], at: usize) -> EndedPending
     let key = Key::load(s, at);
     let kind = s[at + Layout::KEY];
     if kind == Layout::EVICTING_KIND {
-        let node = storage::load_node(s, at + (Layout::KEY + 1));
-        return EndedPending::Replaced(key, node);
+        return EndedPending::Replaced(key, storage::load_node(s, at + (Layout::KEY + 1)));
     }
     if kind == 0 {
         return EndedPending::Placed(key);
     }
-    let ending = ending_of(kind);
-    EndedPending::Dropped(key, ending)
+    EndedPending::Dropped(key, ending_of(kind))
 }
 
 // The queue without its oldest record: the others move down, and the place that they leave is zero.

@@ -1,6 +1,6 @@
 -- The places of a bucket's bytes, counted one after the other: the place of a key, and how many pass a test with one place left out.
 use mathlib.Core.Path.{◌≡◌, refl, sym, ap, ◌∙◌}
-use mathlib.Core.Bool.{Bool, true, false, cond, not, ◌&&◌, and-true, and-false}
+use mathlib.Core.Bool.{Bool, true, false, not, ◌&&◌, and-true, and-false}
 use mathlib.Core.List.{List, [], ◌∷◌, ◌++◌, append-nil, append_assoc}
 use mathlib.Core.Logic.{⊎_elim}
 use Prim.Native.Nat.{ℕ, zero, suc, ◌+◌, ◌*◌, ◌≤◌, ◌<◌}
@@ -8,6 +8,7 @@ use native.Mathlib.Nat.{not-suc-le-zero, le_of_suc-le-suc}
 use native.Mathlib.Omega.{arith}
 use lib.Dec.{eqb}
 use lib.ListN.{length, get_or, length-append, drop_of_length-le}
+use mir.Val.{bool_byte}
 use lib.Seq.{take_all, take-append-le, drop-append-le}
 use borrow.Author.Tests.{not-true, eqb-true, eqb-false}
 use Rattle.model.specs.Base.{same, select, tabulate}
@@ -76,16 +77,16 @@ remove_at_last (y ∷ xs) x = ap (λ l. y ∷ l) (remove_at_last xs x)
 remove_at_before : {A : Type 0} (pos : ℕ) (xs : List A) (x : A) → pos < length xs → remove_at pos (xs ++ (x ∷ [])) ≡ remove_at pos xs ++ (x ∷ [])
 remove_at_before pos xs x h = rw (take-append-le pos xs (x ∷ []) (omega arith), drop-append-le (suc pos) xs (x ∷ []) h, append_assoc)
 
-count_one : {A : Type 0} (p : A → Bool) (xs : List A) (x : A) → length (select p (xs ++ (x ∷ []))) ≡ length (select p xs) + cond (p x) 1 0
+count_one : {A : Type 0} (p : A → Bool) (xs : List A) (x : A) → length (select p (xs ++ (x ∷ []))) ≡ length (select p xs) + bool_byte (p x)
 count_one p xs x = length_select_insert p x xs [] ∙ ap (λ l. more (p x) (length (select p l))) (append-nil xs) ∙ by (p x)
   where
-    by : (t : Bool) → more t (length (select p xs)) ≡ length (select p xs) + cond t 1 0
+    by : (t : Bool) → more t (length (select p xs)) ≡ length (select p xs) + bool_byte t
     by true = omega arith
     by false = omega arith
 
 -- one place more
 count_more : {A : Type 0} (p : A → Bool) (f : ℕ → A) (skip j : ℕ)
-    → length (select p (remove_at skip (tabulate (j + 1) f))) ≡ length (select p (remove_at skip (tabulate j f))) + cond (p (f j) && not (eqb j skip)) 1 0
+    → length (select p (remove_at skip (tabulate (j + 1) f))) ≡ length (select p (remove_at skip (tabulate j f))) + bool_byte (p (f j) && not (eqb j skip))
 count_more {A} p f skip j =
     ap (λ (l : List A). length (select p (remove_at skip l))) (tabulate_one_more j f)
     ∙ split (eqb j skip)
@@ -93,10 +94,10 @@ count_more {A} p f skip j =
     let q : j ≡ skip = eqb-true j skip e in
     let n : length xs ≡ skip = long ∙ q in
     let a : remove_at skip (xs ++ (f j ∷ [])) ≡ xs = ap (λ (i : ℕ). remove_at i (xs ++ (f j ∷ []))) (sym n) ∙ remove_at_last xs (f j) in
-    let z : ◌≡◌ {A = ℕ} (cond (p (f j) && not (eqb j skip)) 1 0) 0 = rw (e, and-false) in
+    let z : ◌≡◌ {A = ℕ} (bool_byte (p (f j) && not (eqb j skip))) 0 = rw (e, and-false) in
     ap (λ (l : List A). length (select p l)) (a ∙ sym (remove_at_past skip xs (omega arith))) ∙ omega (arith, z))
     (λ e.
-    let z : ◌≡◌ {A = ℕ} (cond (p (f j) && not (eqb j skip)) 1 0) (cond (p (f j)) 1 0) = rw (e, and-true) in
+    let z : ◌≡◌ {A = ℕ} (bool_byte (p (f j) && not (eqb j skip))) (bool_byte (p (f j))) = rw (e, and-true) in
     let o : remove_at skip (xs ++ (f j ∷ [])) ≡ remove_at skip xs ++ (f j ∷ []) =
     ⊎_elim (λ h. remove_at_before skip xs (f j) (rw long h))
     (λ h.
@@ -121,7 +122,7 @@ count_none p s at zero = refl
 count_none p s at (suc skip) = refl
 
 pub others_more : (p : Node → Bool) (s : List ℕ) (at skip j : ℕ)
-    → length (select p (others s at (j + 1) skip)) ≡ length (select p (others s at j skip)) + cond (p (node_at (part s at bucket_size) j) && not (eqb j skip)) 1 0
+    → length (select p (others s at (j + 1) skip)) ≡ length (select p (others s at j skip)) + bool_byte (p (node_at (part s at bucket_size) j) && not (eqb j skip))
 unfolding others nodes_here
 others_more p s at skip j = count_more p (node_at (part s at bucket_size)) skip j
 

@@ -16,7 +16,7 @@ use Rattle.well_formed.specs.Tests.{node_at}
 abbrev pub bucket_here : List ℕ → ℕ → Bucket
 bucket_here s at = bucket_in (part s at bucket_size)
 
--- what question 2 says of a bucket's bytes (law: `Quiet-if` of proofs/Quiet), and there is no pending
+-- what question 2 says of a bucket's bytes (law: `quiet_if` of proofs/Quiet), and there is no pending
 pub record Quiet (bs : List ℕ) : Type 0 where
   pub exact : bs ≡ bucket_bytes (bucket_in bs)
   pub few : num_entries (bucket_in bs) ≤ max_nodes_per_bucket

@@ -2,33 +2,26 @@
 // left are the bytes of the bucket that the model's step leaves. `count` is the bucket's count, read by the caller.
 #![tactic(auto)]
 
-ghost use Rattle.std.specs.Prelude.{◌≡◌, Bool, true, cond, ◌&&◌, [], ◌∷◌, ◌++◌, ℕ, ◌+◌, ◌-◌, ◌^◌, ◌≤◌, ◌<◌, eqb, leb, length, get_or};
-ghost use Rattle.std.proofs.Math.Option.{some};
+ghost use Rattle.std.specs.Prelude.{◌≡◌, Bool, true, cond, ◌&&◌, List, [], ◌∷◌, ◌++◌, ℕ, ◌+◌, ◌-◌, ◌^◌, ◌≤◌, ◌<◌, eqb, leb, length, get_or};
+ghost use Rattle.model.specs.Base.{select};
 ghost use Rattle.model.specs.Bytes.{number, part, splice, zeros};
 ghost use Rattle.model.specs.Node.{connected_incoming};
 ghost use Rattle.model.specs.Call.{is_one, optional};
 ghost use Rattle.model.specs.Filter.{counted, ip_filter_fails, max_nodes_per_subnet_bucket};
 ghost use Rattle.model.specs.Bucket.{BucketSettings, max_nodes_per_bucket, nodes, incoming_nodes, put, take_out, insert, update_status, update_value, remove};
-ghost use Rattle.model.specs.Sizes.{node_size, time_size, pending_size, bucket_size, timeout_at, max_incoming_at, bucket_filter_at};
-ghost use Rattle.model.specs.Layout.{node_bytes, pending_bytes, bucket_bytes};
+ghost use Rattle.model.specs.Sizes.{node_size, time_size, place_at, bucket_size, timeout_at, max_incoming_at, bucket_filter_at};
+ghost use Rattle.model.specs.Layout.{node_bytes, bucket_bytes};
 ghost use Rattle.model.specs.Formed.{bucket_formed};
 ghost use Rattle.key.specs.Key.{num};
 ghost use Rattle.node.specs.Node.{value_of, node_of, value_codes, node_codes};
+ghost use Rattle.well_formed.specs.Tests.{node_at};
 ghost use Rattle.bucket.specs.Calls.{insert_result_of, update_result_of};
 ghost use Rattle.held.specs.Held.{bucket_here, Quiet, nodes_here, others, place, Goes, Does, settings_here, restated, inserted_full};
 
-use bucket::{FailureReason, InsertResult, UpdateResult};
+use bucket::{FailureReason, InsertResult, Pending, UpdateResult};
 use key::Key;
 use node::{Node, Value};
 use storage::Layout;
-
-// A byte as a size.
-fn byte_at(s: &[u8], i: usize) -> usize
-    requires { i < length s.now }
-    ensures { (result ≡ get_or s.now i 0) × (result < 256) }
-{
-    s[i] as usize
-}
 
 // Internal: the bucket at `at` has no pending. Where its bytes pass question 2 too, the calls of this crate may be made on it.
 pub fn is_quiet(s: &[u8], at: usize) -> bool
@@ -44,17 +37,16 @@ pub fn position(s: &[u8], at: usize, count: usize, key: Key) -> usize
     requires { (at + bucket_size ≤ length s.now) × (count ≤ max_nodes_per_bucket) }
     ensures { result ≡ place (num key) (nodes_here s.now at count) }
 {
-    let mut j: usize = 0;
-    while j < count {
+    for j in 0..count {
         if well_formed::has_key(s, at + (Layout::PLACES_AT + j * Layout::NODE), key) {
             return j;
         }
-        j += 1;
     }
     count
 }
 
-// The n bytes behind the node at `at` go down over it, and zero bytes stand behind them.
+// The n bytes behind the node at `at` go down over it, and zero bytes stand behind them. This and the two that follow make two calls each:
+// one function for them would take the shift and the write as closures, and be longer than they are.
 fn close_place(s: &mut [u8], at: usize, n: usize)
     requires { at + node_size + n ≤ length s.old }
     ensures { s.new ≡ splice s.old at (part s.old (at + node_size) n ++ zeros node_size) }
@@ -97,13 +89,13 @@ pub fn take_out(s: &mut [u8], at: usize, count: usize, pos: usize)
     ensures { (k : ℕ) → place k (nodes (bucket_here s.old at)) ≡ pos
         → s.new ≡ splice s.old at (bucket_bytes (take_out k (bucket_here s.old at))) }
 {
-    let first = byte_at(s, at + 1);
+    let first = usize::from(s[at + 1]);
     close_place(
         s,
         at + (Layout::PLACES_AT + pos * Layout::NODE),
         (count - 1 - pos) * Layout::NODE,
     );
-    put_counts(s, at, count - 1, first - (pos < first) as usize);
+    put_counts(s, at, count - 1, first - usize::from(pos < first));
 }
 
 // Internal: the node is placed where there is room: connected at the end, disconnected just before the first connected.
@@ -112,7 +104,7 @@ pub fn place(s: &mut [u8], at: usize, count: usize, node: Node)
     requires count_value { (count ≡ get_or s.old at 0) × Quiet (part s.old at bucket_size) }
     ensures { s.new ≡ splice s.old at (bucket_bytes (put (node_of node) (bucket_here s.old at))) }
 {
-    let first = byte_at(s, at + 1);
+    let first = usize::from(s[at + 1]);
     if node.is_connected() {
         put_before(s, at + (Layout::PLACES_AT + count * Layout::NODE), 0, node);
         put_counts(s, at, count + 1, first);
@@ -132,10 +124,7 @@ fn place_of(connected: bool, count: usize, first: usize) -> usize
     requires { 1 ≤ count }
     ensures { result ≡ cond connected (count - 1) first }
 {
-    if connected {
-        return count - 1;
-    }
-    first
+    if connected { count - 1 } else { first }
 }
 
 // The node at place pos goes, and one of its key is put at place `to` of the others; `first` is the first connected place then.
@@ -161,7 +150,6 @@ fn replace_at(
             (to - pos) * Layout::NODE,
             node,
         );
-        put_counts(s, at, count, first);
     } else {
         put_before(
             s,
@@ -169,8 +157,8 @@ fn replace_at(
             (pos - to) * Layout::NODE,
             node,
         );
-        put_counts(s, at, count, first);
     }
+    put_counts(s, at, count, first);
 }
 
 // Internal: the node at place pos goes, and one of its key is placed.
@@ -180,11 +168,26 @@ pub fn replace(s: &mut [u8], at: usize, count: usize, pos: usize, node: Node)
     requires node_value { (node_codes node ≡ true) × (place (num node.key) (nodes (bucket_here s.old at)) ≡ pos) }
     ensures { s.new ≡ splice s.old at (bucket_bytes (put (node_of node) (take_out (num node.key) (bucket_here s.old at)))) }
 {
-    let first = byte_at(s, at + 1);
-    let rest = first - (pos < first) as usize;
+    let first = usize::from(s[at + 1]);
+    let rest = first - usize::from(pos < first);
     let connected = node.is_connected();
     let to = place_of(connected, count, rest);
-    replace_at(s, at, count, pos, to, rest + (!connected) as usize, node);
+    replace_at(s, at, count, pos, to, rest + usize::from(!connected), node);
+}
+
+// Of the first count places of the bucket at `at` but `skip`, those that pass the test, which takes where a place stands.
+fn count_others<F: Fn(usize) -> bool>(at: usize, count: usize, skip: usize, passes: F) -> usize
+    requires in_bounds { (at + bucket_size < 2 ^ 64) × (count ≤ max_nodes_per_bucket) }
+    requires callable { (j : ℕ) → j < count → F.pre passes (at + place_at j) }
+    ensures { (s : List ℕ) (p : _)
+        → ((j : ℕ) (r : Bool) → j < count → F.post passes (at + place_at j) r → r ≡ p (node_at (part s at bucket_size) j))
+        → result ≡ length (select p (others s at count skip)) }
+{
+    let mut n: usize = 0;
+    for j in 0..count {
+        n += usize::from(passes(at + (Layout::PLACES_AT + j * Layout::NODE)) & (j != skip));
+    }
+    n
 }
 
 // Of the first count places but `skip`, those that are connected and incoming.
@@ -192,14 +195,7 @@ fn incoming(s: &[u8], at: usize, count: usize, skip: usize) -> usize
     requires { (at + bucket_size ≤ length s.now) × (count ≤ max_nodes_per_bucket) }
     ensures { result ≡ length (incoming_nodes (others s.now at count skip)) }
 {
-    let mut n: usize = 0;
-    let mut j: usize = 0;
-    while j < count {
-        let is = well_formed::is_incoming(s, at + (Layout::PLACES_AT + j * Layout::NODE));
-        n += well_formed::one(is & (j != skip));
-        j += 1;
-    }
-    n
+    count_others(at, count, skip, |place| well_formed::is_incoming(s, place))
 }
 
 // Of the first count places but `skip`, those whose values count against this one.
@@ -207,17 +203,9 @@ fn counted(s: &[u8], at: usize, count: usize, skip: usize, value: Value) -> usiz
     requires { (at + bucket_size ≤ length s.now) × (count ≤ max_nodes_per_bucket) }
     ensures { result ≡ length (counted (value_of value) (others s.now at count skip)) }
 {
-    let mut n: usize = 0;
-    let mut j: usize = 0;
-    while j < count {
-        let other = storage::load_value(
-            s,
-            at + (Layout::PLACES_AT + j * Layout::NODE + Layout::VALUE_AT),
-        );
-        n += well_formed::one(node::filter::counts(value, other) & (j != skip));
-        j += 1;
-    }
-    n
+    count_others(at, count, skip, |place| {
+        node::filter::counts(value, storage::load_value(s, place + Layout::VALUE_AT))
+    })
 }
 
 // Internal: the node is connected and incoming, with max_incoming such nodes at other places than `skip`.
@@ -226,10 +214,8 @@ pub fn is_max_incoming(s: &[u8], at: usize, count: usize, skip: usize, node: Nod
     ensures { result ≡ (connected_incoming (node_of node)
         && leb (get_or s.now max_incoming_at 0) (length (incoming_nodes (others s.now at count skip)))) }
 {
-    if node.is_connected_incoming() {
-        return byte_at(s, Layout::MAX_INCOMING_AT) <= incoming(s, at, count, skip);
-    }
-    false
+    node.is_connected_incoming()
+        && usize::from(s[Layout::MAX_INCOMING_AT]) <= incoming(s, at, count, skip)
 }
 
 // Internal: the bucket filter fails for the value, with the values at other places than `skip`.
@@ -238,10 +224,8 @@ pub fn fails_filter(s: &[u8], at: usize, count: usize, skip: usize, value: Value
     ensures { result ≡ (eqb (get_or s.now bucket_filter_at 0) 1
         && ip_filter_fails max_nodes_per_subnet_bucket (value_of value) (others s.now at count skip)) }
 {
-    if s[Layout::BUCKET_FILTER_AT] == 1 {
-        if value.flag == 1 {
-            return node::filter::MAX_NODES_PER_SUBNET_BUCKET <= counted(s, at, count, skip, value);
-        }
+    if s[Layout::BUCKET_FILTER_AT] == 1 && value.flag == 1 {
+        return node::filter::MAX_NODES_PER_SUBNET_BUCKET <= counted(s, at, count, skip, value);
     }
     false
 }
@@ -252,7 +236,7 @@ pub fn remove(s: &mut [u8], at: usize, key: Key) -> bool
     ensures { (c : BucketSettings) (time : ℕ)
         → Does (remove c time (num key) (bucket_here s.old at)) at s.old result s.new }
 {
-    let count = byte_at(s, at);
+    let count = usize::from(s[at]);
     let pos = position(s, at, count, key);
     if pos < count {
         take_out(s, at, count, pos);
@@ -310,7 +294,7 @@ pub fn update_status(s: &mut [u8], at: usize, key: Key, state: u8, direction: u8
     ensures { Does (update_status (settings_here s.old) (num key) (is_one state) (optional direction) (bucket_here s.old at))
         at s.old (update_result_of result) s.new }
 {
-    let count = byte_at(s, at);
+    let count = usize::from(s[at]);
     let pos = position(s, at, count, key);
     if pos < count {
         return update_status_at(s, at, count, pos, state, direction);
@@ -325,7 +309,7 @@ pub fn update_value(s: &mut [u8], at: usize, key: Key, value: Value) -> UpdateRe
     ensures { Does (update_value (settings_here s.old) (num key) (value_of value) (bucket_here s.old at)) at s.old
         (update_result_of result) s.new }
 {
-    let count = byte_at(s, at);
+    let count = usize::from(s[at]);
     let pos = position(s, at, count, key);
     if pos < count {
         return value_at(s, at, count, pos, value);
@@ -360,16 +344,6 @@ pub fn value_at(s: &mut [u8], at: usize, count: usize, pos: usize, value: Value)
     UpdateResult::Updated
 }
 
-// The bytes of a pending, put at `at`.
-fn put_pending(s: &mut [u8], at: usize, node: Node, deadline: u64)
-    requires { (at + pending_size ≤ length s.old) × (node_codes node ≡ true) }
-    ensures { s.new ≡ splice s.old at (pending_bytes (some (record { node = node_of node; deadline = deadline }))) }
-{
-    words::put_byte(s, at, 1);
-    storage::store_node(s, at + 1, node);
-    words::put_u64(s, at + (1 + Layout::NODE), deadline);
-}
-
 // insert of a node of a new key that passed the filter and the maximum, on a full bucket without a pending.
 fn insert_full(s: &mut [u8], at: usize, node: Node, time: u64) -> InsertResult
     requires bucket_size_in_bounds { (at + bucket_size ≤ length s.old) × Quiet (part s.old at bucket_size) }
@@ -377,13 +351,11 @@ fn insert_full(s: &mut [u8], at: usize, node: Node, time: u64) -> InsertResult
     ensures { Does (inserted_full (settings_here s.old) time (node_of node) (bucket_here s.old at)) at s.old
         (insert_result_of result) s.new }
 {
-    if node.is_connected() {
-        if 0 < byte_at(s, at + 1) {
-            let deadline = time + words::get_u64(s, Layout::TIMEOUT_AT);
-            let key = Key::load(s, at + Layout::PLACES_AT);
-            put_pending(s, at + Layout::PENDING_AT, node, deadline);
-            return InsertResult::Pending(key);
-        }
+    if node.is_connected() && 0 < s[at + 1] {
+        let deadline = time + words::get_u64(s, Layout::TIMEOUT_AT);
+        let key = Key::load(s, at + Layout::PLACES_AT);
+        buckets::store_pending(s, at + Layout::PENDING_AT, Pending::Waiting(node, deadline));
+        return InsertResult::Pending(key);
     }
     InsertResult::Full
 }
@@ -417,7 +389,7 @@ pub fn insert(s: &mut [u8], at: usize, node: Node, time: u64) -> InsertResult
     ensures { Does (insert (settings_here s.old) time (node_of node) (bucket_here s.old at)) at s.old
         (insert_result_of result) s.new }
 {
-    let count = byte_at(s, at);
+    let count = usize::from(s[at]);
     let key = node.key;
     let pos = position(s, at, count, key);
     if pos < count {

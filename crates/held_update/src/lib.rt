@@ -36,10 +36,10 @@ pub fn update_node(
         at s.old (Answer.Update (update_result_of result)) s.new }
 {
     if fails {
-        let found = held::remove(s, at, key);
+        held::remove(s, at, key);
         return UpdateResult::Failed(FailureReason::TableFilter);
     }
-    let count = s[at] as usize;
+    let count = usize::from(s[at]);
     let pos = held::position(s, at, count, key);
     if count <= pos {
         return UpdateResult::Failed(FailureReason::KeyNonExistent);
@@ -133,7 +133,7 @@ pub fn insert_or_update(
 {
     if fails {
         let key = node.key;
-        let found = held::remove(s, at, key);
+        held::remove(s, at, key);
         return InsertResult::Failed(FailureReason::TableFilter);
     }
     if pos < count {

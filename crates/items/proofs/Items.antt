@@ -1,13 +1,15 @@
--- What is written of one node: bytes copied one by one, and the bytes of an item by those of the node.
+-- What is written of one node: bytes copied, and the bytes of an item by those of the node.
 use mathlib.Core.Path.{◌≡◌, refl, sym, ap, ◌∙◌}
 use mathlib.Core.Bool.{Bool, true, false, cond, ◌&&◌}
 use mathlib.Core.List.{List, [], ◌∷◌, ◌++◌, map, map-append, append_assoc}
 use mathlib.Core.Option.{none, some}
-use Prim.Native.Nat.{ℕ, ◌+◌, ◌*◌, ◌≤◌, ◌<◌}
+use Prim.Native.Nat.{ℕ, ◌+◌, ◌-◌, ◌*◌, ◌≤◌, ◌<◌}
 use native.Mathlib.Nat.{mul-le-mul_left}
 use native.Mathlib.Omega.{arith}
 use lib.Dec.{eqb}
-use lib.ListN.{length, get_or, set, length-append}
+use lib.ListN.{length, take, drop, length-append}
+use borrow.Rule.Slice.PartMut.{put_mid}
+use Rattle.std.proofs.lemmas.List.{drop-drop}
 use borrow.Author.Tests.{ne_eqb}
 use Rattle.model.specs.Base.{same, joined}
 use Rattle.model.specs.Bytes.{bytes, part, splice, Bytes}
@@ -19,11 +21,10 @@ use Rattle.model.specs.Layout.{flag_byte, value_bytes, node_bytes, item_bytes, v
 use Rattle.model.specs.Formed.{node_codes}
 use Rattle.laws.proofs.Lists.{joined_append, joined_map, length_joined}
 use Rattle.laws.proofs.All.{all_any}
-use Rattle.laws.proofs.Parts.{length_part, part_part, part_zero, part_snoc, splice_next, slot_before}
+use Rattle.laws.proofs.Parts.{length_part, part_part, part_zero, splice_next, slot_before}
 use Rattle.laws.proofs.Bytes.{length_bytes, number_back, Bytes_part}
 use Rattle.laws.proofs.NodeBytes.{length_value, length_node, node_value}
 use Rattle.laws.proofs.NodeFormed.{node_back}
-use Rattle.words.proofs.Words.{set_more}
 use Rattle.node.specs.declared.Value.{Value}
 use Rattle.node.specs.Node.{value_of}
 use Rattle.storage.specs.Read.{read_value}
@@ -33,10 +34,11 @@ use Rattle.items.specs.declared.Form.{Form}
 use Rattle.items.specs.declared.Shape.{Shape}
 use Rattle.items.specs.Shape.{predicate_of, closest_item, closest_size, item_by, items_by, size_by}
 
--- one byte more is copied
-pub copied : {t : List ℕ} (s u : List ℕ) (at to k : ℕ) → t ≡ splice u to (part s at k) → at + k < length s → to + k < length u
-    → set t (to + k) (get_or s (at + k) 0) ≡ splice u to (part s at (k + 1))
-copied s u at to k e h l = rw (part_snoc s at k h) (set_more u to k (part s at k) (get_or s (at + k) 0) e (length_part s at k (omega arith)) l)
+-- bytes copied
+
+pub part_is : (s : List ℕ) (at k : ℕ) → take (at + k - at) (drop at s) ≡ part s at k
+unfolding part
+part_is s at k = let e : at + k - at ≡ k = omega arith in rw e
 
 -- the predicate
 

@@ -1,17 +1,23 @@
 -- The leading zero bits of a key, by its words, and what they say of a distance: its log2 distance and its index.
 use mathlib.Core.Path.{◌≡◌, sym, ap, ◌∙◌}
-use mathlib.Core.Bool.{Bool, cond}
+use mathlib.Core.Bool.{Bool, cond, not}
 use mathlib.Core.Option.{Option, none, some}
 use mathlib.Core.Logic.{◌⊎◌, inl, inr}
-use Prim.Native.Nat.{ℕ, ◌+◌, ◌-◌, ◌^◌, ◌<◌}
+use Prim.Native.Nat.{ℕ, ◌+◌, ◌-◌, ◌^◌, ◌<◌, ◌≤◌}
 use native.Mathlib.Nat.{eq-zero-or-pos}
 use native.Mathlib.Omega.{arith}
 use lib.Bits.{xor_zero_l}
 use lib.Count.{count_leading_zeros, leading_le, leading_of_zero}
-use borrow.Author.Tests.{ne_eqb}
-use Rattle.model.specs.Key.{InBucket, bucket_index}
+use lib.Dec.{eqb}
+use borrow.Author.Tests.{eqb-true, eqb-false, ne_eqb}
+use Rattle.std.specs.Prelude as code
+use Rattle.std.specs.Bool.{then_some}
+use Rattle.std.specs.Option.{SomeIff}
+use Rattle.model.specs.Key.{InBucket, less_one, bucket_index}
 use Rattle.laws.proofs.Index.{log2_of, index_of, bucket_index_lem, leading_is, log2_none, some_bucket, top0, top1, top2, top3, word_top, all_zero}
+use Rattle.laws.proofs.Tests.{split}
 use Rattle.key.specs.declared.Key.{Key}
+use Rattle.key.specs.Answers.{option_of}
 use Rattle.key.specs.Key.{num, Words}
 
 -- all the bits are leading zeros at 0 alone
@@ -30,6 +36,20 @@ some_left d n =
 -- from the local key 0 a key is its own distance
 pub index_of_distance : (d : ℕ) → index_of d ≡ bucket_index 0 d
 index_of_distance d = ap index_of (sym (xor_zero_l d)) ∙ sym (bucket_index_lem 0 d)
+
+-- the answers, by the leading zeros
+pub log2_told : (d : ℕ) → d < 2 ^ 256 → (n : ℕ) → n ≡ count_leading_zeros 256 d → option_of (then_some (not (eqb (256 - n) 0)) (256 - n)) ≡ log2_of d
+log2_told d h n e =
+    ap (λ (k : ℕ). option_of (then_some (not (eqb (256 - k) 0)) (256 - k))) e
+    ∙ split (eqb (256 - count_leading_zeros 256 d) 0)
+    (λ t. ap (λ (b : Bool). option_of (then_some (not b) (256 - count_leading_zeros 256 d))) t ∙ none_left d h (eqb-true _ 0 t))
+    (λ t. ap (λ (b : Bool). option_of (then_some (not b) (256 - count_leading_zeros 256 d))) t ∙ some_left d (eqb-false _ 0 t))
+
+pub index_told : (d : ℕ) → d < 2 ^ 256 → (n : ℕ) → n ≡ count_leading_zeros 256 d → (r : code.Option ℕ) → SomeIff r (1 ≤ 256 - n) (256 - n - 1) → option_of r ≡ index_of d
+index_told d h n e code.None s = let z : 256 - count_leading_zeros 256 d ≡ 0 = omega (arith, s) in ap less_one (none_left d h z)
+index_told d h n e (code.Some i) s =
+    let f : i ≡ 256 - count_leading_zeros 256 d - 1 = omega (arith, s.1) in
+    ap some f ∙ ap less_one (some_left d (λ z. omega (arith, s.0)))
 
 -- the first word that is not 0 has them
 module _ (k : Key) (h : Words k) where

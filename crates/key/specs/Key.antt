@@ -2,7 +2,7 @@
 use Rattle.std.specs.Prelude.{ℕ, ◌+◌, ◌*◌, ◌/◌, ◌%◌, ◌^◌, ◌<◌}
 use Rattle.key.specs.declared.Key.{Key}
 
--- the number of the key's 32 bytes, big-endian (law: `num-bytes` of proofs/Bytes)
+-- the number of the key's 32 bytes, big-endian (law: `num_bytes` of proofs/Bytes)
 unfoldable pub num : Key → ℕ
 num k = ((k.w0 * 2 ^ 64 + k.w1) * 2 ^ 64 + k.w2) * 2 ^ 64 + k.w3
 

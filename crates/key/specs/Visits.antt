@@ -1,13 +1,10 @@
 -- The visit of the buckets, as far as an iterator has still to go.
-use Rattle.std.specs.Prelude.{ℕ, suc, ◌+◌, ◌-◌, ◌<◌, ◌≡◌, List, [], ◌∷◌, ◌++◌, drop}
-use Rattle.model.specs.Base.{first}
+use Rattle.std.specs.Prelude.{ℕ, suc, ◌+◌, ◌-◌, ◌<◌, ◌≡◌, List, [], ◌∷◌, ◌++◌}
 use Rattle.model.specs.Key.{test_bit}
 use Rattle.model.specs.Visit.{sets_down, clears_up}
-use Rattle.key.specs.declared.BucketIndex.{BucketIndex}
 use Rattle.key.specs.declared.ClosestBucketsIter.{ClosestBucketsIter}
 use Rattle.key.specs.declared.ClosestBucketsIterState.{ClosestBucketsIterState}
 use Rattle.key.specs.Key.{num}
-use Rattle.key.specs.Answers.{bucket_index_of}
 
 -- what a state has still to visit; d is the local-target distance
 abbrev pub to_visit : ℕ → ClosestBucketsIterState → List ℕ
@@ -18,11 +15,6 @@ to_visit d ClosestBucketsIterState.Done = []
 
 abbrev pub remaining : ClosestBucketsIter → List ℕ
 remaining it = to_visit (num it.distance) it.state
-
--- the answer is the first of what remains, and the rest remains after it
-pub record Stepped (before : ClosestBucketsIter) (index : BucketIndex) (after : ClosestBucketsIter) : Type 0 where
-  pub answer : bucket_index_of index ≡ first (remaining before)
-  pub rest : remaining after ≡ drop 1 (remaining before)
 
 -- the word w has the 64 bits of d from bit `from` on
 abbrev pub BitsFrom : (d from w : ℕ) → Type 0

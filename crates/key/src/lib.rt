@@ -10,30 +10,16 @@ ghost use Rattle.model.specs.Key.{distance, log2_distance, bucket_index, test_bi
 ghost use Rattle.model.specs.Sizes.{key_size};
 ghost use Rattle.model.specs.Visit.{sets_down, clears_up, visits};
 ghost use Rattle.key.specs.Key.{num};
-ghost use Rattle.key.specs.Answers.{bucket_index_of, log2_distance_of};
-ghost use Rattle.key.specs.Visits.{remaining, Stepped, BitsFrom};
+ghost use Rattle.key.specs.Answers.{option_of};
+ghost use Rattle.key.specs.Visits.{remaining, BitsFrom};
 
 // A key of 256 bits, or the distance of two: four words, w0 the most significant.
-#[derive(Clone, Copy)]
+#[derive(Clone, Copy, PartialEq, Eq, Default)]
 pub struct Key {
     pub w0: u64,
     pub w1: u64,
     pub w2: u64,
     pub w3: u64,
-}
-
-// The log2 distance of two keys, 1 to 256; nothing where they are equal.
-#[derive(Clone, Copy)]
-pub enum Log2Distance {
-    At(usize),
-    Nothing,
-}
-
-// The index of a bucket, 0 to 255; nothing for distance 0.
-#[derive(Clone, Copy)]
-pub enum BucketIndex {
-    At(usize),
-    Nothing,
 }
 
 impl Key {
@@ -83,7 +69,7 @@ impl Key {
         words::put_u64(s, at + 24, self.w3);
     }
 
-    // The keys are equal.
+    // The keys are equal. Not the derived `==`: the tests are joined by & and not by &&, so that no branch is taken.
     pub fn eq(self, other: Key) -> bool
         ensures { result ≡ same (num self) (num other) }
     {
@@ -91,7 +77,8 @@ impl Key {
             & ((self.w2 == other.w2) & ((self.w1 == other.w1) & (self.w0 == other.w0)))
     }
 
-    // The number of the key is less than that of the other: of two distances, the nearer. The highest word decides where it differs.
+    // The number of the key is less than that of the other: of two distances, the nearer. The highest word decides where it differs. Not a
+    // derived `<`, which ensures an `Ordering` of the four words and not of the number.
     pub fn less(self, other: Key) -> bool
         ensures { result ≡ ltb (num self) (num other) }
     {
@@ -124,124 +111,76 @@ impl Key {
         ensures { result ≡ count_leading_zeros 256 (num self) }
     {
         if self.w0 != 0 {
-            return u64::leading_zeros(self.w0) as usize;
+            return self.w0.leading_zeros() as usize;
         }
         if self.w1 != 0 {
-            return 64 + (u64::leading_zeros(self.w1) as usize);
+            return 64 + self.w1.leading_zeros() as usize;
         }
         if self.w2 != 0 {
-            return 128 + (u64::leading_zeros(self.w2) as usize);
+            return 128 + self.w2.leading_zeros() as usize;
         }
-        192 + (u64::leading_zeros(self.w3) as usize)
+        192 + self.w3.leading_zeros() as usize
     }
 
-    // 256 less the leading zero bits of the distance.
-    pub fn log2_distance(self, other: Key) -> Log2Distance
-        ensures { log2_distance_of result ≡ log2_distance (num self) (num other) }
+    // 256 less the leading zero bits of the distance, 1 to 256; none where the keys are equal.
+    pub fn log2_distance(self, other: Key) -> Option<usize>
+        ensures { option_of result ≡ log2_distance (num self) (num other) }
     {
-        let d = self.distance(other);
-        let bits = Key::BITS - d.leading_zeros();
-        if bits == 0 {
-            return Log2Distance::Nothing;
-        }
-        Log2Distance::At(bits)
+        let bits = Key::BITS - self.distance(other).leading_zeros();
+        (bits != 0).then_some(bits)
     }
 
-    // The index of the bucket that the other key belongs to in the table of this one.
-    pub fn bucket_index(self, other: Key) -> BucketIndex
-        ensures { bucket_index_of result ≡ bucket_index (num self) (num other) }
+    // The index that a distance has, 0 to 255: one less than its log2 distance; none for distance 0.
+    pub fn index(self) -> Option<usize>
+        ensures { option_of result ≡ bucket_index 0 (num self) }
     {
-        BucketIndex::new(self.distance(other))
+        (Key::BITS - self.leading_zeros()).checked_sub(1)
+    }
+
+    // The index of the bucket that the other key belongs to in the table of this one; none for this key itself.
+    pub fn bucket_index(self, other: Key) -> Option<usize>
+        ensures { option_of result ≡ bucket_index (num self) (num other) }
+    {
+        self.distance(other).index()
     }
 
     // Bit i is set. A key has no set bit from 256 on.
     pub fn bit(self, i: usize) -> bool
         ensures { result ≡ test_bit (num self) i }
     {
-        if i < 64 {
-            return word_bit(self.w3, i);
-        }
-        if i < 128 {
-            return word_bit(self.w2, i - 64);
-        }
-        if i < 192 {
-            return word_bit(self.w1, i - 128);
-        }
-        if i < 256 {
-            return word_bit(self.w0, i - 192);
-        }
-        false
+        (self.word(i / 64) >> (i % 64)) & 1 == 1
     }
 
     // Internal: word q, the least significant first; 0 from 4 on.
     fn word(self, q: usize) -> u64
         ensures { BitsFrom (num self) (q * 64) result }
     {
-        if q == 0 {
-            return self.w3;
+        match q {
+            0 => self.w3,
+            1 => self.w2,
+            2 => self.w1,
+            3 => self.w0,
+            _ => 0,
         }
-        if q == 1 {
-            return self.w2;
-        }
-        if q == 2 {
-            return self.w1;
-        }
-        if q == 3 {
-            return self.w0;
-        }
-        0
     }
-}
-
-// Internal: bit k of a word.
-fn word_bit(w: u64, k: usize) -> bool
-    requires { k < 64 }
-    ensures { result ≡ test_bit w k }
-{
-    (w >> k) & 1 == 1
 }
 
 // The highest set bit of a word below bit k.
-fn last_set(w: u64, k: usize) -> BucketIndex
-    requires { k ≤ 64 }
-    ensures { bucket_index_of result ≡ first (sets_down w k) }
+fn last_set(w: u64, k: usize) -> Option<usize>
+    requires { (0 < k) × (k ≤ 64) }
+    ensures { option_of result ≡ first (sets_down w k) }
 {
-    let mut j = k;
-    while 0 < j {
-        j -= 1;
-        if word_bit(w, j) {
-            return BucketIndex::At(j);
-        }
-    }
-    BucketIndex::Nothing
+    let below = w & (u64::MAX >> (64 - k));
+    (64 - below.leading_zeros() as usize).checked_sub(1)
 }
 
 // The lowest clear bit of a word from bit k on.
-fn first_clear(w: u64, k: usize) -> BucketIndex
-    requires { k ≤ 64 }
-    ensures { bucket_index_of result ≡ first (clears_up w k (64 - k)) }
+fn first_clear(w: u64, k: usize) -> Option<usize>
+    requires { k < 64 }
+    ensures { option_of result ≡ first (clears_up w k (64 - k)) }
 {
-    let mut j = k;
-    while j < 64 {
-        if !word_bit(w, j) {
-            return BucketIndex::At(j);
-        }
-        j += 1;
-    }
-    BucketIndex::Nothing
-}
-
-impl BucketIndex {
-    // The index that a distance has: one less than its log2 distance.
-    pub fn new(distance: Key) -> BucketIndex
-        ensures { bucket_index_of result ≡ bucket_index 0 (num distance) }
-    {
-        let bits = Key::BITS - distance.leading_zeros();
-        if bits == 0 {
-            return BucketIndex::Nothing;
-        }
-        BucketIndex::At(bits - 1)
-    }
+    let j = k + (w >> k).trailing_ones() as usize;
+    (j < 64).then_some(j)
 }
 
 // Where an iterator over the buckets stands.
@@ -265,136 +204,95 @@ pub struct ClosestBucketsIter {
     pub state: ClosestBucketsIterState,
 }
 
-// The bucket to visit next, if there is one, and the iterator after it.
-#[derive(Clone, Copy)]
-pub struct ClosestBucketsNext {
-    pub index: BucketIndex,
-    pub iter: ClosestBucketsIter,
-}
-
 impl ClosestBucketsIter {
     // Internal: starts at the bucket of the highest set bit of the distance, or at bucket 0.
     pub fn new(distance: Key) -> ClosestBucketsIter
         ensures { remaining result ≡ visits (num distance) }
     {
-        let top = BucketIndex::new(distance);
-        match top {
-            BucketIndex::At(i) => ClosestBucketsIter {
+        match distance.index() {
+            Some(i) => ClosestBucketsIter {
                 distance,
                 state: ClosestBucketsIterState::Start(i),
             },
-            BucketIndex::Nothing => ClosestBucketsIter {
+            None => ClosestBucketsIter {
                 distance,
                 state: ClosestBucketsIterState::Start(0),
             },
         }
     }
 
-    // The next set bit of the distance below i, word by word.
-    fn next_in(self, i: usize) -> BucketIndex
-        ensures { bucket_index_of result ≡ first (sets_down (num self.distance) i) }
+    // The next set bit of the distance below i, word by word. No `for`: the first step begins inside a word, each later one at a word's edge,
+    // and no bound on i is asked.
+    fn next_in(self, i: usize) -> Option<usize>
+        ensures { option_of result ≡ first (sets_down (num self.distance) i) }
     {
-        let d = self.distance;
         let mut k = i;
         while 0 < k {
             let q = (k - 1) / 64;
-            let w = d.word(q);
-            if w != 0 {
-                let n = last_set(w, k - q * 64);
-                match n {
-                    BucketIndex::At(j) => {
-                        return BucketIndex::At(q * 64 + j);
-                    }
-                    BucketIndex::Nothing => {}
-                }
+            let w = self.distance.word(q);
+            if let Some(j) = last_set(w, k - q * 64) {
+                return Some(q * 64 + j);
             }
             k = q * 64;
         }
-        BucketIndex::Nothing
+        None
     }
 
-    // The next clear bit of the distance above i, word by word.
-    fn next_out(self, i: usize) -> BucketIndex
-        ensures { bucket_index_of result ≡ first (clears_up (num self.distance) (suc i) (255 - i)) }
+    // The next clear bit of the distance above i, word by word, as `next_in`.
+    fn next_out(self, i: usize) -> Option<usize>
+        ensures { option_of result ≡ first (clears_up (num self.distance) (suc i) (255 - i)) }
     {
-        let d = self.distance;
         let mut k = i;
         while k < 255 {
             let q = (k + 1) / 64;
-            let w = d.word(q);
-            if w != 0xFFFF_FFFF_FFFF_FFFF {
-                let n = first_clear(w, k + 1 - q * 64);
-                match n {
-                    BucketIndex::At(j) => {
-                        return BucketIndex::At(q * 64 + j);
-                    }
-                    BucketIndex::Nothing => {}
-                }
+            let w = self.distance.word(q);
+            if let Some(j) = first_clear(w, k + 1 - q * 64) {
+                return Some(q * 64 + j);
             }
             k = q * 64 + 63;
         }
-        BucketIndex::Nothing
+        None
     }
+}
 
-    // Internal: the first of what remains, and an iterator of the rest.
-    pub fn next(self) -> ClosestBucketsNext
-        ensures { Stepped self result.index result.iter }
-    {
-        let distance = self.distance;
-        let state = self.state;
-        match state {
-            ClosestBucketsIterState::Start(i) => ClosestBucketsNext {
-                index: BucketIndex::At(i),
-                iter: ClosestBucketsIter {
-                    distance,
-                    state: ClosestBucketsIterState::ZoomIn(i),
-                },
-            },
-            ClosestBucketsIterState::ZoomIn(i) => {
-                let n = self.next_in(i);
-                match n {
-                    BucketIndex::At(j) => ClosestBucketsNext {
-                        index: BucketIndex::At(j),
-                        iter: ClosestBucketsIter {
-                            distance,
-                            state: ClosestBucketsIterState::ZoomIn(j),
-                        },
-                    },
-                    BucketIndex::Nothing => ClosestBucketsNext {
-                        index: BucketIndex::At(0),
-                        iter: ClosestBucketsIter {
-                            distance,
-                            state: ClosestBucketsIterState::ZoomOut(0),
-                        },
-                    },
-                }
+impl Iterator for ClosestBucketsIter {
+    ghost use Rattle.std.specs.Iterator.{YieldsFirst, item_count};
+    ghost use Rattle.key.specs.Visits.{remaining};
+
+    type Item = usize;
+
+    ghost next_gives = { YieldsFirst remaining };
+
+    ghost remaining = { item_count remaining };
+
+    // Internal: the first of what remains.
+    fn next(&mut self) -> Option<usize> {
+        match self.state {
+            ClosestBucketsIterState::Start(i) => {
+                self.state = ClosestBucketsIterState::ZoomIn(i);
+                Some(i)
             }
-            ClosestBucketsIterState::ZoomOut(i) => {
-                let n = self.next_out(i);
-                match n {
-                    BucketIndex::At(j) => ClosestBucketsNext {
-                        index: BucketIndex::At(j),
-                        iter: ClosestBucketsIter {
-                            distance,
-                            state: ClosestBucketsIterState::ZoomOut(j),
-                        },
-                    },
-                    BucketIndex::Nothing => ClosestBucketsNext {
-                        index: BucketIndex::Nothing,
-                        iter: ClosestBucketsIter {
-                            distance,
-                            state: ClosestBucketsIterState::Done,
-                        },
-                    },
+            ClosestBucketsIterState::ZoomIn(i) => match self.next_in(i) {
+                Some(j) => {
+                    self.state = ClosestBucketsIterState::ZoomIn(j);
+                    Some(j)
                 }
-            }
-            ClosestBucketsIterState::Done => ClosestBucketsNext {
-                index: BucketIndex::Nothing,
-                iter: ClosestBucketsIter {
-                    distance,
-                    state: ClosestBucketsIterState::Done,
-                },
+                None => {
+                    self.state = ClosestBucketsIterState::ZoomOut(0);
+                    Some(0)
+                }
             },
+            ClosestBucketsIterState::ZoomOut(i) => match self.next_out(i) {
+                Some(j) => {
+                    self.state = ClosestBucketsIterState::ZoomOut(j);
+                    Some(j)
+                }
+                None => {
+                    self.state = ClosestBucketsIterState::Done;
+                    None
+                }
+            },
+            ClosestBucketsIterState::Done => None,
         }
     }
 }

@@ -135,9 +135,9 @@ module _ (s : List ℕ) (p : ℕ → Bool) (m : ℕ) (c : bucket_formed p m s �
               incoming_within = rw (nodes_in_lem s) passed.incoming_within;
               pending_apart = rw (pending_of_lem s) (opt_map _ _ (λ (q : PendingNode) e. e.1) (pending_in s) pending_good);
             };
-        of_index_lem =
+        of_the_index =
             record {
-              held = rw (nodes_in_lem s) (all_tabulate (λ (x : Node). p x.key ≡ true) held (λ j. node_in (place_in s j)) passed.of_index_lem);
+              held = rw (nodes_in_lem s) (all_tabulate (λ (x : Node). p x.key ≡ true) held (λ j. node_in (place_in s j)) passed.of_the_index);
               pending = rw (pending_of_lem s) (opt_map _ _ (λ (q : PendingNode) e. (e.0, tt)) (pending_in s) pending_good);
             };
       }

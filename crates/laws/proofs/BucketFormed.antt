@@ -32,7 +32,7 @@ use Rattle.laws.proofs.All.{all_append, all_left, all_right, all_get_d, all_by_g
 pub record Checked (of_index : ℕ → Bool) (max_incoming : ℕ) (s : List ℕ) : Type 0 where
   pub at_most : get_or s 0 0 ≤ max_nodes_per_bucket
   pub different : (j : ℕ) → j < get_or s 0 0 → not_held s j (key_in (place_in s j)) ≡ true
-  pub of_index_lem : (j : ℕ) → j < get_or s 0 0 → of_index (key_in (place_in s j)) ≡ true
+  pub of_the_index : (j : ℕ) → j < get_or s 0 0 → of_index (key_in (place_in s j)) ≡ true
   pub states : (j : ℕ) → j < get_or s 0 0 → get_or (place_in s j) key_size 0 ≡ state_at (get_or s 1 0) j
   pub first : get_or s 1 0 ≤ get_or s 0 0
   pub incoming_within : length (incoming_nodes (nodes_in s)) ≤ max_incoming
@@ -61,7 +61,7 @@ module _ (of_index : ℕ → Bool) (m : ℕ) (s : List ℕ) where
       record {
         at_most = leb-true n max_nodes_per_bucket t.0;
         different = λ j l. all_gives n (λ k. not_held s k (key_in (place_in s k))) j l t.1.0;
-        of_index_lem = λ j l. all_gives n (λ k. of_index (key_in (place_in s k))) j l t.1.1.0;
+        of_the_index = λ j l. all_gives n (λ k. of_index (key_in (place_in s k))) j l t.1.1.0;
         states = λ j l. eqb-true _ _ (all_gives n (λ k. eqb (get_or (place_in s k) key_size 0) (state_at (get_or s 1 0) k)) j l t.1.1.1.0);
         first = leb-true (get_or s 1 0) n t.1.1.1.1.0;
         incoming_within = leb-true (length (incoming_nodes (nodes_in s))) m t.1.1.1.1.1.0;
@@ -79,7 +79,7 @@ module _ (of_index : ℕ → Bool) (m : ℕ) (s : List ℕ) where
         (
           all_if n _ c.different,
           (
-            all_if n _ c.of_index_lem,
+            all_if n _ c.of_the_index,
             (
               all_if n _ (λ j l. eq-eqb _ _ (c.states j l)),
               (
@@ -200,7 +200,7 @@ module _ (p : ℕ → Bool) (m : ℕ) (b : Bucket) (g : FormedBucket (λ (k : �
       (pending_formed_lem p b.pending (places_bytes b) (length_places b g.formed.at_most) f.pending
       (opt_map _ _
       (λ q h. (h.0.0, rw (bucket_cut b) at (not_held_lem (num_entries b) q.node.key (omega arith) (λ j l. all_get_d (λ (n : Node). same n.key q.node.key ≡ false) (nodes b) j (node_in []) (holds_none q.node.key b h.1) (rw length_nodes l)))))
-      b.pending (opt_both _ _ b.pending g.of_index_lem.pending g.formed.pending_apart)))
+      b.pending (opt_both _ _ b.pending g.of_the_index.pending g.formed.pending_apart)))
 
   unused_zero : are_zero written (2 + num_entries b * node_size) ((max_nodes_per_bucket - num_entries b) * node_size) ≡ true
   unfolding bucket_bytes
@@ -218,7 +218,7 @@ module _ (p : ℕ → Bool) (m : ℕ) (b : Bucket) (g : FormedBucket (λ (k : �
       record {
         at_most = g.formed.at_most;
         different = λ j l. rw (key_at j l) (not_held_lem j (place j).key (omega arith) (λ i k. same_sym (place i).key (place j).key ∙ Different_get_or (nodes b) (node_in []) g.formed.different j (rw length_nodes l) i k));
-        of_index_lem = λ j l. rw (key_at j l) (all_get_d (λ (n : Node). p n.key ≡ true) (nodes b) j (node_in []) g.of_index_lem.held (rw length_nodes l));
+        of_the_index = λ j l. rw (key_at j l) (all_get_d (λ (n : Node). p n.key ≡ true) (nodes b) j (node_in []) g.of_the_index.held (rw length_nodes l));
         states = λ j l. ap (λ (x : List ℕ). get_or x key_size 0) (place_there b j (node_in []) l) ∙ node_state (place j) ∙ state_at_lem j l;
         first = omega arith;
         incoming_within = rw (nodes_there b f) g.formed.incoming_within;

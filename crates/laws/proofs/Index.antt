@@ -1,4 +1,4 @@
--- The bucket index: `bucketIndex` answers i exactly at the distances from 2 ^ i up to 2 ^ (i + 1) - 1, and the leading zeros of a
+-- The bucket index: `bucket_index` answers i exactly at the distances from 2 ^ i up to 2 ^ (i + 1) - 1, and the leading zeros of a
 -- distance's 64-bit words give it.
 use mathlib.Core.Path.{◌≡◌, refl, sym, ap, ◌∙◌, subst}
 use mathlib.Core.Bool.{Bool, false, cond}

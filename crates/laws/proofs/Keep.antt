@@ -24,32 +24,32 @@ OfIndex s i n = bucket_index s.local_key n.key ≡ some i
 
 module _ (s : Settings) (i : ℕ) where
   pub empty_well_formed : WellFormed s i empty_bucket
-  empty_well_formed = record { formed = empty_formed s.bucket.max_incoming; of_index_lem = record { held = tt; pending = tt } }
+  empty_well_formed = record { formed = empty_formed s.bucket.max_incoming; of_the_index = record { held = tt; pending = tt } }
 
   pub insert_well_formed : (now : ℕ) (n : Node) (b : Bucket) → bucket_index s.local_key n.key ≡ some i → WellFormed s i b
       → WellFormed s i (insert s.bucket now n b).1
   insert_well_formed now n b h w =
-      record { formed = insert_formed s.bucket now n b w.formed; of_index_lem = insert_each (OfIndex s i) Any s.bucket now n b h tt w.of_index_lem }
+      record { formed = insert_formed s.bucket now n b w.formed; of_the_index = insert_each (OfIndex s i) Any s.bucket now n b h tt w.of_the_index }
 
   pub apply_pending_well_formed : (now : ℕ) (b : Bucket) → WellFormed s i b → WellFormed s i (apply_pending s.bucket now b).0
   apply_pending_well_formed now b w =
-      record { formed = apply_pending_formed s.bucket now b w.formed; of_index_lem = apply_pending_each (OfIndex s i) Any s.bucket now b w.of_index_lem }
+      record { formed = apply_pending_formed s.bucket now b w.formed; of_the_index = apply_pending_each (OfIndex s i) Any s.bucket now b w.of_the_index }
 
   pub update_status_well_formed : (k : ℕ) (u : Bool) (d : Option Bool) (b : Bucket) → WellFormed s i b → WellFormed s i (update_status s.bucket k u d b).1
   update_status_well_formed k u d b w =
-      record { formed = update_status_formed s.bucket k u d b w.formed; of_index_lem = update_status_each (OfIndex s i) Any s.bucket k u d b (λ n h. h) w.of_index_lem }
+      record { formed = update_status_formed s.bucket k u d b w.formed; of_the_index = update_status_each (OfIndex s i) Any s.bucket k u d b (λ n h. h) w.of_the_index }
 
   pub update_value_well_formed : (k : ℕ) (v : Value) (b : Bucket) → WellFormed s i b → WellFormed s i (update_value s.bucket k v b).1
   update_value_well_formed k v b w =
-      record { formed = update_value_formed s.bucket k v b w.formed; of_index_lem = update_value_each (OfIndex s i) Any s.bucket k v b (λ n h. h) w.of_index_lem }
+      record { formed = update_value_formed s.bucket k v b w.formed; of_the_index = update_value_each (OfIndex s i) Any s.bucket k v b (λ n h. h) w.of_the_index }
 
   pub update_pending_well_formed : (u d : Bool) (b : Bucket) → WellFormed s i b → WellFormed s i (update_pending u d b)
   update_pending_well_formed u d b w =
-      record { formed = update_pending_formed s.bucket.max_incoming u d b w.formed; of_index_lem = update_pending_each (OfIndex s i) Any u d b (λ n h. h) w.of_index_lem }
+      record { formed = update_pending_formed s.bucket.max_incoming u d b w.formed; of_the_index = update_pending_each (OfIndex s i) Any u d b (λ n h. h) w.of_the_index }
 
   pub remove_well_formed : (now k : ℕ) (b : Bucket) → WellFormed s i b → WellFormed s i (remove s.bucket now k b).1
   remove_well_formed now k b w =
-      record { formed = remove_formed s.bucket now k b w.formed; of_index_lem = remove_each (OfIndex s i) Any s.bucket now k b w.of_index_lem }
+      record { formed = remove_formed s.bucket now k b w.formed; of_the_index = remove_each (OfIndex s i) Any s.bucket now k b w.of_the_index }
 
 pub with_status_fits : (u : Bool) (d : Option Bool) (n : Node) → FitsNode n → FitsNode (with_status u d n)
 with_status_fits u d n h = record { key = h.key; value = h.value }

@@ -197,7 +197,7 @@ module _ (t : Table) (f : Fits t) where
       formed_map _ _ _ _ (λ k e. at_index (bucket_index t.settings.local_key k) i e)
       (record {
         formed = with_pending_formed t.settings.bucket.max_incoming none (t.buckets i) (f.well_formed i).formed tt;
-        of_index_lem = with_pending_each _ _ none (t.buckets i) (f.well_formed i).of_index_lem tt;
+        of_the_index = with_pending_each _ _ none (t.buckets i) (f.well_formed i).of_the_index tt;
       })
 
   module _ (i : ℕ) (l : i < num_buckets) where

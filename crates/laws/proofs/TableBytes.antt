@@ -44,10 +44,10 @@ pub formed_map : (P Q : ℕ → Type 0) (m : ℕ) (b : Bucket) → ((k : ℕ) �
 formed_map P Q m b f w =
     record {
       formed = w.formed;
-      of_index_lem =
+      of_the_index =
           record {
-            held = all_map _ _ (λ (n : Node) e. f n.key e) (nodes b) w.of_index_lem.held;
-            pending = opt_map _ _ (λ (p : PendingNode) e. (f p.node.key e.0, tt)) b.pending w.of_index_lem.pending;
+            held = all_map _ _ (λ (n : Node) e. f n.key e) (nodes b) w.of_the_index.held;
+            pending = opt_map _ _ (λ (p : PendingNode) e. (f p.node.key e.0, tt)) b.pending w.of_the_index.pending;
           };
     }
 

@@ -1,4 +1,4 @@
--- Laws of `areZero`: a part of a run is zero.
+-- Laws of `are_zero`: a part of a run is zero.
 use mathlib.Core.Path.{◌≡◌, sym, ap, ◌∙◌}
 use mathlib.Core.Bool.{true}
 use mathlib.Core.List.{List}

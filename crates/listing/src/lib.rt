@@ -19,7 +19,7 @@ ghost use Rattle.items.specs.Lists.{Lists, list_answer};
 ghost use Rattle.listing.specs.Listed.{closest_listing, visit_order_by, count_in, first_nodes, Put, visit_outcome, list_outcome};
 
 use items::{Form, ListAnswer, Predicate, Shape};
-use key::{BucketIndex, ClosestBucketsIter};
+use key::ClosestBucketsIter;
 use node::Slot;
 use storage::Layout;
 use visit::Visit;
@@ -29,10 +29,7 @@ fn has_output(n: usize, size: usize, len: usize) -> bool
     requires { size ≤ 64 }
     ensures { result ≡ (leb n max_count && leb (n * size) len) }
 {
-    if items::MAX_COUNT < n {
-        return false;
-    }
-    n * size <= len
+    n <= items::MAX_COUNT && n * size <= len
 }
 
 // The buckets in the order of the listing.
@@ -41,54 +38,12 @@ fn visit_of(s: &[u8], shape: Shape) -> Visit
     ensures { order result ≡ visit_order_by shape (table_of s.now) }
 {
     match shape {
-        Shape::Nodes => Visit::InTurn,
+        Shape::Nodes => Visit::InTurn(0),
         Shape::Closest(target, _) => {
             let local = header::local_key(s);
             Visit::Nearest(ClosestBucketsIter::new(local.distance(target)))
         }
     }
-}
-
-// Writes the items of all buckets in turn, up to n, and answers how many.
-fn put_in_turn(s: &[u8], shape: Shape, out: &mut [u8], n: usize) -> usize
-    requires s_len { (length s.now ≡ storage_size) × (header_formed s.now ≡ true) }
-    requires i_value { buckets_formed s.now (visited (count_in (table_of s.now)) n (tabulate num_buckets (λ i. i))) ≡ true }
-    requires n_le_max_count { (n ≤ max_count) × (n * size_by shape ≤ length out.old) }
-    ensures { Put shape (first_nodes n shape (table_of s.now) (tabulate num_buckets (λ i. i))) result out.old out.new }
-{
-    let mut k: usize = 0;
-    let mut i: usize = 0;
-    while (k < n) & (i < model::NUM_BUCKETS) {
-        k = items::put_bucket(s, i, shape, out, k, n);
-        i += 1;
-    }
-    k
-}
-
-// Writes the items of the buckets in the order of a closest call, up to n, and answers how many.
-fn put_nearest(s: &[u8], visit: ClosestBucketsIter, shape: Shape, out: &mut [u8], n: usize) -> usize
-    requires s_len { (length s.now ≡ storage_size) × (header_formed s.now ≡ true) }
-    requires visitable { Visitable (remaining visit) }
-    requires visit_value { buckets_formed s.now (visited (count_in (table_of s.now)) n (remaining visit)) ≡ true }
-    requires n_le_max_count { (n ≤ max_count) × (n * size_by shape ≤ length out.old) }
-    ensures { Put shape (first_nodes n shape (table_of s.now) (remaining visit)) result out.old out.new }
-{
-    let mut it = visit;
-    let mut k: usize = 0;
-    while k < n {
-        let next = it.next();
-        it = next.iter;
-        let index = next.index;
-        match index {
-            BucketIndex::Nothing => {
-                return k;
-            }
-            BucketIndex::At(i) => {
-                k = items::put_bucket(s, i, shape, out, k, n);
-            }
-        }
-    }
-    k
 }
 
 // Writes the items of the buckets, up to n, and answers how many. No further bucket is visited after the n-th.
@@ -99,10 +54,14 @@ fn put_all(s: &[u8], visit: Visit, shape: Shape, out: &mut [u8], n: usize) -> us
     requires n_le_max_count { (n ≤ max_count) × (n * size_by shape ≤ length out.old) }
     ensures { Put shape (first_nodes n shape (table_of s.now) (order visit)) result out.old out.new }
 {
-    match visit {
-        Visit::InTurn => put_in_turn(s, shape, out, n),
-        Visit::Nearest(it) => put_nearest(s, it, shape, out, n),
+    let mut k = 0;
+    for i in visit {
+        if k == n {
+            break;
+        }
+        k = items::put_bucket(s, i, shape, out, k, n);
     }
+    k
 }
 
 // The visit: a survey for questions 2 and 8, the due pendings applied, then the items written from the storage as it stands, until as many
@@ -122,17 +81,14 @@ fn list_visited(
     ensures { Lists (list_answer result) s.new out.new (visit_outcome shape n time (order visit) out.old s.old) }
 {
     let queued = header::record_count(s);
-    let y = visit::survey(s, visit, n, time);
-    if !y.formed {
+    let Some(tally) = visit::survey(s, visit, n, time) else {
         return ListAnswer::Refused(2);
-    }
-    let records = y.records;
-    if Layout::MAX_RECORDS - queued < records {
+    };
+    if Layout::MAX_RECORDS - queued < tally.records {
         return ListAnswer::Refused(8);
     }
-    visit::apply_all(s, visit, n, time, records);
-    let count = y.count;
-    let found = put_all(s, visit, shape, out, count);
+    visit::apply_all(s, visit, n, time, tally.records);
+    let found = put_all(s, visit, shape, out, tally.count);
     ListAnswer::Found(found)
 }
 

@@ -1,12 +1,12 @@
 -- Three values of one /24, place by place.
-use mathlib.Core.Path.{◌≡◌, refl, sym, ap, ◌∙◌}
+use mathlib.Core.Path.{◌≡◌, refl, sym, ap, ap₂, ◌∙◌}
 use mathlib.Core.Bool.{Bool, true, false, ◌||◌}
 use mathlib.Core.List.{List, [], ◌∷◌, ◌++◌}
-use mathlib.Core.Logic.{⊎_elim}
 use Prim.Native.Nat.{ℕ, zero, suc, ◌+◌, ◌<◌}
-use native.Mathlib.Nat.{add-zero, not-suc-le-zero, eq-or-lt_of_le}
+use native.Mathlib.Nat.{add-zero}
 use native.Mathlib.Omega.{arith}
 use lib.ListN.{get_or}
+use Rattle.std.specs.List.{list_any, range_with_len}
 use Rattle.model.specs.Base.{any_of, tabulate}
 use Rattle.model.specs.Bytes.{part}
 use Rattle.model.specs.Node.{Node}
@@ -14,8 +14,7 @@ use Rattle.model.specs.Bucket.{max_nodes_per_bucket}
 use Rattle.model.specs.Sizes.{key_size, value_size, node_size, place_at, bucket_size}
 use Rattle.model.specs.Layout.{value_in, node_in, nodes_in}
 use Rattle.model.specs.Saved.{three_of_aNet}
-use Rattle.laws.proofs.Tests.{or_second}
-use Rattle.laws.proofs.Lists.{tabulate_one_more}
+use Rattle.laws.proofs.Lists.{tabulate_append, tabulate_ext}
 use Rattle.laws.proofs.Parts.{part_part, get_d_part}
 use Rattle.node.specs.Node.{value_of}
 use Rattle.storage.specs.Read.{read_value}
@@ -34,23 +33,18 @@ any_append p (x ∷ xs) ys = rw (any_append p xs ys) (or_turned (p x) (any_of p 
     or_turned true b c = refl
     or_turned false b c = refl
 
-module _ {A : Type 0} (p : A → Bool) (f : ℕ → A) where
-  pub any_none : any_of p (tabulate 0 f) ≡ false
-  unfolding tabulate
-  any_none = refl
-
-  pub any_more : (j : ℕ) → any_of p (tabulate j f) ≡ false → p (f j) ≡ false → any_of p (tabulate (j + 1) f) ≡ false
-  any_more j e h = rw (tabulate_one_more, any_append, e, h)
-
-  pub any_found : (k j : ℕ) → j < k → p (f j) ≡ true → any_of p (tabulate k f) ≡ true
-  unfolding tabulate
-  any_found zero j l h = absurd (not-suc-le-zero l)
-  any_found (suc k) j l h =
-      any_append p (tabulate k f) (f k ∷ [])
-      ∙ ⊎_elim
-      (λ (e : j ≡ k). or_second (any_of p (tabulate k f)) (p (f k) || false) (rw (← e, h)))
-      (λ (m : j < k). rw (any_found k j m h))
-      (eq-or-lt_of_le (omega arith))
+-- what `any` answers of the numbers from a on, by a test of what stands at each
+pub any_numbers : {A : Type 0} (p : A → Bool) (f : ℕ → A) (a n : ℕ) → list_any (λ j. p (f j)) (range_with_len a n) ≡ any_of p (tabulate n (λ j. f (a + j)))
+unfolding tabulate
+any_numbers p f a zero = refl
+any_numbers {A} p f a (suc n) =
+    let g : ℕ → A = λ j. f (a + j) in
+    let m : suc n ≡ 1 + n = omega arith in
+    let at : (j : ℕ) → a + (1 + j) ≡ a + 1 + j = λ j. omega arith in
+    let e : tabulate (suc n) g ≡ f a ∷ tabulate n (λ j. f (a + 1 + j)) =
+    ap (λ (k : ℕ). tabulate k g) m ∙ tabulate_append 1 n g
+    ∙ ap₂ (λ (x : A) (xs : List A). x ∷ xs) (ap f (add-zero a)) (tabulate_ext n (λ j. g (1 + j)) (λ j. f (a + 1 + j)) (λ j l. ap f (at j))) in
+    ap (λ (b : Bool). p (f a) || b) (any_numbers p f (a + 1) n) ∙ sym (ap (any_of p) e)
 
 -- the places of a bucket's bytes
 
@@ -64,6 +58,15 @@ module _ (s : List ℕ) (at : ℕ) where
   pub nodes_listed : (count : ℕ) → count ≡ get_or s at 0 → nodes_in (part s at bucket_size) ≡ tabulate count (node_at (part s at bucket_size))
   unfolding nodes_in node_at
   nodes_listed count e = rw (get_d_part s at bucket_size 0 (omega arith), add-zero, ← e)
+
+  -- what `any` answers of the first count places
+  pub any_listed : (p : Node → Bool) (count : ℕ) → count ≡ get_or s at 0
+      → list_any (λ j. p (node_at (part s at bucket_size) j)) (range_with_len 0 count) ≡ any_of p (nodes_in (part s at bucket_size))
+  any_listed p count e =
+      let bs : List ℕ = part s at bucket_size in
+      let same_place : (j : ℕ) → 0 + j ≡ j = λ j. omega arith in
+      any_numbers p (node_at bs) 0 count
+      ∙ ap (any_of p) (tabulate_ext count (λ j. node_at bs (0 + j)) (node_at bs) (λ j l. ap (node_at bs) (same_place j)) ∙ sym (nodes_listed count e))
 
 -- by its first value
 pub three_by : (ns : List Node) → three_of_aNet ns ≡ any_of (λ (a : Node). two_beside a.value ns) ns

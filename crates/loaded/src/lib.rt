@@ -55,14 +55,12 @@ fn disconnected(bytes: &[u8], nodes: usize, from: usize, count: usize) -> usize
     requires count_bound { from + count ≤ nodes }
     ensures { result ≡ disconnected_from bytes.now from count }
 {
-    let mut j: usize = 0;
-    while j < count {
+    for j in 0..count {
         if bytes[model::NUM_BUCKETS + nodes * Layout::KEY + (from + j) * ENTRY] != 0 {
             return j;
         }
-        j += 1;
     }
-    j
+    count
 }
 
 // Bucket i of the bytes as a table stores it, put at `at`, where all is zero. Its first node is that of index `from`.
@@ -78,8 +76,7 @@ fn build(bytes: &[u8], nodes: usize, from: usize, i: usize, s: &mut [u8], at: us
     let first = disconnected(bytes, nodes, from, count);
     words::put_byte(s, at, size);
     words::put_byte(s, at + 1, first as u8);
-    let mut j: usize = 0;
-    while j < count {
+    for j in 0..count {
         copy_node(
             bytes,
             model::NUM_BUCKETS + (from + j) * Layout::KEY,
@@ -87,7 +84,6 @@ fn build(bytes: &[u8], nodes: usize, from: usize, i: usize, s: &mut [u8], at: us
             s,
             at + (Layout::PLACES_AT + j * Layout::NODE),
         );
-        j += 1;
     }
 }
 
@@ -108,15 +104,13 @@ fn is_crowded(s: &[u8], at: usize, count: usize) -> bool
     ensures { result ≡ false → NoThree (octet_at s.now at) count }
 {
     let mut seen = [0u8; 256];
-    let mut j: usize = 0;
-    while j < count {
+    for j in 0..count {
         let place = at + (Layout::PLACES_AT + j * Layout::NODE);
         let octet = well_formed::size(s[place + Layout::VALUE_AT + 3]);
         if 1 < seen[octet] {
             return true;
         }
-        seen[octet] = seen[octet] + 1;
-        j += 1;
+        seen[octet] += 1;
     }
     false
 }
@@ -126,15 +120,10 @@ fn third(s: &[u8], at: usize, count: usize, a: Value, b: Value) -> bool
     requires { (at + bucket_size ≤ length s.now) × (count ≡ get_or s.now at 0) × (count ≤ max_nodes_per_bucket) }
     ensures { result ≡ third_of (value_of a) (value_of b) (nodes_in (part s.now at bucket_size)) }
 {
-    let mut j: usize = 0;
-    while j < count {
+    (0..count).any(|j| {
         let c = value_at(s, at, j);
-        if node::filter::counts(a, c) & node::filter::counts(b, c) {
-            return true;
-        }
-        j += 1;
-    }
-    false
+        node::filter::counts(a, c) & node::filter::counts(b, c)
+    })
 }
 
 // Two of the first count places of the bucket at `at` hold values that count against the value and against each other.
@@ -142,17 +131,10 @@ fn two_beside(s: &[u8], at: usize, count: usize, a: Value) -> bool
     requires { (at + bucket_size ≤ length s.now) × (count ≡ get_or s.now at 0) × (count ≤ max_nodes_per_bucket) }
     ensures { result ≡ two_beside (value_of a) (nodes_in (part s.now at bucket_size)) }
 {
-    let mut j: usize = 0;
-    while j < count {
+    (0..count).any(|j| {
         let b = value_at(s, at, j);
-        if node::filter::counts(a, b) {
-            if third(s, at, count, a, b) {
-                return true;
-            }
-        }
-        j += 1;
-    }
-    false
+        node::filter::counts(a, b) && third(s, at, count, a, b)
+    })
 }
 
 // The bucket at `at` holds three different values of one /24.
@@ -163,15 +145,7 @@ fn three_of_a_net(s: &[u8], at: usize, count: usize) -> bool
     if !is_crowded(s, at, count) {
         return false;
     }
-    let mut j: usize = 0;
-    while j < count {
-        let a = value_at(s, at, j);
-        if two_beside(s, at, count, a) {
-            return true;
-        }
-        j += 1;
-    }
-    false
+    (0..count).any(|j| two_beside(s, at, count, value_at(s, at, j)))
 }
 
 // Question 9 of bucket i of the bytes, which is built in b, where all is zero.
@@ -231,13 +205,11 @@ fn buckets_fit(bytes: &[u8], nodes: usize, local: Key, max_incoming: usize, filt
     ensures { result ≡ all_below num_buckets (bucket_fits (num local) max_incoming filter bytes.now) }
 {
     let mut from: usize = 0;
-    let mut i: usize = 0;
-    while i < model::NUM_BUCKETS {
+    for i in 0..model::NUM_BUCKETS {
         if !bucket_fits(bytes, nodes, from, i, local, max_incoming, filter) {
             return false;
         }
         from += well_formed::size(bytes[i]);
-        i += 1;
     }
     true
 }
@@ -248,10 +220,8 @@ fn saved_nodes(bytes: &[u8]) -> usize
     ensures { (result ≡ saved_count bytes.now) × (result ≤ 255 * num_buckets) }
 {
     let mut n: usize = 0;
-    let mut i: usize = 0;
-    while i < model::NUM_BUCKETS {
-        n += well_formed::size(bytes[i]);
-        i += 1;
+    for b in &bytes[..model::NUM_BUCKETS] {
+        n += usize::from(*b);
     }
     n
 }
@@ -264,13 +234,11 @@ fn holds_nothing(s: &[u8]) -> bool
     if s[Layout::RECORD_COUNT_AT] != 0 {
         return false;
     }
-    let mut i: usize = 0;
-    while i < model::NUM_BUCKETS {
+    for i in 0..model::NUM_BUCKETS {
         let at = Layout::HEADER + i * Layout::BUCKET;
         if !((s[at] == 0) & (s[at + Layout::PENDING_AT] == 0)) {
             return false;
         }
-        i += 1;
     }
     true
 }
@@ -309,8 +277,7 @@ fn load_all(bytes: &[u8], nodes: usize, s: &mut [u8])
     ensures { LoadedFrom s.old bytes.now s.new }
 {
     let mut from: usize = 0;
-    let mut i: usize = 0;
-    while i < model::NUM_BUCKETS {
+    for i in 0..model::NUM_BUCKETS {
         build(
             bytes,
             nodes,
@@ -320,7 +287,6 @@ fn load_all(bytes: &[u8], nodes: usize, s: &mut [u8])
             Layout::HEADER + i * Layout::BUCKET,
         );
         from += well_formed::size(bytes[i]);
-        i += 1;
     }
 }
 

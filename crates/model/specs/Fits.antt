@@ -47,7 +47,7 @@ pub record Formed (max_incoming : ℕ) (b : Bucket) : Type 0 where
 -- with what it asks of the keys' index
 pub record FormedBucket (OfIndex : ℕ → Type 0) (max_incoming : ℕ) (b : Bucket) : Type 0 where
   pub formed : Formed max_incoming b
-  pub of_index_lem : Each (λ (n : Node). OfIndex n.key) Any b
+  pub of_the_index : Each (λ (n : Node). OfIndex n.key) Any b
 
 -- what question 2 asks of bucket i
 abbrev pub WellFormed : Settings → ℕ → Bucket → Type 0

@@ -111,6 +111,6 @@ most (Listing.closest_values x) n = n
 most (Listing.closest_values_predicate x p) n = n
 
 -- the nodes listed: the buckets in their order, cut at n; buckets past those applied add nothing, since these already give n.
--- Proved in crates/laws, DistanceReads, found-reads.
+-- Proved in crates/laws, DistanceReads, found_reads.
 unfoldable pub found : Listing → ℕ → ℕ → Table → List Node
 found l n now t = take (most l n) (joined (shown l n now t) (visit_order l t))

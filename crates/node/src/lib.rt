@@ -16,7 +16,7 @@ pub mod filter;
 pub type Slot = u64;
 
 // An optional IPv4 address and a slot of the host's record store. An absent address has flag 0 and zero octets.
-#[derive(Clone, Copy)]
+#[derive(Clone, Copy, Default)]
 pub struct Value {
     pub flag: u8,
     pub a: u8,
@@ -40,22 +40,8 @@ pub enum ConnectionDirection {
     Outgoing,
 }
 
-// What a code says: the number of the question that failed, or the state.
-#[derive(Clone, Copy)]
-pub enum StateAnswer {
-    Refused(u8),
-    Answered(ConnectionState),
-}
-
-// The same of a direction.
-#[derive(Clone, Copy)]
-pub enum DirectionAnswer {
-    Refused(u8),
-    Answered(ConnectionDirection),
-}
-
 // The status of a node in a bucket, by the codes of question 4.
-#[derive(Clone, Copy)]
+#[derive(Clone, Copy, PartialEq, Eq, Default)]
 pub struct NodeStatus {
     // 0 disconnected, 1 connected.
     pub state: u8,
@@ -64,7 +50,7 @@ pub struct NodeStatus {
 }
 
 // A node in a bucket: a peer's key, the value that goes with it, and its status.
-#[derive(Clone, Copy)]
+#[derive(Clone, Copy, Default)]
 pub struct Node {
     pub key: Key,
     pub value: Value,
@@ -73,16 +59,14 @@ pub struct Node {
 
 impl ConnectionState {
     // The state of a code. Refuses a code over 1 with 4.
-    pub fn from_code(code: u8) -> StateAnswer
+    pub fn from_code(code: u8) -> Result<ConnectionState, u8>
         ensures { result ≡ state_of code }
     {
-        if code == 1 {
-            return StateAnswer::Answered(ConnectionState::Connected);
+        match code {
+            0 => Ok(ConnectionState::Disconnected),
+            1 => Ok(ConnectionState::Connected),
+            _ => Err(4),
         }
-        if code == 0 {
-            return StateAnswer::Answered(ConnectionState::Disconnected);
-        }
-        StateAnswer::Refused(4)
     }
 
     pub fn code(self) -> u8
@@ -97,16 +81,14 @@ impl ConnectionState {
 
 impl ConnectionDirection {
     // The direction of a code. Refuses a code over 1 with 4.
-    pub fn from_code(code: u8) -> DirectionAnswer
+    pub fn from_code(code: u8) -> Result<ConnectionDirection, u8>
         ensures { result ≡ direction_of code }
     {
-        if code == 1 {
-            return DirectionAnswer::Answered(ConnectionDirection::Incoming);
+        match code {
+            0 => Ok(ConnectionDirection::Outgoing),
+            1 => Ok(ConnectionDirection::Incoming),
+            _ => Err(4),
         }
-        if code == 0 {
-            return DirectionAnswer::Answered(ConnectionDirection::Outgoing);
-        }
-        DirectionAnswer::Refused(4)
     }
 
     pub fn code(self) -> u8
@@ -142,7 +124,8 @@ impl Value {
 
     pub const BYTES: usize = Value::ADDRESS + Value::SLOT;
 
-    // Values are equal when all of it is equal.
+    // Values are equal when both have one address, or neither has one, and their slots are equal. It is no derived `==`: the octets of two values
+    // without an address are not compared.
     pub fn eq(self, other: Value) -> bool
         ensures { result ≡ same_value (value_of self) (value_of other) }
     {
@@ -171,14 +154,15 @@ impl Node {
     pub fn is_connected(self) -> bool
         ensures { result ≡ (node_of self).connected }
     {
-        self.status.state == 1
+        self.status.is_connected()
     }
 
     // A connected incoming node.
     pub fn is_connected_incoming(self) -> bool
         ensures { result ≡ connected_incoming (node_of self) }
     {
-        (self.status.state == 1) & (self.status.direction == 1)
+        let status = self.status;
+        status.is_connected() && status.is_incoming()
     }
 
     // Question 4 of a node: state and direction 0 or 1, and the value's codes.
@@ -193,65 +177,37 @@ impl Node {
     pub fn zero() -> Node
         ensures { result ≡ zero_node }
     {
-        let key = Key {
-            w0: 0,
-            w1: 0,
-            w2: 0,
-            w3: 0,
-        };
-        let value = Value {
-            flag: 0,
-            a: 0,
-            b: 0,
-            c: 0,
-            d: 0,
-            slot: 0,
-        };
-        let status = NodeStatus {
-            state: 0,
-            direction: 0,
-        };
-        Node { key, value, status }
+        Node::default()
     }
 
-    // Does an unused place hold this?
+    // Does an unused place hold this? The value's fields are compared one by one, since a value has no `==`.
     pub fn is_zero(self) -> bool
         ensures { result ≡ is_zero self }
     {
-        let k = self.key;
         let v = self.value;
-        let key = (k.w0 == 0) & ((k.w1 == 0) & ((k.w2 == 0) & (k.w3 == 0)));
         let value = (v.flag == 0)
             & ((v.a == 0) & ((v.b == 0) & ((v.c == 0) & ((v.d == 0) & (v.slot == 0)))));
-        key & (value & ((self.status.state == 0) & (self.status.direction == 0)))
+        self.key == Key::default() && value && self.status == NodeStatus::default()
     }
 
     // The node with another status; direction 2 is none given, and the old one stays.
     pub fn with_status(self, state: u8, direction: u8) -> Node
         ensures { result ≡ restated state direction self }
     {
-        let key = self.key;
-        let value = self.value;
-        if direction == 2 {
-            let kept = NodeStatus {
-                state,
-                direction: self.status.direction,
-            };
-            return Node {
-                key,
-                value,
-                status: kept,
-            };
+        let direction = if direction == 2 {
+            self.status.direction
+        } else {
+            direction
+        };
+        Node {
+            status: NodeStatus { state, direction },
+            ..self
         }
-        let status = NodeStatus { state, direction };
-        Node { key, value, status }
     }
 
     pub fn with_value(self, value: Value) -> Node
         ensures { result ≡ revalued value self }
     {
-        let key = self.key;
-        let status = self.status;
-        Node { key, value, status }
+        Node { value, ..self }
     }
 }

@@ -15,8 +15,6 @@ use Rattle.model.specs.Layout.{table_of}
 use Rattle.model.specs.Formed.{bucket_formed_at, formed}
 use Rattle.laws.proofs.TableBytes.{header_passes, bucket_passes}
 use Rattle.laws.proofs.Questions.{front_fails, front_passes}
-use Rattle.key.specs.declared.BucketIndex.{BucketIndex}
-use Rattle.key.specs.Answers.{bucket_index_of}
 use Rattle.bucket.specs.declared.KBucket.{KBucket}
 use Rattle.bucket.specs.Bucket.{bucket_of, settings_of, Becomes, Sound}
 use Rattle.bucket.proofs.Steps.{told, then_becomes}
@@ -24,11 +22,6 @@ use Rattle.on_key.specs.declared.Start.{Start}
 use Rattle.on_key.specs.Answers.{first_five, failed_of_five, Ready, Timely}
 use Rattle.on_key.specs.Start.{own_formed, key_formed, failed_at_start, Located, Begun}
 use Rattle.on_key.proofs.Questions.{passed_five}
-
--- the key's index, by what was answered for the key's number
-pub index_told : (s key : List ℕ) {k : ℕ} {r v : BucketIndex} → k ≡ number key → bucket_index_of r ≡ index_in (table_of s) k → r ≡ v
-    → index_in (table_of s) (number key) ≡ bucket_index_of v
-index_told s key e f g = ap (index_in (table_of s)) (sym e) ∙ sym f ∙ ap bucket_index_of g
 
 -- every bucket of formed storage is ready
 pub ready_at : (s : List ℕ) (i : ℕ) → length s ≡ storage_size → formed s ≡ true → i < num_buckets → Ready s i

@@ -9,14 +9,14 @@ ghost use Rattle.model.specs.Sizes.{key_size, storage_size};
 ghost use Rattle.model.specs.Layout.{table_of};
 ghost use Rattle.model.specs.Formed.{header_formed};
 ghost use Rattle.key.specs.Key.{num};
-ghost use Rattle.key.specs.Answers.{bucket_index_of};
+ghost use Rattle.key.specs.Answers.{option_of};
 ghost use Rattle.bucket.specs.Bucket.{pending_of, bucket_of, Sound};
 ghost use Rattle.bucket.specs.Calls.{records_of, applied_codes};
 ghost use Rattle.on_key.specs.Answers.{refusal, failed_of_two, failed_of_table, failed_of_three, failed_of_five, Ready, Timely, is_due, AppliedAt, either_of, gone, room_for, rewritten};
 ghost use Rattle.on_key.specs.Start.{Located, Begun};
 
 use bucket::{Applied, EndedPending, Ending, KBucket, Pending};
-use key::{BucketIndex, Key};
+use key::Key;
 use storage::Layout;
 
 // Internal: the first failed question of 1 and 2, or 0. 2 is asked of the settings and the queue (document 02, slip 7).
@@ -98,13 +98,12 @@ pub fn key_of(key: &[u8]) -> Key
     Key::load(key, 0)
 }
 
-// Internal: the index of the key's bucket; nothing for the local key.
-pub fn index_of(s: &[u8], key: Key) -> BucketIndex
+// Internal: the index of the key's bucket; none for the local key.
+pub fn index_of(s: &[u8], key: Key) -> Option<usize>
     requires { length s.now ≡ storage_size }
-    ensures { bucket_index_of result ≡ index_in (table_of s.now) (num key) }
+    ensures { option_of result ≡ index_in (table_of s.now) (num key) }
 {
-    let local = header::local_key(s);
-    local.bucket_index(key)
+    header::local_key(s).bucket_index(key)
 }
 
 // Internal: bucket i has a pending that is due.
@@ -198,16 +197,13 @@ pub fn located(s: &[u8], key: &[u8]) -> Start
     ensures { Located s.now key.now result }
 {
     let k = key_of(key);
-    let index = index_of(s, k);
-    match index {
-        BucketIndex::Nothing => Start::Local,
-        BucketIndex::At(i) => {
-            if !well_formed::bucket_formed_at(s, i) {
-                return Start::Refused(2);
-            }
-            Start::At(k, i)
-        }
+    let Some(i) = index_of(s, k) else {
+        return Start::Local;
+    };
+    if !well_formed::bucket_formed_at(s, i) {
+        return Start::Refused(2);
     }
+    Start::At(k, i)
 }
 
 // Internal: questions 1 to 4 of a call without a time, then 2 of the key's bucket.

@@ -1,26 +1,30 @@
--- One step of a loop over the first n elements of a list l, at index i: what is left to look at is `slice i n l`.
-use mathlib.Core.Path.{◌≡◌, refl, sym, ap, ◌∙◌}
+-- One step of a loop over the first n elements of a list l, at index i: what is left to look at is `slice i n l`. And what a chain over a list answers.
+use mathlib.Core.Path.{◌≡◌, refl, ap, ◌∙◌}
 use mathlib.Core.Bool.{Bool, true, false, cond, not, ◌&&◌}
 use mathlib.Core.List.{List, [], ◌∷◌, map}
 use Prim.Native.Nat.{ℕ, suc, ◌+◌, ◌-◌, ◌≤◌, ◌<◌, zero-le, suc-le-suc}
 use native.Mathlib.Nat.{le_of_suc-le-suc, not-suc-le-zero}
 use native.Mathlib.Omega.{arith}
 use native.Mathlib.Numerals.{add-one}
-use lib.ListN.{length, get_or}
+use lib.ListN.{length, get_or, take, drop}
 use lib.Dec.{eqb, leb, ltb}
 use borrow.Author.Tests.{le-ltb, lt-ltb, leb-true, leb-false}
 use mir.Val.{bool_byte}
 use lib.Seq.{slice, slice-cons, length-slice}
+use Rattle.std.specs.List.{filter, list_all, AllWithin}
+use Rattle.std.specs.Bool.{MatchBool}
+use Rattle.std.proofs.lemmas.List.{drop-take}
+use borrow.Rule.Slice.PartMut.{mid_of}
 use Rattle.model.specs.Base.{every, select}
 use Rattle.model.specs.Base.{same}
 use Rattle.model.specs.Fits.{All}
 use Rattle.model.specs.Node as model
 use Rattle.model.specs.Filter.{counted, ip_filter_fails}
-use Rattle.laws.proofs.Tests.{split}
+use Rattle.laws.proofs.Tests.{split, clash}
 use Rattle.node.specs.declared.Value.{Value}
 use Rattle.node.specs.declared.Node.{Node}
 use Rattle.node.specs.Node.{node_of, value_of}
-use Rattle.places.specs.Places.{before, passing, position, different}
+use Rattle.places.specs.Places.{before, position, different}
 
 module _ {A : Type 0} (p : A → Bool) (l : List A) (n i : ℕ) (d : A) (k : i < n) (h : n ≤ length l) where
   pub before_hit : p (get_or l i d) ≡ true → before p (slice i n l) ≡ 0
@@ -29,37 +33,40 @@ module _ {A : Type 0} (p : A → Bool) (l : List A) (n i : ℕ) (d : A) (k : i <
   pub before_miss : p (get_or l i d) ≡ false → before p (slice i n l) ≡ before p (slice (i + 1) n l) + 1
   before_miss e = rw (slice-cons i n l d k h, e, add-one, add-one)
 
-  pub every_hit : (t : Bool) → t ≡ p (get_or l i d) → t ≡ true → every p (slice i n l) ≡ every p (slice (i + 1) n l)
-  every_hit t f e = rw (slice-cons i n l d k h, sym f ∙ e, add-one)
-
-  pub every_miss : (t : Bool) → t ≡ p (get_or l i d) → t ≡ false → every p (slice i n l) ≡ false
-  every_miss t f e = rw (slice-cons i n l d k h, sym f ∙ e)
-
-  pub all_hit : (P : A → Type 0) → P (get_or l i d) → All P (slice (i + 1) n l) → All P (slice i n l)
-  all_hit P a r = rw (slice-cons i n l d k h) (a, rw add-one at r)
-
 -- a test's flag as a number, as the code's `flag as usize` has it
 pub flag≤1 : (b : Bool) → bool_byte b ≤ 1
 flag≤1 true = omega arith
 flag≤1 false = omega arith
 
-one_more : {A : Type 0} (p : A → Bool) (x : A) (xs : List A) (b : Bool) → b ≡ p x → passing p (x ∷ xs) ≡ bool_byte b + passing p xs
-one_more p x xs true e = rw (← e) (omega arith)
-one_more p x xs false e = rw (← e) (omega arith)
+-- how many of a list pass a test on what f gives of them, as a chain over the list counts them
+pub filter_select : {A B : Type 0} (p : B → Bool) (f : A → B) (xs : List A) → length (filter (λ (x : A). p (f x)) xs) ≡ length (select p (map f xs))
+filter_select p f [] = refl
+filter_select {A} p f (x ∷ xs) = go (p (f x)) (filter_select p f xs)
+  where
+    go : (t : Bool) → length (filter (λ (y : A). p (f y)) xs) ≡ length (select p (map f xs))
+        → length (cond t (x ∷ filter (λ (y : A). p (f y)) xs) (filter (λ (y : A). p (f y)) xs)) ≡ length (cond t (f x ∷ select p (map f xs)) (select p (map f xs)))
+    go true e = ap suc e
+    go false e = e
 
-pub passing_step : {A : Type 0} (p : A → Bool) (l : List A) (n i : ℕ) (d : A) (b : Bool) → i < n → n ≤ length l → b ≡ p (get_or l i d)
-    → passing p (slice i n l) ≡ bool_byte b + passing p (slice (i + 1) n l)
-passing_step p l n i d b k h e = rw (slice-cons i n l d k h, add-one) (one_more p (get_or l i d) (slice (suc i) n l) b e)
+-- whether all of a list pass a test, as a chain over the list answers it
+pub list_all_every : {A : Type 0} (p : A → Bool) (xs : List A) → list_all p xs ≡ every p xs
+list_all_every p [] = refl
+list_all_every p (x ∷ xs) = ap (λ (t : Bool). p x && t) (list_all_every p xs)
 
--- how many pass is the length of those selected
-step : {A : Type 0} (t : Bool) (x : A) (k : ℕ) (xs : List A) → k ≡ length xs → cond t (suc k) k ≡ length (cond t (x ∷ xs) xs)
-step true x k xs e = ap suc e
-step false x k xs e = e
+all_placed : {A : Type 0} (P : A → Type 0) (xs : List A) → AllWithin P xs 0 (length xs) → All P xs
+all_placed P [] h = tt
+all_placed P (x ∷ xs) h = (h 0 x zero-le (omega arith), all_placed P xs (λ k d l m. h (suc k) d zero-le (suc-le-suc m)))
 
-pub passing_select : {A B : Type 0} (p : B → Bool) (f : A → B) (xs : List A) → passing (λ (x : A). p (f x)) xs ≡ length (select p (map f xs))
-passing_select p f [] = refl
-passing_select p f (x ∷ xs) =
-    step (p (f x)) (f x) (passing (λ y. p (f y)) xs) (select p (map f xs)) (passing_select p f xs)
+-- what holds of each element where a chain over the list answers yes
+pub all_of_chain : {A : Type 0} (P : A → Type 0) (Q : Type 0) (r : Bool) (xs : List A) → MatchBool r (AllWithin P xs 0 (length xs)) Q → r ≡ true → All P xs
+all_of_chain P Q true xs h e = all_placed P xs h
+all_of_chain P Q false xs h e = clash e refl
+
+-- the part of a list from f on and below t
+pub slice_part : {A : Type 0} (f t : ℕ) (xs : List A) → f ≤ t → slice f t xs ≡ mid_of f (t - f) xs
+slice_part f t xs h =
+    let whole : t ≡ f + (t - f) = omega arith in
+    ap (λ (k : ℕ). drop f (take k xs)) whole ∙ drop-take f (t - f) xs
 
 le_step : (b : Bool) (m n : ℕ) → m ≤ n → cond b 0 (suc m) ≤ suc n
 le_step true m n h = zero-le
@@ -117,23 +124,6 @@ module _ (l : List Node) (n i : ℕ) (d : Node) (k : i < n) (h : n ≤ length l)
         none_passes (λ (m : Node). same (node_of m).key key) (slice (suc i) n l) (rw long z'),
         add-one,
       )
-
--- Three tests in a row.
-
-pub fails_first : (a b c : Bool) → a ≡ false → false ≡ (a && (b && c))
-fails_first a b c e = rw e
-
-pub fails_second : (a b c : Bool) → b ≡ false → false ≡ (a && (b && c))
-fails_second true b c e = rw e
-fails_second false b c e = refl
-
-pub fails_third : (a b c : Bool) → c ≡ false → false ≡ (a && (b && c))
-fails_third true true c e = rw e
-fails_third true false c e = refl
-fails_third false b c e = refl
-
-pub passes_all : (a b c : Bool) → a ≡ true → b ≡ true → c ≡ true → true ≡ (a && (b && c))
-passes_all a b c e f g = rw (e, f, g)
 
 -- The IP filter.
 

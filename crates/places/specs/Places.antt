@@ -11,11 +11,6 @@ abbrev pub before : {A : Type 0} → (A → Bool) → List A → ℕ
 before p [] = 0
 before p (x ∷ xs) = cond (p x) 0 (suc (before p xs))
 
--- how many pass the test
-abbrev pub passing : {A : Type 0} → (A → Bool) → List A → ℕ
-passing p [] = 0
-passing p (x ∷ xs) = cond (p x) (suc (passing p xs)) (passing p xs)
-
 -- the place of the node with this key, or the number of nodes where none has it
 abbrev pub position : ℕ → List Node → ℕ
 position k ns = before (λ (n : Node). same (node_of n).key k) ns

@@ -21,15 +21,12 @@ pub fn position(nodes: [Node; 16], from: usize, n: usize, key: Key) -> usize
     requires n_le_max_nodes_per_bucket { n ≤ max_nodes_per_bucket }
     ensures { result ≡ from + position (num key) (slice from n nodes) }
 {
-    let mut i: usize = from;
-    while i < n {
-        let node = nodes[i];
-        if node.key.eq(key) {
+    for i in from..n {
+        if nodes[i].key.eq(key) {
             return i;
         }
-        i += 1;
     }
-    i
+    n
 }
 
 // Internal: how many of the first n are connected and incoming.
@@ -37,14 +34,10 @@ pub fn incoming(nodes: [Node; 16], n: usize) -> usize
     requires { n ≤ max_nodes_per_bucket }
     ensures { result ≡ length (incoming_nodes (map node_of (take n nodes))) }
 {
-    let mut found: usize = 0;
-    let mut i: usize = 0;
-    while i < n {
-        let node = nodes[i];
-        found += node.is_connected_incoming() as usize;
-        i += 1;
-    }
-    found
+    nodes[..n]
+        .iter()
+        .filter(|node| node.is_connected_incoming())
+        .count()
 }
 
 // The IP filter (filter.rs): does the value pass? It fails where it has an address and at least `limit` of the values in the first count
@@ -56,13 +49,10 @@ pub fn ip_filter(nodes: [Node; 16], count: usize, value: Value, limit: usize) ->
         return true;
     }
     let n = within(count);
-    let mut found: usize = 0;
-    let mut i: usize = 0;
-    while i < n {
-        let node = nodes[i];
-        found += node::filter::counts(value, node.value) as usize;
-        i += 1;
-    }
+    let found = nodes[..n]
+        .iter()
+        .filter(|node| node::filter::counts(value, node.value))
+        .count();
     found < limit
 }
 
@@ -71,10 +61,7 @@ fn within(count: usize) -> usize
     ensures upper_bound { result ≤ max_nodes_per_bucket }
     ensures l_value { (l : List Node) → length l ≡ max_nodes_per_bucket → take result l ≡ take count l }
 {
-    if 16 < count {
-        return 16;
-    }
-    count
+    count.min(16)
 }
 
 // Internal: the node goes to place pos. Those from there on move up by one, and the last drops out.
@@ -83,11 +70,7 @@ pub fn insert_at(nodes: [Node; 16], pos: usize, node: Node) -> [Node; 16]
     ensures { result ≡ take max_nodes_per_bucket (insert_at pos node nodes) }
 {
     let mut out = nodes;
-    let mut i: usize = 15;
-    while pos < i {
-        out[i] = out[i - 1];
-        i -= 1;
-    }
+    out[pos..].rotate_right(1);
     out[pos] = node;
     out
 }
@@ -98,11 +81,7 @@ pub fn remove_at(nodes: [Node; 16], pos: usize) -> [Node; 16]
     ensures { result ≡ remove_at pos nodes ++ (zero_node ∷ []) }
 {
     let mut out = nodes;
-    let mut i: usize = pos;
-    while i < 15 {
-        out[i] = out[i + 1];
-        i += 1;
-    }
+    out[pos..].rotate_left(1);
     out[15] = Node::zero();
     out
 }
@@ -116,31 +95,9 @@ pub fn in_places(nodes: [Node; 16], first: usize, n: usize) -> bool
     ensures all { result ≡ true → All (λ (n : Node). Words n.key) (slice 0 first nodes) × All (λ (n : Node). Words n.key) (slice first n nodes) }
     ensures nodes_len { length nodes ≡ max_nodes_per_bucket }
 {
-    let mut i: usize = 0;
-    while i < first {
-        let node = nodes[i];
-        if !has_state(node, 0) {
-            return false;
-        }
-        i += 1;
-    }
-    let mut j: usize = first;
-    while j < n {
-        let node = nodes[j];
-        if !has_state(node, 1) {
-            return false;
-        }
-        j += 1;
-    }
-    let mut k: usize = n;
-    while k < 16 {
-        let node = nodes[k];
-        if !node.is_zero() {
-            return false;
-        }
-        k += 1;
-    }
-    true
+    nodes[..first].iter().all(|node| has_state(*node, 0))
+        && nodes[first..n].iter().all(|node| has_state(*node, 1))
+        && nodes[n..].iter().all(|node| node.is_zero())
 }
 
 fn has_state(node: Node, state: u8) -> bool
@@ -156,19 +113,12 @@ pub fn all_different(nodes: [Node; 16], n: usize) -> bool
     requires { n ≤ max_nodes_per_bucket }
     ensures { result ≡ different (map node_of (take n nodes)) }
 {
-    let mut i: usize = 0;
-    while i < n {
-        let node = nodes[i];
-        let key = node.key;
-        let mut j: usize = i + 1;
-        while j < n {
-            let other = nodes[j];
-            if other.key.eq(key) {
+    for i in 0..n {
+        for j in i + 1..n {
+            if nodes[j].key.eq(nodes[i].key) {
                 return false;
             }
-            j += 1;
         }
-        i += 1;
     }
     true
 }

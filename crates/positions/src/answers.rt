@@ -1,23 +1,20 @@
 // The answers as numbers and tests, so that they can be checked, and in words.
 ghost use Rattle.std.specs.Prelude.{◌≡◌};
 ghost use Rattle.key.specs.Key.{num};
-ghost use Rattle.key.specs.Answers.{bucket_index_of};
+ghost use Rattle.key.specs.Answers.{option_of};
 ghost use Rattle.model.specs.Result.{Reply};
 ghost use Rattle.bucket.specs.Calls.{insert_answer_of, apply_answer_of, update_answer_of, insert_result_of, update_result_of};
 ghost use Rattle.positions.specs.Positions.{index_number, insert_number, names_key, update_number, none_applied, applied_key};
 
 use bucket::{ApplyAnswer, EndedPending, InsertAnswer, InsertResult, UpdateAnswer, UpdateResult};
-use key::{BucketIndex, Key};
+use key::Key;
 use std::io;
 
 // The index, or 256 for none.
-pub(crate) fn index_number(i: BucketIndex) -> usize
-    ensures { result ≡ index_number (bucket_index_of i) }
+pub(crate) fn index_number(i: Option<usize>) -> usize
+    ensures { result ≡ index_number (option_of i) }
 {
-    match i {
-        BucketIndex::At(n) => n,
-        BucketIndex::Nothing => 256,
-    }
+    i.unwrap_or(256)
 }
 
 // The number of the question that failed, or 10 and more for a result.
@@ -56,14 +53,7 @@ pub(crate) fn names(a: InsertAnswer, key: Key) -> bool
 fn result_names(r: InsertResult, key: Key) -> bool
     ensures { result ≡ names_key (num key) (Reply.Answered (insert_result_of r)) }
 {
-    match r {
-        InsertResult::Inserted => false,
-        InsertResult::Pending(k) => k.eq(key),
-        InsertResult::FailedFilter => false,
-        InsertResult::TooManyIncoming => false,
-        InsertResult::Full => false,
-        InsertResult::NodeExists => false,
-    }
+    matches!(r, InsertResult::Pending(k) if k.eq(key))
 }
 
 // The number of the question that failed, or 10 and more for a result.
@@ -92,15 +82,7 @@ fn update_result_number(r: UpdateResult) -> u8
 pub(crate) fn none_applied(a: ApplyAnswer) -> bool
     ensures { result ≡ none_applied (apply_answer_of a) }
 {
-    match a {
-        ApplyAnswer::Refused(_) => false,
-        ApplyAnswer::Answered(p) => match p {
-            EndedPending::Nothing => true,
-            EndedPending::Placed(_) => false,
-            EndedPending::Replaced(_, _) => false,
-            EndedPending::Dropped(_, _) => false,
-        },
-    }
+    matches!(a, ApplyAnswer::Answered(EndedPending::Nothing))
 }
 
 // Was the pending of this key ended?
@@ -108,13 +90,10 @@ pub(crate) fn applied_key(a: ApplyAnswer, key: Key) -> bool
     ensures { result ≡ applied_key (num key) (apply_answer_of a) }
 {
     match a {
-        ApplyAnswer::Refused(_) => false,
-        ApplyAnswer::Answered(p) => match p {
-            EndedPending::Nothing => false,
-            EndedPending::Placed(k) => k.eq(key),
-            EndedPending::Replaced(k, _) => k.eq(key),
-            EndedPending::Dropped(k, _) => k.eq(key),
-        },
+        ApplyAnswer::Refused(_) | ApplyAnswer::Answered(EndedPending::Nothing) => false,
+        ApplyAnswer::Answered(
+            EndedPending::Placed(k) | EndedPending::Replaced(k, _) | EndedPending::Dropped(k, _),
+        ) => k.eq(key),
     }
 }
 
@@ -123,10 +102,10 @@ pub(crate) fn say_key(rt: &impl Print, k: Key) -> io::Result<()> {
     rt.print(k.w3)
 }
 
-pub(crate) fn say_index(rt: &impl Print, i: BucketIndex) -> io::Result<()> {
+pub(crate) fn say_index(rt: &impl Print, i: Option<usize>) -> io::Result<()> {
     match i {
-        BucketIndex::At(n) => rt.print(n),
-        BucketIndex::Nothing => print!(rt; "none"),
+        Some(n) => print!(rt; "{n}"),
+        None => print!(rt; "none"),
     }
 }
 

@@ -4,14 +4,14 @@ ghost use Rattle.std.proofs.Math.Option.{none, some};
 ghost use Rattle.model.specs.Node.{Ending};
 ghost use Rattle.model.specs.Bucket.{first_connected_pos};
 ghost use Rattle.model.specs.Result.{BucketInsertResult, UpdateResult, Reply};
-ghost use Rattle.key.specs.Answers.{bucket_index_of};
+ghost use Rattle.key.specs.Answers.{option_of};
 ghost use Rattle.node.specs.Node.{node_of};
 ghost use Rattle.bucket.specs.Bucket.{bucket_of, key_at};
 ghost use Rattle.bucket.specs.Calls.{insert_answer_of, apply_answer_of, update_answer_of};
 ghost use Rattle.positions.specs.Positions.{key_from, plain, addressed, node_from, emptied, filled, index_of};
 
 use bucket::{ApplyAnswer, InsertAnswer, KBucket, UpdateReply};
-use key::{BucketIndex, ClosestBucketsIter, Key};
+use key::{ClosestBucketsIter, Key};
 use node::{Node, NodeStatus, Value};
 
 // What two inserts answered.
@@ -31,10 +31,10 @@ pub struct Applies {
 // The first four buckets of a visit.
 #[derive(Clone, Copy)]
 pub struct Visits {
-    pub first: BucketIndex,
-    pub second: BucketIndex,
-    pub third: BucketIndex,
-    pub fourth: BucketIndex,
+    pub first: Option<usize>,
+    pub second: Option<usize>,
+    pub third: Option<usize>,
+    pub fourth: Option<usize>,
 }
 
 // The key of a number.
@@ -42,10 +42,8 @@ pub(crate) fn key_from(k: u64) -> Key
     ensures { result ≡ key_from k }
 {
     Key {
-        w0: 0,
-        w1: 0,
-        w2: 0,
         w3: k,
+        ..Key::default()
     }
 }
 
@@ -76,7 +74,7 @@ pub(crate) fn node_at(k: u64, d: u8) -> Node
         a: 10,
         b: 0,
         c: 0,
-        d: d,
+        d,
         slot: 0,
     };
     let status = NodeStatus {
@@ -100,56 +98,39 @@ pub(crate) fn fill(b: KBucket, k: u64, n: u64, state: u8) -> KBucket
     ensures { result ≡ filled n k state b }
 {
     let mut bucket = b;
-    let mut key = k;
-    let mut left = n;
-    while 0 < left {
+    for key in k..k + n {
         let node = node_from(key, state, 0);
         let r = bucket.insert(node, 0);
         bucket = r.bucket;
-        key += 1;
-        left -= 1;
     }
     bucket
 }
 
 // 1 and 2: the index of the key whose highest word is w0 and whose lowest is w3.
-pub(crate) fn index_of(w0: u64, w3: u64) -> BucketIndex
-    ensures { bucket_index_of result ≡ index_of w0 w3 }
+pub(crate) fn index_of(w0: u64, w3: u64) -> Option<usize>
+    ensures { option_of result ≡ index_of w0 w3 }
 {
-    let local = key_from(0);
     let key = Key {
-        w0: w0,
-        w1: 0,
-        w2: 0,
-        w3: w3,
+        w0,
+        w3,
+        ..Key::default()
     };
-    local.bucket_index(key)
+    Key::default().bucket_index(key)
 }
 
 // 5: target 0, first four visits.
 pub(crate) fn row5() -> Visits
-    ensures first_value { bucket_index_of result.first ≡ some 0 }
-    ensures second_value { bucket_index_of result.second ≡ some 0 }
-    ensures third_value { bucket_index_of result.third ≡ some 1 }
-    ensures fourth_value { bucket_index_of result.fourth ≡ some 2 }
+    ensures first_value { option_of result.first ≡ some 0 }
+    ensures second_value { option_of result.second ≡ some 0 }
+    ensures third_value { option_of result.third ≡ some 1 }
+    ensures fourth_value { option_of result.fourth ≡ some 2 }
 {
-    let it = ClosestBucketsIter::new(key_from(0));
-    let a = it.next();
-    let i = a.iter;
-    let b = i.next();
-    let j = b.iter;
-    let c = j.next();
-    let k = c.iter;
-    let d = k.next();
-    let first = a.index;
-    let second = b.index;
-    let third = c.index;
-    let fourth = d.index;
+    let mut visit = ClosestBucketsIter::new(Key::default());
     Visits {
-        first,
-        second,
-        third,
-        fourth,
+        first: visit.next(),
+        second: visit.next(),
+        third: visit.next(),
+        fourth: visit.next(),
     }
 }
 

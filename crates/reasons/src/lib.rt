@@ -7,7 +7,7 @@ ghost use Rattle.model.specs.Explain as model;
 ghost use Rattle.model.specs.Explain.{full_reason, insert_reason, reinsert_reason, if_pending_reason, status_reason, value_reason, update_node_reason, insert_or_update_reason, remove_reason, table_filter_reason};
 ghost use Rattle.key.specs.Key.{num};
 ghost use Rattle.node.specs.Node.{value_of, node_of, value_codes, node_codes};
-ghost use Rattle.bucket.specs.Bucket.{key_at, bucket_of, settings_of, Sound};
+ghost use Rattle.bucket.specs.Bucket.{pending_of, key_at, bucket_of, settings_of, Sound};
 ghost use Rattle.reasons.specs.Reasons.{Plain, Tells};
 
 use bucket::{KBucket, Pending};
@@ -26,13 +26,9 @@ fn full_reason(b: KBucket, node: Node) -> Reason
     if b.first_connected_pos == 0 {
         return Reason::AllConnected;
     }
-    let p = b.pending;
-    match p {
+    match b.pending {
         Pending::Nothing => Reason::None,
-        Pending::Waiting(waiting, _) => {
-            let key = waiting.key;
-            Reason::Pending(key)
-        }
+        Pending::Waiting(waiting, _) => Reason::Pending(waiting.key),
     }
 }
 
@@ -41,33 +37,30 @@ pub fn insert_reason(b: KBucket, node: Node) -> Why
     requires { Sound b }
     ensures { Tells (λ _. insert_reason (settings_of b) (node_of node) (bucket_of b)) result }
 {
-    let value = node.value;
-    if b.fails_filter(value) {
+    let none = Why {
+        reason: Reason::None,
+        bucket: b,
+        value: node.value,
+    };
+    if b.fails_filter(node.value) {
         return Why {
             reason: Reason::BucketFilter,
-            bucket: b,
-            value: value,
+            ..none
         };
     }
     if b.is_max_incoming(node) {
         return Why {
             reason: Reason::IncomingLimit,
-            bucket: b,
-            value: value,
+            ..none
         };
     }
     if b.count < KBucket::MAX_NODES_PER_BUCKET {
-        return Why {
-            reason: Reason::None,
-            bucket: b,
-            value: value,
-        };
+        return none;
     }
     let full = full_reason(b, node);
     Why {
         reason: full,
-        bucket: b,
-        value: value,
+        ..none
     }
 }
 
@@ -76,56 +69,45 @@ fn reinsert_reason(left: KBucket, node: Node) -> Why
     requires { Sound left }
     ensures { Tells (λ _. reinsert_reason (settings_of left) (node_of node) (bucket_of left)) result }
 {
-    let value = node.value;
-    if left.fails_filter(value) {
+    let none = Why {
+        reason: Reason::None,
+        bucket: left,
+        value: node.value,
+    };
+    if left.fails_filter(node.value) {
         return Why {
             reason: Reason::BucketFilter,
-            bucket: left,
-            value: value,
+            ..none
         };
     }
     if left.is_max_incoming(node) {
         return Why {
             reason: Reason::IncomingLimit,
-            bucket: left,
-            value: value,
+            ..none
         };
     }
-    Why {
-        reason: Reason::None,
-        bucket: left,
-        value: value,
+    none
+}
+
+// The reason of a step on a key that is not held: none where it is pending.
+fn if_pending_reason(p: Pending, key: Key) -> Reason
+    ensures { Plain (if_pending_reason (num key) (pending_of p)) result }
+{
+    match p {
+        Pending::Waiting(node, _) if node.key.eq(key) => Reason::None,
+        _ => Reason::NoSuchKey,
     }
 }
 
-// A step on a key that is not held: none where it is pending.
+// A step on a key that is not held.
 fn pending_reason(b: KBucket, key: Key) -> Why
     requires { Sound b }
     ensures { Tells (λ _. if_pending_reason (num key) (bucket_of b).pending) result }
 {
-    let z = Node::zero();
-    let value = z.value;
-    let p = b.pending;
-    match p {
-        Pending::Nothing => Why {
-            reason: Reason::NoSuchKey,
-            bucket: b,
-            value: value,
-        },
-        Pending::Waiting(node, _) => {
-            if node.key.eq(key) {
-                return Why {
-                    reason: Reason::None,
-                    bucket: b,
-                    value: value,
-                };
-            }
-            Why {
-                reason: Reason::NoSuchKey,
-                bucket: b,
-                value: value,
-            }
-        }
+    let reason = if_pending_reason(b.pending, key);
+    Why {
+        reason,
+        ..no_reason(b)
     }
 }
 
@@ -137,9 +119,7 @@ fn status_reason_at(b: KBucket, pos: usize, state: u8, direction: u8) -> Why
     requires direction_bound { direction ≤ 2 }
     ensures { Tells (λ _. status_reason (settings_of b) (key_at b pos) (is_one state) (optional direction) (bucket_of b)) result }
 {
-    let nodes = b.nodes;
-    let old = nodes[pos];
-    let node = old.with_status(state, direction);
+    let node = b.nodes[pos].with_status(state, direction);
     let left = b.taken_out(pos);
     let rest = left.without_pending((state == 1) & (pos == 0));
     reinsert_reason(rest, node)
@@ -152,10 +132,8 @@ pub fn status_reason(b: KBucket, key: Key, state: u8, direction: u8) -> Why
     requires direction_bound { direction ≤ 2 }
     ensures { Tells (λ _. status_reason (settings_of b) (num key) (is_one state) (optional direction) (bucket_of b)) result }
 {
-    let nodes = b.nodes;
-    let count = b.count;
-    let pos = places::position(nodes, 0, count, key);
-    if pos < count {
+    let pos = places::position(b.nodes, 0, b.count, key);
+    if pos < b.count {
         return status_reason_at(b, pos, state, direction);
     }
     pending_reason(b, key)
@@ -167,28 +145,22 @@ fn value_reason_at(b: KBucket, pos: usize, value: Value) -> Why
     requires pos_lt_count { pos < b.count }
     ensures { Tells (λ _. value_reason (settings_of b) (key_at b pos) (value_of value) (bucket_of b)) result }
 {
-    let nodes = b.nodes;
-    let old = nodes[pos];
     let rest = b.taken_out(pos);
-    if old.value.eq(value) {
-        return Why {
-            reason: Reason::None,
-            bucket: rest,
-            value: value,
-        };
+    let none = Why {
+        reason: Reason::None,
+        bucket: rest,
+        value,
+    };
+    if b.nodes[pos].value.eq(value) {
+        return none;
     }
     if rest.fails_filter(value) {
         return Why {
             reason: Reason::BucketFilter,
-            bucket: rest,
-            value: value,
+            ..none
         };
     }
-    Why {
-        reason: Reason::None,
-        bucket: rest,
-        value: value,
-    }
+    none
 }
 
 // Internal: update_value.
@@ -196,10 +168,8 @@ pub fn value_reason(b: KBucket, key: Key, value: Value) -> Why
     requires { Sound b }
     ensures { Tells (λ _. value_reason (settings_of b) (num key) (value_of value) (bucket_of b)) result }
 {
-    let nodes = b.nodes;
-    let count = b.count;
-    let pos = places::position(nodes, 0, count, key);
-    if pos < count {
+    let pos = places::position(b.nodes, 0, b.count, key);
+    if pos < b.count {
         return value_reason_at(b, pos, value);
     }
     pending_reason(b, key)
@@ -222,7 +192,7 @@ pub fn update_node_reason(b: KBucket, key: Key, value: Value, state: u8) -> Why
         return Why {
             reason: Reason::None,
             bucket: b,
-            value: value,
+            value,
         };
     }
     status_reason(changed, key, state, 2)
@@ -236,11 +206,10 @@ pub fn update_node_why(b: KBucket, fails: bool, key: Key, value: Value, state: u
     ensures { Tells (λ bs. cond fails (table_filter_reason (num key) (value_of value) bs) (update_node_reason (settings_of b) (num key) (value_of value) (optional state) (bucket_of b))) result }
 {
     if fails {
-        let filtered = Reason::TableFilter(key);
         return Why {
-            reason: filtered,
+            reason: Reason::TableFilter(key),
             bucket: b,
-            value: value,
+            value,
         };
     }
     update_node_reason(b, key, value, state)
@@ -274,16 +243,14 @@ pub fn insert_or_update_why(b: KBucket, fails: bool, node: Node) -> Why
     requires node_value { node_codes node ≡ true }
     ensures { Tells (λ bs. cond fails (table_filter_reason (num node.key) (value_of node.value) bs) (insert_or_update_reason (settings_of b) (node_of node) (bucket_of b))) result }
 {
-    if !fails {
-        return insert_or_update_reason(b, node);
+    if fails {
+        return Why {
+            reason: Reason::TableFilter(node.key),
+            bucket: b,
+            value: node.value,
+        };
     }
-    let key = node.key;
-    let value = node.value;
-    Why {
-        reason: Reason::TableFilter(key),
-        bucket: b,
-        value: value,
-    }
+    insert_or_update_reason(b, node)
 }
 
 // Internal: a call that does not fail.
@@ -291,13 +258,11 @@ pub fn no_reason(b: KBucket) -> Why
     requires { Sound b }
     ensures { Tells (λ _. model.Reason.None) result }
 {
-    let z = Node::zero();
-    let value = z.value;
     let none = Reason::None;
     Why {
         reason: none,
         bucket: b,
-        value: value,
+        value: Node::zero().value,
     }
 }
 
@@ -306,15 +271,12 @@ pub fn remove_reason(b: KBucket, key: Key) -> Why
     requires { Sound b }
     ensures { Tells (λ _. remove_reason (num key) (bucket_of b)) result }
 {
-    let z = Node::zero();
-    let value = z.value;
+    let none = no_reason(b);
     if b.holds(key) {
-        return no_reason(b);
+        return none;
     }
-    let missing = Reason::NoSuchKey;
     Why {
-        reason: missing,
-        bucket: b,
-        value: value,
+        reason: Reason::NoSuchKey,
+        ..none
     }
 }

@@ -9,19 +9,10 @@ const UNREADABLE: u32 = 0xffff_ffff;
 // What the output or the answer holds before a call.
 const FILL: u8 = 165;
 
-fn set(s: &mut [u8], at: usize, x: u8) {
-    if at < s.len() {
-        s[at] = x;
-    }
-}
-
-// Fills the first n bytes.
+// Fills the first n bytes, or all where there are fewer.
 pub(crate) fn fill(s: &mut [u8], n: usize) {
-    let mut i = 0;
-    while i < n {
-        set(s, i, FILL);
-        i += 1;
-    }
+    let end = n.min(s.len());
+    s[..end].fill(FILL);
 }
 
 // Writes the record's bytes to the storage or the bucket, for what no call leaves.
@@ -34,10 +25,10 @@ fn write(s: &mut [u8], r: &[u8]) -> u32 {
     if record::WRITTEN < n {
         return UNREADABLE;
     }
-    let mut i: usize = 0;
-    while i < n {
-        set(s, at + i, record::byte(r, record::REST_AT + i));
-        i += 1;
+    for i in 0..n {
+        if let Some(x) = s.get_mut(at + i) {
+            *x = record::byte(r, record::REST_AT + i);
+        }
     }
     0
 }
@@ -62,23 +53,19 @@ fn by_distances(r: &[u8], s: &mut [u8], out: &mut [u8]) -> u32 {
     nodes_by_distances(s, &distances, count, x, out)
 }
 
+// The calls 1 to 8 but 4. A call is matched by its number in the record: an enum of the calls would need a match of the same numbers that
+// makes it.
 fn status_call(call: u8, s: &mut [u8], key: &[u8], x: Arguments) -> u32 {
     match call {
         1 => kbuckets::kbuckets_new(s, key, x.time, x.state, x.direction, x.flag),
         2 => kbuckets::kbuckets_update_node_status(s, key, x.state, x.direction, x.time),
+        3 => kbuckets::kbuckets_update_node(
+            s, key, x.flag, x.a, x.b, x.c, x.d, x.slot, x.state, x.time,
+        ),
         5 => kbuckets::kbuckets_remove(s, key, x.time),
         6 => kbuckets::kbuckets_entry(s, key, x.time),
         7 => kbuckets::kbuckets_present_update(s, key, x.state, x.direction),
         8 => kbuckets::kbuckets_pending_update(s, key, x.state, x.direction),
-        _ => UNREADABLE,
-    }
-}
-
-fn update_call(call: u8, s: &mut [u8], key: &[u8], x: Arguments) -> u32 {
-    match call {
-        3 => kbuckets::kbuckets_update_node(
-            s, key, x.flag, x.a, x.b, x.c, x.d, x.slot, x.state, x.time,
-        ),
         _ => UNREADABLE,
     }
 }
@@ -226,16 +213,11 @@ fn on_part(r: &[u8], s: &mut [u8], out: &mut [u8]) -> u32 {
         return insert(r, s, &r[2..end], out);
     }
     let x = record::read_arguments(r);
-    if call == 3 {
-        return update_call(call, s, &r[2..end], x);
+    match call {
+        0..=9 => status_call(call, s, &r[2..end], x),
+        10..=15 => listing_call(call, s, &r[2..end], x, out),
+        _ => bucket_call(call, s, &r[2..end], x, out),
     }
-    if call < 10 {
-        return status_call(call, s, &r[2..end], x);
-    }
-    if call < 16 {
-        return listing_call(call, s, &r[2..end], x, out);
-    }
-    bucket_call(call, s, &r[2..end], x, out)
 }
 
 // The call on a table or a bucket, of which as much is handed over as the record says.

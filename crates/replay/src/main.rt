@@ -42,7 +42,7 @@ fn no_counts() -> [u64; 24]
     [0; 24]
 }
 
-#[derive(Clone, Copy)]
+#[derive(Clone, Copy, PartialEq, Eq)]
 struct Answer {
     code: u64,
     sum: u64,
@@ -59,14 +59,10 @@ fn expected(r: &[u8]) -> Answer {
 fn found(r: &[u8], s: &mut [u8], out: &mut [u8]) -> Answer {
     let room = record::number_of_four(r, record::ROOM_AT) as usize;
     calls::fill(out, room);
-    let code = calls::made(r, s, out) as u64;
+    let code = u64::from(calls::made(r, s, out));
     let written = checksum::checksum(checksum::BASIS, s, s.len());
     let sum = checksum::checksum(written, out, room);
     Answer { code, sum }
-}
-
-fn same(a: Answer, b: Answer) -> bool {
-    (a.code == b.code) & (a.sum == b.sum)
 }
 
 fn say(rt: &impl Print, answer: Answer) -> io::Result<()> {
@@ -100,7 +96,7 @@ fn agrees_on(
 ) -> io::Result<bool> {
     let wanted = expected(r);
     let got = found(r, s, out);
-    if same(wanted, got) {
+    if wanted == got {
         return Ok(true);
     }
     say_parted(rt, number, record::byte(r, 0), wanted, got)?;
@@ -122,25 +118,10 @@ fn agrees(
     agrees_on(rt, number, r, bucket, out)
 }
 
-fn more(x: u64) -> u64 {
-    if x < MOST {
-        return x + 1;
-    }
-    x
-}
-
 fn count(counts: &mut [u64], call: usize) {
-    if call < counts.len() {
-        let n = counts[call];
-        counts[call] = more(n);
+    if let Some(n) = counts.get_mut(call) {
+        *n = n.saturating_add(1);
     }
-}
-
-fn count_of(counts: &[u64], call: usize) -> u64 {
-    if call < counts.len() {
-        return counts[call];
-    }
-    0
 }
 
 fn say_count(rt: &impl Print, call: u8, n: u64) -> io::Result<()> {
@@ -153,15 +134,15 @@ fn say_end(rt: &impl Print, number: u64, list: u64) -> io::Result<()> {
 }
 
 fn say_counts(rt: &impl Print, counts: &[u64], number: u64, list: u64) -> io::Result<()> {
-    let mut call: u8 = 0;
-    while call < 24 {
-        say_count(rt, call, count_of(counts, call as usize))?;
-        call += 1;
+    for call in 0..24u8 {
+        let n = counts.get(usize::from(call)).copied().unwrap_or(0);
+        say_count(rt, call, n)?;
     }
     say_end(rt, number, list)
 }
 
-// Reads until buf is full or the input ends, and returns how many bytes it put at the start of buf.
+// Reads until buf is full or the input ends, and returns how many bytes it put at the start of buf. A `while`,
+// since a read may give fewer bytes than there is room for.
 fn read_full(input: &mut impl Read, buf: &mut [u8]) -> io::Result<usize>
     ensures { ReadsAtMost result buf.new }
 {
@@ -184,21 +165,19 @@ fn replay(
     counts: &mut [u64],
 ) -> io::Result<()> {
     let mut input = rt.reader();
-    let mut number: u64 = 0;
     let mut list = checksum::BASIS;
-    while number < MOST {
+    for number in 0..MOST {
         let mut space = record::empty();
         let r: &mut [u8] = &mut space;
         let got = read_full(&mut input, r)?;
         if got == 0 {
             return say_counts(rt, counts, number, list);
         }
-        number += 1;
         list = checksum::checksum(list, r, got);
-        if !agrees(rt, number, r, table, bucket, out)? {
+        if !agrees(rt, number + 1, r, table, bucket, out)? {
             return Ok(());
         }
-        count(counts, record::byte(r, 0) as usize);
+        count(counts, usize::from(record::byte(r, 0)));
     }
     println!(rt; "the list is too long")
 }

@@ -16,7 +16,7 @@
 //   78   the checksum of what the call may write, after the call, 8 bytes
 //   86   five distances of 8 bytes each; the bytes of a write. Of an insert: how many numbers of windows, how many of closed dates,
 //        1 byte each; then 13 numbers of windows and 7 of closed dates, 2 bytes each
-ghost use Rattle.std.specs.Prelude.{◌≡◌, length};
+ghost use Rattle.std.specs.Prelude.{◌≡◌, ◌+◌, ◌*◌, ◌≤◌, length};
 
 use node::{Slot, Value};
 
@@ -74,10 +74,7 @@ pub(crate) fn empty() -> [u8; BYTES]
 
 // 0 past the end.
 pub(crate) fn byte(r: &[u8], at: usize) -> u8 {
-    if at < r.len() {
-        return r[at];
-    }
-    0
+    r.get(at).copied().unwrap_or(0)
 }
 
 // The number of the eight bytes at a place.
@@ -101,9 +98,7 @@ pub(crate) fn number_of_two(r: &[u8], at: usize) -> u16 {
     if BYTES - 2 < at {
         return 0;
     }
-    let high = byte(r, at);
-    let low = byte(r, at + 1);
-    high as u16 * 256 + low as u16
+    u16::from_be_bytes([byte(r, at), byte(r, at + 1)])
 }
 
 pub(crate) fn read_arguments(r: &[u8]) -> Arguments {
@@ -125,50 +120,38 @@ pub(crate) fn read_arguments(r: &[u8]) -> Arguments {
     }
 }
 
+// N numbers of two bytes, one behind the other from a place on.
+fn numbers_of_two<const N: usize>(r: &[u8], at: usize) -> [u16; N]
+    requires { at + 2 * N ≤ 128 }
+    ensures { N ≡ length result }
+{
+    let mut numbers = [0; N];
+    for k in 0..N {
+        numbers[k] = number_of_two(r, at + 2 * k);
+    }
+    numbers
+}
+
 pub(crate) fn distances(r: &[u8]) -> [u64; 5]
     ensures { 5 ≡ length result }
 {
-    [
-        number_of_eight(r, REST_AT),
-        number_of_eight(r, REST_AT + 8),
-        number_of_eight(r, REST_AT + 16),
-        number_of_eight(r, REST_AT + 24),
-        number_of_eight(r, REST_AT + 32),
-    ]
+    let mut distances = [0; 5];
+    for (k, x) in distances.iter_mut().enumerate() {
+        *x = number_of_eight(r, REST_AT + 8 * k);
+    }
+    distances
 }
 
 // Four windows and one number more.
 pub(crate) fn windows(r: &[u8]) -> [u16; 13]
     ensures { 13 ≡ length result }
 {
-    [
-        number_of_two(r, WINDOWS_AT),
-        number_of_two(r, WINDOWS_AT + 2),
-        number_of_two(r, WINDOWS_AT + 4),
-        number_of_two(r, WINDOWS_AT + 6),
-        number_of_two(r, WINDOWS_AT + 8),
-        number_of_two(r, WINDOWS_AT + 10),
-        number_of_two(r, WINDOWS_AT + 12),
-        number_of_two(r, WINDOWS_AT + 14),
-        number_of_two(r, WINDOWS_AT + 16),
-        number_of_two(r, WINDOWS_AT + 18),
-        number_of_two(r, WINDOWS_AT + 20),
-        number_of_two(r, WINDOWS_AT + 22),
-        number_of_two(r, WINDOWS_AT + 24),
-    ]
+    numbers_of_two(r, WINDOWS_AT)
 }
 
 // Two closed dates and one number more.
 pub(crate) fn closed(r: &[u8]) -> [u16; 7]
     ensures { 7 ≡ length result }
 {
-    [
-        number_of_two(r, CLOSED_AT),
-        number_of_two(r, CLOSED_AT + 2),
-        number_of_two(r, CLOSED_AT + 4),
-        number_of_two(r, CLOSED_AT + 6),
-        number_of_two(r, CLOSED_AT + 8),
-        number_of_two(r, CLOSED_AT + 10),
-        number_of_two(r, CLOSED_AT + 12),
-    ]
+    numbers_of_two(r, CLOSED_AT)
 }

@@ -24,7 +24,8 @@ pub enum WriteAnswer {
     Answered(usize),
 }
 
-// What is written of a node: its key, or its entry of state, direction and value.
+// What is written of a node: its key, or its entry of state, direction and value. An enum and not a closure: the contracts name by it the
+// bytes that are written and their number.
 #[derive(Clone, Copy)]
 enum Field {
     Key,
@@ -41,10 +42,8 @@ fn total(s: &[u8]) -> usize
     ensures upper_bound { result ≤ num_buckets * max_nodes_per_bucket }
 {
     let mut n: usize = 0;
-    let mut i: usize = 0;
-    while i < model::NUM_BUCKETS {
-        n += s[Layout::HEADER + i * Layout::BUCKET] as usize;
-        i += 1;
+    for i in 0..model::NUM_BUCKETS {
+        n += usize::from(s[Layout::HEADER + i * Layout::BUCKET]);
     }
     n
 }
@@ -55,10 +54,8 @@ fn put_sizes(s: &[u8], out: &mut [u8])
     requires num_buckets_in_bounds { num_buckets ≤ length out.old }
     ensures { out.new ≡ splice out.old 0 (tabulate num_buckets (λ i. num_entries ((table_of s.now).buckets i))) }
 {
-    let mut i: usize = 0;
-    while i < model::NUM_BUCKETS {
+    for i in 0..model::NUM_BUCKETS {
         out[i] = s[Layout::HEADER + i * Layout::BUCKET];
-        i += 1;
     }
 }
 
@@ -109,11 +106,10 @@ fn put_bucket(s: &[u8], i: usize, field: Field, out: &mut [u8], to: usize) -> us
     ensures { Appended field (nodes ((table_of s.now).buckets i)) out.old to out.new result }
 {
     let at = Layout::HEADER + i * Layout::BUCKET;
-    let count = s[at] as usize;
+    let count = usize::from(s[at]);
     let size = field_size(field);
     let mut k = to;
-    let mut j: usize = 0;
-    while j < count {
+    for j in 0..count {
         put_field(
             s,
             at + (Layout::PLACES_AT + j * Layout::NODE),
@@ -122,7 +118,6 @@ fn put_bucket(s: &[u8], i: usize, field: Field, out: &mut [u8], to: usize) -> us
             k,
         );
         k += size;
-        j += 1;
     }
     k
 }
@@ -134,10 +129,8 @@ fn put_all(s: &[u8], field: Field, out: &mut [u8], to: usize) -> usize
     ensures { Appended field (all_nodes (table_of s.now)) out.old to out.new result }
 {
     let mut k = to;
-    let mut i: usize = 0;
-    while i < model::NUM_BUCKETS {
+    for i in 0..model::NUM_BUCKETS {
         k = put_bucket(s, i, field, out, k);
-        i += 1;
     }
     k
 }

@@ -2,14 +2,14 @@
 use Prim.Native.Nat.{ℕ, ◌+◌, ◌-◌, ◌≤◌, ◌<◌}
 use native.Mathlib.Omega.{arith}
 use mathlib.Core.Path.{◌≡◌, refl}
-use mathlib.Core.Bool.{Bool, true, false, cond, ◌&&◌, ◌||◌}
+use mathlib.Core.Bool.{Bool, true, false, cond, ◌&&◌}
 use mathlib.Core.List.{List, [], ◌∷◌}
 use lib.ListN.{get_or}
 use lib.Dec.{eqb, leb, ltb}
-use borrow.Author.Tests.{eqb-true, leb-true, ne_eqb, lt-ltb, le-ltb}
+use borrow.Author.Tests.{eqb-true, leb-true, lt-ltb, le-ltb}
 use Rattle.model.specs.Base.{all_below}
 use Rattle.model.specs.Session.{Date, leap, month_days, month_start, is_date, day_number}
-use Rattle.laws.proofs.Tests.{or_rest, and_none}
+use Rattle.laws.proofs.Tests.{and_none}
 use Rattle.laws.proofs.Lists.{all_gives}
 use Rattle.laws.proofs.Calendar.{date_parts, year_at_most}
 
@@ -17,17 +17,7 @@ use Rattle.laws.proofs.Calendar.{date_parts, year_at_most}
 abbrev pub month_starts : List ℕ
 month_starts = 0 ∷ 31 ∷ 59 ∷ 90 ∷ 120 ∷ 151 ∷ 181 ∷ 212 ∷ 243 ∷ 273 ∷ 304 ∷ 334 ∷ []
 
--- only February is longer in a leap year
-same_at : ℕ → Bool
-same_at i = eqb i 1 || eqb (get_or (month_days false) i 0) (get_or (month_days true) i 0)
-
-pub days_same : (l : Bool) (m : ℕ) → m < 12 → (m ≡ 1 → ⊥) → get_or (month_days false) m 0 ≡ get_or (month_days l) m 0
-unfolding all_below same_at
-days_same false m h f = refl
-days_same true m h f =
-    eqb-true _ _ (or_rest (eqb m 1) (eqb (get_or (month_days false) m 0) (get_or (month_days true) m 0)) (all_gives 12 same_at m h refl) (ne_eqb m 1 f))
-
--- and the months behind it start one later
+-- the months behind February start one later in a leap year
 starts_at : Bool → ℕ → Bool
 starts_at l i = eqb (get_or month_starts i 0 + cond (l && ltb 1 i) 1 0) (month_start (month_days l) i)
 
@@ -46,19 +36,12 @@ module _ (l : Bool) (m : ℕ) (h : m < 12) where
   pub start_leap : 1 < m → l ≡ true → get_or month_starts m 0 + 1 ≡ month_start (month_days l) m
   start_leap e f = let n : ◌≡◌ {A = ℕ} (cond (l && ltb 1 m) 1 0) 1 = rw (f, lt-ltb 1 m e) in omega (arith, n, month_starts_lem l m h)
 
-pub february : (l : Bool) (m : ℕ) → m ≡ 2 → cond l 29 28 ≡ get_or (month_days l) (m - 1) 0
-february l m e = rw e
-
 -- how large: a month, its start, a day number
 
 pub month_at_most : (l : Bool) (m : ℕ) → m < 12 → get_or (month_days l) m 0 ≤ 31
 unfolding all_below
 month_at_most false m h = leb-true _ _ (all_gives 12 (λ i. leb (get_or (month_days false) i 0) 31) m h refl)
 month_at_most true m h = leb-true _ _ (all_gives 12 (λ i. leb (get_or (month_days true) i 0) 31) m h refl)
-
-pub table_at_most : (m : ℕ) → m < 12 → get_or month_starts m 0 ≤ 334
-unfolding all_below
-table_at_most m h = leb-true _ _ (all_gives 12 (λ i. leb (get_or month_starts i 0) 334) m h refl)
 
 pub start_at_most : (l : Bool) (m : ℕ) → m < 12 → month_start (month_days l) m ≤ 335
 unfolding all_below month_start

@@ -1,25 +1,26 @@
 -- The hours of a call as the code is given them (02, slip 8).
-use Rattle.std.specs.Prelude.{ℕ, ◌+◌, Bool, cond, List, get_or}
-use Rattle.model.specs.Base.{every}
-use Rattle.model.specs.Session.{Window, Date, Session, windows_of, dates_of, is_date, is_window}
+use Rattle.std.specs.Prelude.{ℕ, List, [], ◌∷◌, get_or}
+use Rattle.model.specs.Session as model
 use Rattle.session.specs.declared.Moment.{Moment}
+use Rattle.session.specs.declared.Date.{Date}
+use Rattle.session.specs.declared.Window.{Window}
 
-abbrev pub window_of : (weekday opening closing : ℕ) → Window
-window_of w o c = record { weekday = w; opening = o; closing = c }
+abbrev pub window_of : Window → model.Window
+window_of w = record { weekday = w.weekday; opening = w.opening; closing = w.closing }
 
-abbrev pub date_of : (year month day : ℕ) → Date
-date_of y m d = record { year = y; month = m; day = d }
+abbrev pub date_of : Date → model.Date
+date_of d = record { year = d.year; month = d.month; day = d.day }
 
--- the three numbers at place i, as a window or a date
-abbrev pub entry_at : {A : Type 0} → (ℕ → ℕ → ℕ → A) → List ℕ → ℕ → A
-entry_at f ns i = f (get_or ns i 0) (get_or ns (i + 1) 0) (get_or ns (i + 2) 0)
+-- the numbers three at a time; a rest of one or two is passed over
+abbrev pub entries : List ℕ → List (List ℕ)
+entries ns = model.threes (λ a b c. a ∷ b ∷ c ∷ []) ns
 
--- a date, or else a window, as question 10 asks them
-abbrev pub is_entry : (dates : Bool) → (a b c : ℕ) → Bool
-is_entry dates a b c = cond dates (is_date (date_of a b c)) (is_window (window_of a b c))
+-- the three numbers of an entry, as a window or a date
+abbrev pub window_in : List ℕ → Window
+window_in e = record { weekday = get_or e 0 0; opening = get_or e 1 0; closing = get_or e 2 0 }
 
-abbrev pub are_entries : (dates : Bool) → List ℕ → Bool
-are_entries dates ns = cond dates (every is_date (dates_of ns)) (every is_window (windows_of ns))
+abbrev pub date_in : List ℕ → Date
+date_in e = record { year = get_or e 0 0; month = get_or e 1 0; day = get_or e 2 0 }
 
-abbrev pub session_of : (windows closed : List ℕ) → Moment → Session
-session_of ws cs m = record { windows = ws; closed = cs; today = date_of m.year m.month m.day; minute = m.minute }
+abbrev pub session_of : (windows closed : List ℕ) → Moment → model.Session
+session_of ws cs m = record { windows = ws; closed = cs; today = record { year = m.year; month = m.month; day = m.day }; minute = m.minute }

@@ -1,12 +1,12 @@
 // Admission in session hours (document 02, slip 8): questions 10 and 11 of the windows, closed dates and moment that a host gives with a call.
 #![tactic(auto)]
 
-ghost use Rattle.std.specs.Prelude.{◌≡◌, true, ◌&&◌, ◌+◌, ◌-◌, ◌≤◌, ◌<◌, length};
+ghost use Rattle.std.specs.Prelude.{◌≡◌, true, ◌&&◌, ◌-◌, ◌≤◌, ◌<◌};
 ghost use Rattle.model.specs.Base.{every, any_of};
 ghost use Rattle.model.specs.Question.{first_failed};
-ghost use Rattle.model.specs.Session.{windows_of, dates_of, leap, year_start, month_days, month_start, days_in, is_date, day_number, weekday_of, same_date, max_windows, max_closed, is_window, are_threes, covers, hours_questions};
+ghost use Rattle.model.specs.Session.{windows_of, dates_of, leap, year_start, month_days, month_start, days_in, is_date, day_number, weekday_of, same_date, max_windows, max_closed, is_window, are_threes, session_fits, covers, is_open, hours_questions};
 ghost use Rattle.on_key.specs.Answers.{refusal};
-ghost use Rattle.session.specs.Hours.{window_of, date_of, entry_at, is_entry, are_entries, session_of};
+ghost use Rattle.session.specs.Hours.{window_of, date_of, entries, window_in, date_in, session_of};
 
 mod years;
 
@@ -39,17 +39,109 @@ pub struct Moment {
     pub minute: u16,
 }
 
+impl Moment {
+    // Its date.
+    fn date(self) -> Date
+        ensures { result ≡ record { year = self.year; month = self.month; day = self.day } }
+    {
+        Date {
+            year: self.year,
+            month: self.month,
+            day: self.day,
+        }
+    }
+}
+
+// A date of the calendar, or three numbers that are none.
+#[derive(Clone, Copy, PartialEq, Eq)]
+struct Date {
+    year: u16,
+    month: u16,
+    day: u16,
+}
+
+impl Date {
+    // The date of an entry.
+    fn of(entry: &[u16; 3]) -> Date
+        ensures { result ≡ date_in entry.now }
+    {
+        Date {
+            year: entry[0],
+            month: entry[1],
+            day: entry[2],
+        }
+    }
+
+    // A date of the Gregorian calendar, from 2000 to 2399.
+    fn is_valid(self) -> bool
+        ensures { result ≡ is_date (date_of self) }
+    {
+        (FIRST_YEAR <= self.year && self.year <= LAST_YEAR)
+            && ((1 <= self.month && self.month <= 12)
+                && (1 <= self.day && self.day <= days_in(self.year, self.month)))
+    }
+
+    // The days from 1 January 2000 to the date.
+    fn day_number(self) -> u32
+        requires { is_date (date_of self) ≡ true }
+        ensures { result ≡ day_number (date_of self) }
+    {
+        let in_year = month_start(self.year, self.month) + (self.day - 1);
+        year_start(self.year - FIRST_YEAR) + u32::from(in_year)
+    }
+
+    // The weekday: 1, Monday, to 7, Sunday.
+    fn weekday(self) -> u16
+        requires { is_date (date_of self) ≡ true }
+        ensures { result ≡ weekday_of (day_number (date_of self)) }
+    {
+        let n = (self.day_number() + 5) % 7;
+        n as u16 + 1
+    }
+}
+
+// A weekly window: a weekday, an opening and a closing minute.
+#[derive(Clone, Copy)]
+struct Window {
+    weekday: u16,
+    opening: u16,
+    closing: u16,
+}
+
+impl Window {
+    // The window of an entry.
+    fn of(entry: &[u16; 3]) -> Window
+        ensures { result ≡ window_in entry.now }
+    {
+        Window {
+            weekday: entry[0],
+            opening: entry[1],
+            closing: entry[2],
+        }
+    }
+
+    // A weekday, and an opening minute before a closing minute that is at most 1,440.
+    fn is_valid(self) -> bool
+        ensures { result ≡ is_window (window_of self) }
+    {
+        (1 <= self.weekday && self.weekday <= 7)
+            && (self.opening < self.closing && self.closing <= MINUTES)
+    }
+
+    // The window has the weekday and the minute: its opening minute is included, its closing minute excluded.
+    #[tactic(auto, unfolding(model::specs::Base::same))]
+    fn covers(self, weekday: u16, minute: u16) -> bool
+        ensures { result ≡ covers weekday minute (window_of self) }
+    {
+        self.weekday == weekday && (self.opening <= minute && minute < self.closing)
+    }
+}
+
 // The leap year rule.
 fn is_leap(year: u16) -> bool
     ensures { result ≡ leap year }
 {
-    if year % 4 != 0 {
-        return false;
-    }
-    if year % 100 != 0 {
-        return true;
-    }
-    year % 400 == 0
+    year % 4 == 0 && (year % 100 != 0 || year % 400 == 0)
 }
 
 // The day number of 1 January of the year 2000 + n, looked up.
@@ -57,7 +149,7 @@ fn year_start(n: u16) -> u32
     requires { n < 400 }
     ensures { result ≡ year_start n }
 {
-    YEAR_STARTS[n as usize]
+    YEAR_STARTS[usize::from(n)]
 }
 
 // The days of a month.
@@ -65,13 +157,10 @@ fn days_in(year: u16, month: u16) -> u16
     requires { (1 ≤ month) × (month ≤ 12) }
     ensures { result ≡ days_in year month }
 {
-    if month == 2 {
-        if is_leap(year) {
-            return 29;
-        }
-        return 28;
+    if month == 2 && is_leap(year) {
+        return 29;
     }
-    MONTH_DAYS[(month - 1) as usize]
+    MONTH_DAYS[usize::from(month - 1)]
 }
 
 // The days of a year before a month.
@@ -79,54 +168,11 @@ fn month_start(year: u16, month: u16) -> u16
     requires { (1 ≤ month) × (month ≤ 12) }
     ensures { result ≡ month_start (month_days (leap year)) (month - 1) }
 {
-    let start = MONTH_STARTS[(month - 1) as usize];
-    if month <= 2 {
-        return start;
-    }
-    if is_leap(year) {
+    let start = MONTH_STARTS[usize::from(month - 1)];
+    if 2 < month && is_leap(year) {
         return start + 1;
     }
     start
-}
-
-// A date of the Gregorian calendar, from 2000 to 2399.
-fn is_date(year: u16, month: u16, day: u16) -> bool
-    ensures { result ≡ is_date (date_of year month day) }
-{
-    if year < FIRST_YEAR {
-        return false;
-    }
-    if LAST_YEAR < year {
-        return false;
-    }
-    if month < 1 {
-        return false;
-    }
-    if 12 < month {
-        return false;
-    }
-    if day < 1 {
-        return false;
-    }
-    day <= days_in(year, month)
-}
-
-// The days from 1 January 2000 to a date.
-fn day_number(year: u16, month: u16, day: u16) -> u32
-    requires { is_date (date_of year month day) ≡ true }
-    ensures { result ≡ day_number (date_of year month day) }
-{
-    let in_year = month_start(year, month) + (day - 1);
-    year_start(year - FIRST_YEAR) + in_year as u32
-}
-
-// The weekday of a date: 1, Monday, to 7, Sunday.
-fn weekday(year: u16, month: u16, day: u16) -> u16
-    requires { is_date (date_of year month day) ≡ true }
-    ensures { result ≡ weekday_of (day_number (date_of year month day)) }
-{
-    let n = (day_number(year, month, day) + 5) % 7;
-    n as u16 + 1
 }
 
 // Whole entries of three numbers, at most so many.
@@ -134,148 +180,70 @@ fn are_threes(numbers: &[u16], most: usize) -> bool
     requires { most ≤ max_closed }
     ensures { result ≡ are_threes most numbers.now }
 {
-    if numbers.len() % 3 != 0 {
-        return false;
-    }
-    numbers.len() <= most * 3
+    numbers.len() % 3 == 0 && numbers.len() <= most * 3
 }
 
-// A weekday, and an opening minute before a closing minute that is at most 1,440.
-fn is_window(day: u16, opening: u16, closing: u16) -> bool
-    ensures { result ≡ is_window (window_of day opening closing) }
+// The whole entries.
+fn entries(numbers: &[u16]) -> &[[u16; 3]]
+    ensures { result.now ≡ entries numbers.now }
 {
-    if day < 1 {
-        return false;
-    }
-    if 7 < day {
-        return false;
-    }
-    if closing <= opening {
-        return false;
-    }
-    closing <= MINUTES
-}
-
-// The numbers are a date, or else a window.
-fn is_entry(dates: bool, a: u16, b: u16, c: u16) -> bool
-    ensures { result ≡ is_entry dates a b c }
-{
-    if dates {
-        return is_date(a, b, c);
-    }
-    is_window(a, b, c)
-}
-
-// The three numbers at i are such an entry.
-fn is_entry_at(dates: bool, numbers: &[u16], i: usize) -> bool
-    requires { i + 2 < length numbers.now }
-    ensures { result ≡ entry_at (is_entry dates) numbers.now i }
-{
-    is_entry(dates, numbers[i], numbers[i + 1], numbers[i + 2])
-}
-
-// Whole entries, at most so many, and each a date, or else each a window.
-fn entries_fit(dates: bool, numbers: &[u16], most: usize) -> bool
-    requires { most ≤ max_closed }
-    ensures { result ≡ (are_threes most numbers.now && are_entries dates numbers.now) }
-{
-    if !are_threes(numbers, most) {
-        return false;
-    }
-    let mut i: usize = 0;
-    while i < numbers.len() {
-        if !is_entry_at(dates, numbers, i) {
-            return false;
-        }
-        i += 3;
-    }
-    true
+    numbers.as_chunks::<3>().0
 }
 
 // The windows are what question 10 asks.
 fn windows_fit(windows: &[u16]) -> bool
     ensures { result ≡ (are_threes max_windows windows.now && every is_window (windows_of windows.now)) }
 {
-    entries_fit(false, windows, MAX_WINDOWS)
+    are_threes(windows, MAX_WINDOWS) && entries(windows).iter().all(|e| Window::of(e).is_valid())
+}
+
+// The entry is a date of the calendar.
+fn is_date(entry: &[u16; 3]) -> bool
+    ensures { result ≡ is_date (date_of (date_in entry.now)) }
+{
+    Date::of(entry).is_valid()
 }
 
 // The closed dates are what question 10 asks.
 fn closed_fit(closed: &[u16]) -> bool
     ensures { result ≡ (are_threes max_closed closed.now && every is_date (dates_of closed.now)) }
 {
-    entries_fit(true, closed, MAX_CLOSED)
+    are_threes(closed, MAX_CLOSED) && entries(closed).iter().all(|e| is_date(e))
 }
 
-// Two dates are the same.
-fn is_same_date(year: u16, month: u16, day: u16, y: u16, m: u16, d: u16) -> bool
-    ensures { result ≡ same_date (date_of year month day) (date_of y m d) }
+// Question 10.
+#[tactic(auto, unfolding(model::specs::Session::session_fits))]
+fn session_fits(windows: &[u16], closed: &[u16], moment: Moment) -> bool
+    ensures { result ≡ session_fits (session_of windows.now closed.now moment) }
 {
-    if year != y {
-        return false;
-    }
-    if month != m {
-        return false;
-    }
-    day == d
-}
-
-// The window has the weekday and the minute: its opening minute is included, its closing minute excluded.
-fn is_within(day: u16, minute: u16, d: u16, opening: u16, closing: u16) -> bool
-    ensures { result ≡ covers day minute (window_of d opening closing) }
-{
-    if d != day {
-        return false;
-    }
-    if minute < opening {
-        return false;
-    }
-    minute < closing
-}
-
-// The three numbers at i are the date.
-fn is_closed_at(closed: &[u16], i: usize, year: u16, month: u16, day: u16) -> bool
-    requires { i + 2 < length closed.now }
-    ensures { result ≡ same_date (date_of year month day) (entry_at date_of closed.now i) }
-{
-    is_same_date(year, month, day, closed[i], closed[i + 1], closed[i + 2])
+    windows_fit(windows)
+        && (closed_fit(closed) && (moment.date().is_valid() && moment.minute < MINUTES))
 }
 
 // The date is among the closed dates.
-fn is_closed(closed: &[u16], year: u16, month: u16, day: u16) -> bool
-    requires { are_threes max_closed closed.now ≡ true }
-    ensures { result ≡ any_of (same_date (date_of year month day)) (dates_of closed.now) }
+fn is_closed(closed: &[u16], date: Date) -> bool
+    ensures { result ≡ any_of (same_date (date_of date)) (dates_of closed.now) }
 {
-    let mut i: usize = 0;
-    while i < closed.len() {
-        if is_closed_at(closed, i, year, month, day) {
-            return true;
-        }
-        i += 3;
-    }
-    false
-}
-
-// The window at i has the weekday and the minute.
-fn is_covered_at(windows: &[u16], i: usize, day: u16, minute: u16) -> bool
-    requires { i + 2 < length windows.now }
-    ensures { result ≡ covers day minute (entry_at window_of windows.now i) }
-{
-    is_within(day, minute, windows[i], windows[i + 1], windows[i + 2])
+    entries(closed).iter().any(|e| date == Date::of(e))
 }
 
 // Some window has the weekday and the minute.
-fn is_covered(windows: &[u16], day: u16, minute: u16) -> bool
-    requires { are_threes max_windows windows.now ≡ true }
-    ensures { result ≡ any_of (covers day minute) (windows_of windows.now) }
+fn is_covered(windows: &[u16], weekday: u16, minute: u16) -> bool
+    ensures { result ≡ any_of (covers weekday minute) (windows_of windows.now) }
 {
-    let mut i: usize = 0;
-    while i < windows.len() {
-        if is_covered_at(windows, i, day, minute) {
-            return true;
-        }
-        i += 3;
-    }
-    false
+    entries(windows)
+        .iter()
+        .any(|e| Window::of(e).covers(weekday, minute))
+}
+
+// Question 11 of a key that is not known.
+#[tactic(auto, unfolding(model::specs::Session::is_open))]
+fn is_open(windows: &[u16], closed: &[u16], moment: Moment) -> bool
+    requires { session_fits (session_of windows.now closed.now moment) ≡ true }
+    ensures { result ≡ is_open (session_of windows.now closed.now moment) }
+{
+    let today = moment.date();
+    !is_closed(closed, today) && is_covered(windows, today.weekday(), moment.minute)
 }
 
 // The first failed question of 10 and 11, or 0: three numbers a window (weekday, opening and closing minute) and three a closed date (year,
@@ -283,32 +251,13 @@ fn is_covered(windows: &[u16], day: u16, minute: u16) -> bool
 pub fn asked(windows: &[u16], closed: &[u16], moment: Moment, known: bool) -> u8
     ensures { first_failed (hours_questions (session_of windows.now closed.now moment) known) ≡ refusal result }
 {
-    if windows.len() == 0 {
+    if windows.is_empty() {
         return 0;
     }
-    if !windows_fit(windows) {
+    if !session_fits(windows, closed, moment) {
         return 10;
     }
-    if !closed_fit(closed) {
-        return 10;
-    }
-    let year = moment.year;
-    let month = moment.month;
-    let day = moment.day;
-    let minute = moment.minute;
-    if !is_date(year, month, day) {
-        return 10;
-    }
-    if MINUTES <= minute {
-        return 10;
-    }
-    if known {
-        return 0;
-    }
-    if is_closed(closed, year, month, day) {
-        return 11;
-    }
-    if is_covered(windows, weekday(year, month, day), minute) {
+    if known || is_open(windows, closed, moment) {
         return 0;
     }
     11

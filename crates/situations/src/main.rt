@@ -36,16 +36,13 @@ fn record_of(member: u8, slot: Slot) -> Value {
         b: 0,
         c: 0,
         d: member,
-        slot: slot,
+        slot,
     }
 }
 
 // The byte of the storage at an offset.
 fn byte(s: &[u8], at: usize) -> u8 {
-    if at < s.len() {
-        return s[at];
-    }
-    0
+    s.get(at).copied().unwrap_or(0)
 }
 
 // Writes the node at a place of bucket 255: the last byte of its key, the last octet of its address, the last byte of its slot.
@@ -65,10 +62,8 @@ fn say_node(rt: &impl Print, s: &[u8], place: usize) -> io::Result<()> {
 fn say_bucket(rt: &impl Print, s: &[u8]) -> io::Result<()> {
     let count = byte(s, Layout::HEADER + 255 * Layout::BUCKET) as usize;
     print!(rt; "{count} held:")?;
-    let mut place = 0;
-    while place < count {
+    for place in 0..count {
         say_node(rt, s, place)?;
-        place += 1;
     }
     println!(rt;)
 }
@@ -88,14 +83,15 @@ fn say_new(rt: &impl Print, a: NewAnswer) -> io::Result<()> {
 }
 
 fn say_reason(rt: &impl Print, r: FailureReason) -> io::Result<()> {
-    match r {
-        FailureReason::TooManyIncoming => print!(rt; "Failed(TooManyIncoming)"),
-        FailureReason::BucketFilter => print!(rt; "Failed(BucketFilter)"),
-        FailureReason::TableFilter => print!(rt; "Failed(TableFilter)"),
-        FailureReason::KeyNonExistent => print!(rt; "Failed(KeyNonExistent)"),
-        FailureReason::BucketFull => print!(rt; "Failed(BucketFull)"),
-        FailureReason::InvalidSelfUpdate => print!(rt; "Failed(InvalidSelfUpdate)"),
-    }
+    let reason = match r {
+        FailureReason::TooManyIncoming => "TooManyIncoming",
+        FailureReason::BucketFilter => "BucketFilter",
+        FailureReason::TableFilter => "TableFilter",
+        FailureReason::KeyNonExistent => "KeyNonExistent",
+        FailureReason::BucketFull => "BucketFull",
+        FailureReason::InvalidSelfUpdate => "InvalidSelfUpdate",
+    };
+    print!(rt; "Failed({reason})")
 }
 
 fn say_update_result(rt: &impl Print, r: UpdateResult) -> io::Result<()> {
@@ -158,8 +154,7 @@ fn join(rt: &impl Print, s: &mut [u8], member: u8) -> io::Result<()> {
     let value = record_of(member, member as Slot);
     print!(rt; " ")?;
     // no session hours: with an empty window list neither question is asked
-    let windows: [u16; 1] = [0];
-    let closed: [u16; 1] = [0];
+    let none: [u16; 0] = [];
     let moment = Moment {
         year: 0,
         month: 0,
@@ -167,38 +162,16 @@ fn join(rt: &impl Print, s: &mut [u8], member: u8) -> io::Result<()> {
         minute: 0,
     };
     if 10 < member {
-        let e = entry::absent_insert(
-            s,
-            &key,
-            value,
-            1,
-            0,
-            1000,
-            &windows[0..0],
-            &closed[0..0],
-            moment,
-        );
+        let e = entry::absent_insert(s, &key, value, 1, 0, 1000, &none, &none, moment);
         return say_absent_insert(rt, e);
     }
-    let a = update::insert_or_update(
-        s,
-        &key,
-        value,
-        1,
-        0,
-        1000,
-        &windows[0..0],
-        &closed[0..0],
-        moment,
-    );
+    let a = update::insert_or_update(s, &key, value, 1, 0, 1000, &none, &none, moment);
     say_insert(rt, a)
 }
 
 fn join_all(rt: &impl Print, s: &mut [u8], members: u8) -> io::Result<()> {
-    let mut m = 0;
-    while m < members {
-        m += 1;
-        join(rt, s, m)?;
+    for member in 1..=members {
+        join(rt, s, member)?;
     }
     Ok(())
 }
@@ -213,7 +186,7 @@ fn resign(rt: &impl Print, s: &mut [u8], member: u8, slot: Slot) -> io::Result<(
 
 fn situation(rt: &impl Print, members: u8) -> io::Result<()> {
     let mut space = storage();
-    let s: &mut [u8] = &mut space;
+    let s = &mut space;
     let local = [0u8; 32];
     let a = table::new(s, &local, 60000, 16, 1, 0);
     say_new(rt, a)?;

@@ -96,13 +96,14 @@ pub fn load_node(s: &[u8], at: usize) -> Node
     requires { at + node_size ≤ length s.now }
     ensures { result ≡ read_node (part s.now at node_size) }
 {
-    let key = Key::load(s, at);
-    let value = load_value(s, at + Layout::VALUE_AT);
-    let status = NodeStatus {
-        state: s[at + Layout::STATE_AT],
-        direction: s[at + Layout::DIRECTION_AT],
-    };
-    Node { key, value, status }
+    Node {
+        key: Key::load(s, at),
+        value: load_value(s, at + Layout::VALUE_AT),
+        status: NodeStatus {
+            state: s[at + Layout::STATE_AT],
+            direction: s[at + Layout::DIRECTION_AT],
+        },
+    }
 }
 
 // Internal: the bytes of a value whose codes are in range, put at `at`.
@@ -123,10 +124,8 @@ pub fn store_node(s: &mut [u8], at: usize, n: Node)
     requires { (at + node_size ≤ length s.old) × (node_codes n ≡ true) }
     ensures { s.new ≡ splice s.old at (node_bytes (node_of n)) }
 {
-    let key = n.key;
-    let value = n.value;
-    key.store(s, at);
+    n.key.store(s, at);
     words::put_byte(s, at + Layout::STATE_AT, n.status.state);
     words::put_byte(s, at + Layout::DIRECTION_AT, n.status.direction);
-    store_value(s, at + Layout::VALUE_AT, value);
+    store_value(s, at + Layout::VALUE_AT, n.value);
 }

@@ -1,7 +1,7 @@
 -- The table filter, by what it has asked and tested in turn.
 use Prim.Native.Nat.{ℕ}
 use mathlib.Core.Path.{◌≡◌, refl, sym, ap, ◌∙◌}
-use mathlib.Core.Bool.{Bool, true, false, cond, not, ◌&&◌}
+use mathlib.Core.Bool.{Bool, true, false, cond, ◌&&◌}
 use mathlib.Core.List.{List, [], ◌∷◌}
 use Rattle.model.specs.Value.{Value}
 use Rattle.model.specs.Filter.{max_nodes_per_subnet_table, ip_filter_fails}

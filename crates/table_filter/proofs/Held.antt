@@ -1,7 +1,7 @@
 -- The nodes that are held, one more place or bucket at a time: those that count against the value of a key, and the node of a key.
 use mathlib.Core.Path.{◌≡◌, refl, sym, ap, ◌∙◌}
-use mathlib.Core.Bool.{Bool, true, false, not, and-true}
-use mathlib.Core.List.{List, [], ◌∷◌, ◌++◌}
+use mathlib.Core.Bool.{Bool, true, false, not}
+use mathlib.Core.List.{List, [], ◌∷◌}
 use mathlib.Core.Option.{none, some}
 use mathlib.Core.Logic.{⊎_elim}
 use Prim.Native.Nat.{ℕ, zero, suc, ◌+◌, ◌/◌, ◌≤◌, ◌<◌}
@@ -12,7 +12,7 @@ use mir.Val.{bool_byte}
 use lib.Dec.{eqb}
 use lib.ListN.{length, get_or}
 use borrow.Author.Tests.{ne_eqb, eqb-true, le-leb, lt-leb}
-use Rattle.model.specs.Base.{same, select, every, tabulate, all_below}
+use Rattle.model.specs.Base.{same, select, tabulate}
 use Rattle.model.specs.Bytes.{number, part, Bytes}
 use Rattle.model.specs.Value.{Value, has_address}
 use Rattle.model.specs.Node.{Node}
@@ -21,10 +21,9 @@ use Rattle.model.specs.Bucket.{Bucket, max_nodes_per_bucket, nodes, find, get, o
 use Rattle.model.specs.Table.{num_buckets, held_nodes, other_nodes}
 use Rattle.model.specs.Sizes.{key_size, value_size, node_size, bucket_size, bucket_at, table_filter_at}
 use Rattle.model.specs.Layout.{value_in, node_in, nodes_in, bucket_in, settings_in, bucket_part, table_of}
-use Rattle.model.specs.Formed.{header_formed, bucket_formed_at, buckets_formed, formed}
-use Rattle.model.specs.StepBytes.{every_bucket}
+use Rattle.model.specs.Formed.{bucket_formed_at, formed}
 use Rattle.laws.proofs.Tests.{split}
-use Rattle.laws.proofs.Lists.{tabulate_one_more, every_append}
+use Rattle.laws.proofs.Lists.{tabulate_one_more}
 use Rattle.laws.proofs.KeepLists.{length_select_append, find_append, get_nodes}
 use Rattle.laws.proofs.Parts.{part_part, part_zero, get_d_part}
 use Rattle.laws.proofs.BucketFormed.{checked}

@@ -1,5 +1,5 @@
 -- The table filter's count over the places of a bucket's bytes, as the code takes it: over all that are held it is the model's `counted` of
--- `otherNodes`.
+-- `other_nodes`.
 use Rattle.std.specs.Prelude.{ℕ, ◌+◌, ◌*◌, Bool, not, ◌&&◌, List, length}
 use Rattle.model.specs.Base.{same, select, tabulate}
 use Rattle.model.specs.Value.{Value}

@@ -23,7 +23,7 @@ use storage::Layout;
 fn net(value: Value) -> u64
     ensures { result ≡ net_of value }
 {
-    ((value.flag as u64 * 256 + value.a as u64) * 256 + value.b as u64) * 256 + value.c as u64
+    u64::from(u32::from_be_bytes([value.flag, value.a, value.b, value.c]))
 }
 
 // The node at `at` counts against the value of the key. The key's own does not (document 02, slip 3). Where flag and /24 differ, nothing
@@ -49,10 +49,9 @@ fn counted_below(s: &[u8], at: usize, count: usize, key: Key, value: Value) -> u
     ensures { (result ≡ counted_below (num key) (value_of value) (part s.now at bucket_size) count) × (result ≤ max_nodes_per_bucket) }
 {
     let mut n: usize = 0;
-    let mut j: usize = 0;
-    while j < count {
-        n += counts_at(s, at + (Layout::PLACES_AT + j * Layout::NODE), key, value) as usize;
-        j += 1;
+    for j in 0..count {
+        let place = at + (Layout::PLACES_AT + j * Layout::NODE);
+        n += usize::from(counts_at(s, place, key, value));
     }
     n
 }
@@ -62,7 +61,7 @@ fn counted(s: &[u8], at: usize, key: Key, value: Value) -> usize
     requires { (at + bucket_size ≤ length s.now) × (get_or s.now at 0 ≤ max_nodes_per_bucket) }
     ensures { (result ≡ length (select (counts_other (num key) (value_of value)) (nodes (bucket_in (part s.now at bucket_size))))) × (result ≤ max_nodes_per_bucket) }
 {
-    counted_below(s, at, s[at] as usize, key, value)
+    counted_below(s, at, usize::from(s[at]), key, value)
 }
 
 // What the table filter answers: a bucket that it reads fails question 2, or the value passes or fails.
@@ -86,13 +85,11 @@ fn walked(s: &[u8], key: Key, value: Value) -> Filtered
         return Filtered::Malformed;
     }
     let mut n: usize = 0;
-    let mut i: usize = 0;
-    while i < model::NUM_BUCKETS {
+    for i in 0..model::NUM_BUCKETS {
         if !well_formed::bucket_formed_at(s, i) {
             return Filtered::Malformed;
         }
         n += counted(s, Layout::HEADER + i * Layout::BUCKET, key, value);
-        i += 1;
     }
     if node::filter::MAX_NODES_PER_SUBNET_TABLE <= n {
         return Filtered::Fails;
@@ -105,16 +102,13 @@ fn holds_value(s: &[u8], at: usize, key: Key, value: Value) -> bool
     requires { (at + bucket_size ≤ length s.now) × (get_or s.now at 0 ≤ max_nodes_per_bucket) }
     ensures { result ≡ is_duplicate (value_of value) (get (num key) (bucket_in (part s.now at bucket_size))) }
 {
-    let count = s[at] as usize;
-    let mut j: usize = 0;
-    while j < count {
+    for j in 0..usize::from(s[at]) {
         let place = at + (Layout::PLACES_AT + j * Layout::NODE);
         let held = Key::load(s, place);
         if held.eq(key) {
             let old = storage::load_value(s, place + Layout::VALUE_AT);
             return old.eq(value);
         }
-        j += 1;
     }
     false
 }
@@ -146,20 +140,12 @@ pub fn asked_filter(s: &[u8], i: usize, key: Key, value: Value) -> Filtered
 pub fn is_malformed(f: Filtered) -> bool
     ensures { result ≡ is_malformed f }
 {
-    match f {
-        Filtered::Malformed => true,
-        Filtered::Passes => false,
-        Filtered::Fails => false,
-    }
+    matches!(f, Filtered::Malformed)
 }
 
 // Internal: the value fails.
 pub fn has_failed(f: Filtered) -> bool
     ensures { result ≡ has_failed f }
 {
-    match f {
-        Filtered::Malformed => false,
-        Filtered::Passes => false,
-        Filtered::Fails => true,
-    }
+    matches!(f, Filtered::Fails)
 }

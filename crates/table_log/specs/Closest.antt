@@ -35,7 +35,7 @@ Ascending f (n ∷ []) = Unit {0}
 Ascending f (n ∷ m ∷ ns) = (f n < f m) × Ascending f (m ∷ ns)
 
 -- An accepted closest call on a storage that is well formed throughout (02, slip 7): its list is the first n of all held nodes, nearest
--- first, with what the call gives of each node, and the count found is its length. `sorted` and `all_there` say that `sortBy` arranges
+-- first, with what the call gives of each node, and the count found is its length. `sorted` and `all_there` say that `sort_by` arranges
 -- the same nodes in order, each once.
 pub record ClosestClaim (l : Listing) (x : List ℕ) (n now : ℕ) (out s : List ℕ) : Type 0 where
   pub answer : (step_bytes (Call.list l n now out) s).answer ≡ Answer.Found (length (closest_nodes x n now (table_of s)))

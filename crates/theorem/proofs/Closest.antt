@@ -45,7 +45,7 @@ closest_list t x now l w f n =
     ap (take n)
     (visits_nearest t.settings.local_key (number x) (applied now t) l
     (λ i. all_map FitsNode (λ (m : Node). m.key < 2 ^ 256) (λ m h. h.key) (nodes (applied now t i)) (f i).held)
-    (λ i. (w i).of_index_lem.held) (w 0).formed.different)
+    (λ i. (w i).of_the_index.held) (w 0).formed.different)
 
 -- the three closest calls list alike
 pub found_closest : (l : Listing) (x : List ℕ) → target l ≡ some x → (n now : ℕ) (t : Table)
@@ -113,6 +113,6 @@ closest l x n now out s e b g h =
           ascending (distance_to (number x)) (sort_by (distance_to (number x)) (all_held now t))
           (sort_strict (distance_to (number x)) (all_held now t)
           (different_apart (number x) (all_held now t)
-          (held_different t.settings.local_key (applied now t) (λ i. (w i).of_index_lem.held) (λ i. (w i).formed.different) num_buckets)));
+          (held_different t.settings.local_key (applied now t) (λ i. (w i).of_the_index.held) (λ i. (w i).formed.different) num_buckets)));
       all_there = λ p. sort_tally (distance_to (number x)) p (all_held now t);
     }

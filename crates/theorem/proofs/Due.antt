@@ -157,9 +157,9 @@ act_ended Call.take_applied_pending t = refl
 act_ended (Call.read bs) t = refl
 
 -- an accepted call
-pub due_ended_lem : (c : Call) (t : Table) → is_refused (step c t).answer ≡ false → due_ended c t (step c t).records ≡ true
+pub ended_due : (c : Call) (t : Table) → is_refused (step c t).answer ≡ false → due_ended c t (step c t).records ≡ true
 unfolding step
-due_ended_lem c t = by (first_failed (questions c t))
+ended_due c t = by (first_failed (questions c t))
   where
     by : (o : Option ℕ) → is_refused (unless_refused o c t).answer ≡ false → due_ended c t (unless_refused o c t).records ≡ true
     by none h = act_ended c t
@@ -268,9 +268,9 @@ act_one (Call.read bs) t = refl
 act_one Call.take_applied_pending t = le-leb (length (take_oldest t t.queue).records) 1 (oldest_one t t.queue)
 
 -- every call, accepted or not
-pub one_record_lem : (c : Call) (t : Table) → one_record c (step c t).records ≡ true
+pub single_record : (c : Call) (t : Table) → one_record c (step c t).records ≡ true
 unfolding step
-one_record_lem c t = by (first_failed (questions c t))
+single_record c t = by (first_failed (questions c t))
   where
     by : (o : Option ℕ) → one_record c (unless_refused o c t).records ≡ true
     by none = act_one c t

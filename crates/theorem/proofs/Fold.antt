@@ -1,4 +1,4 @@
--- The log worked out entry by entry, oldest first. Literal shows that it is `logOf`.
+-- The log worked out entry by entry, oldest first. Literal shows that it is `log_of`.
 use Prim.Native.Nat.{ℕ}
 use mathlib.Core.Bool.{Bool, false, cond, ◌&&◌, ◌||◌}
 use mathlib.Core.List.{List, [], ◌∷◌, ◌++◌}

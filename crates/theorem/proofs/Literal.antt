@@ -17,7 +17,7 @@ use Rattle.theorem.proofs.Keys.{Distinct, mem_append, mem_without, mem_without_o
 use Rattle.theorem.proofs.Steps.{own_settings}
 use Rattle.theorem.proofs.Load.{load_settings}
 
--- The list that `heldOrder` makes is the one that the text means: the keys that are held, ..
+-- The list that `held_order` makes is the one that the text means: the keys that are held, ..
 pub order_held : (k : ℕ) (es : List Event) → mem k (held_order es) ≡ held_now k es
 order_held k [] = refl
 order_held k (Event.placement x ∷ es) =

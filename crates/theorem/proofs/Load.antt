@@ -139,13 +139,13 @@ module _ (ix : ℕ → Option ℕ) (j : ℕ) where
       (λ e. rw (a.0, e) (ap (λ (xs : List Node). n ∷ xs) (select_here i ns a.1 ∙ rw e)))
       (λ e. rw (a.0, e) (select_here i ns a.1 ∙ rw e))
 
-  module _ (bs : ℕ → Bucket) (of_index_lem : (i : ℕ) → All (λ (n : Node). ix n.key ≡ some i) (nodes (bs i))) where
+  module _ (bs : ℕ → Bucket) (of_the_index : (i : ℕ) → All (λ (n : Node). ix n.key ≡ some i) (nodes (bs i))) where
     held_past : (n : ℕ) → n ≤ j → select is_here (held_nodes n bs) ≡ []
     unfolding held_nodes
     held_past zero h = refl
     held_past (suc n) h =
         select_append is_here (held_nodes n bs) (nodes (bs n))
-        ∙ rw (held_past n (omega arith), select_here n (nodes (bs n)) (of_index_lem n), same_not n j (λ p. absurd (omega arith)))
+        ∙ rw (held_past n (omega arith), select_here n (nodes (bs n)) (of_the_index n), same_not n j (λ p. absurd (omega arith)))
 
     held_here : (n : ℕ) → j < n → select is_here (held_nodes n bs) ≡ nodes (bs j)
     unfolding held_nodes
@@ -154,8 +154,8 @@ module _ (ix : ℕ → Option ℕ) (j : ℕ) where
         let le : j ≤ n = omega arith in
         select_append is_here (held_nodes n bs) (nodes (bs n))
         ∙ ⊎_elim
-        (λ e. rw (held_past n (omega arith), select_here n (nodes (bs n)) (of_index_lem n), ← e, same_self j))
-        (λ l. rw (held_here n l, select_here n (nodes (bs n)) (of_index_lem n), same_not n j (λ p. absurd (omega arith))) (append-nil (nodes (bs j))))
+        (λ e. rw (held_past n (omega arith), select_here n (nodes (bs n)) (of_the_index n), ← e, same_self j))
+        (λ l. rw (held_here n l, select_here n (nodes (bs n)) (of_the_index n), same_not n j (λ p. absurd (omega arith))) (append-nil (nodes (bs j))))
         (eq-or-lt_of_le le)
 
 -- ---- the log says nothing of a table that holds nothing
@@ -201,8 +201,8 @@ module _ (bs : List ℕ) (l : Log) (t : Table) (g : Loads bs t) (each : (j : ℕ
   read_here j =
       ap (select (is_here (index_in t) j)) (sym (loaded_are_read bs g.size t))
       ∙ ⊎_elim
-      (held_here (index_in t) j (loaded_bucket bs) (λ i. (loaded_well_formed bs t g i).of_index_lem.held) num_buckets)
-      (λ m. held_past (index_in t) j (loaded_bucket bs) (λ i. (loaded_well_formed bs t g i).of_index_lem.held) num_buckets m ∙ sym (ap nodes (loaded_past bs j m)))
+      (held_here (index_in t) j (loaded_bucket bs) (λ i. (loaded_well_formed bs t g i).of_the_index.held) num_buckets)
+      (λ m. held_past (index_in t) j (loaded_bucket bs) (λ i. (loaded_well_formed bs t g i).of_the_index.held) num_buckets m ∙ sym (ap nodes (loaded_past bs j m)))
       (lt_or_le j num_buckets)
 
   can_load : (j : ℕ) → Free (index_in t) j l empty_bucket (nodes (loaded_bucket bs j))
@@ -212,7 +212,7 @@ module _ (bs : List ℕ) (l : Log) (t : Table) (g : Loads bs t) (each : (j : ℕ
         no_pending = refl;
         different = w.formed.different;
         free = all_map (λ (n : Node). index_in t n.key ≡ some j) (λ (n : Node). mem n.key l.held ≡ false)
-            (λ n e. sym (holds_agree (index_in t) l j n.key empty_bucket (nothing_agrees j) e)) (nodes (loaded_bucket bs j)) w.of_index_lem.held;
+            (λ n e. sym (holds_agree (index_in t) l j n.key empty_bucket (nothing_agrees j) e)) (nodes (loaded_bucket bs j)) w.of_the_index.held;
         room = let r = w.formed.at_most in let c = count_nodes (loaded_bucket bs j) in omega arith;
       }
 

@@ -20,7 +20,7 @@ use Rattle.theorem.proofs.Frame.{Frame, Frame_trans, Frame_only, Frame_depart, F
 use Rattle.theorem.proofs.Ops.{node_give, node_other, gives, InsertOk, insert_ok, Settled, remove_settled}
 use Rattle.theorem.proofs.Updates.{IsPending, StepOk, FreeOk, held_get, free_get, pending_changed, status_held, status_free, status_pending, value_held, value_free}
 
--- What `enterRole` makes of a call that names k. g: the log with what the call gives.
+-- What `enter_role` makes of a call that names k. g: the log with what the call gives.
 abbrev pub own : ℕ → Bool → Answer → Log → Log → Log
 own k step a l g = cond (answers_failed a) (depart k l) (cond (answers_removed a) (depart k g) (cond (answers_inserted a || (step && mem k l.held)) (place k g) g))
 

@@ -1,6 +1,6 @@
 -- THE THEOREMS. Demand 3: for every list of calls that follows an accepted `new`, refused calls, further `new` calls, reads and clocks that go
 -- back included, every bucket, place by place, is what the log says, and the limits hold. The log reads calls, answers and records, and
--- no bucket. Then the closest list, and what became of pendings. The statements are those of crates/log, specs/Claim, Closest and Pending.
+-- no bucket. Then the closest list, and what became of pendings. The statements are those of crates/table_log, specs/Claim, Closest and Pending.
 use Prim.Native.Nat.{ℕ}
 use mathlib.Core.Path.{◌≡◌}
 use mathlib.Core.Bool.{true, false}
@@ -51,8 +51,8 @@ theorem_conserved = Balance.conserved
 
 -- an accepted call ends what is due in the buckets that it applies, on any table
 pub theorem_due : (c : Call) (t : Table) → is_refused (step c t).answer ≡ false → due_ended c t (step c t).records ≡ true
-theorem_due = Due.due_ended_lem
+theorem_due = Due.ended_due
 
 -- no call but a listing leaves more than one record, on any table
 pub theorem_one : (c : Call) (t : Table) → one_record c (step c t).records ≡ true
-theorem_one = Due.one_record_lem
+theorem_one = Due.single_record

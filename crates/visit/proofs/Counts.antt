@@ -2,7 +2,7 @@
 use mathlib.Core.Path.{◌≡◌, refl, sym, ap, ap₂, ◌∙◌}
 use mathlib.Core.Bool.{Bool, true, false, cond, ◌&&◌, ◌||◌}
 use mathlib.Core.List.{List, [], ◌∷◌}
-use Prim.Native.Nat.{ℕ, zero, ◌+◌, ◌-◌, ◌≤◌, ◌<◌}
+use Prim.Native.Nat.{ℕ, ◌+◌, ◌-◌, ◌≤◌, ◌<◌}
 use native.Mathlib.Omega.{arith}
 use lib.Dec.{eqb}
 use lib.ListN.{length, length-append}
@@ -21,7 +21,7 @@ use Rattle.laws.proofs.Applied.{apply_again}
 use Rattle.visit.specs.declared.Counted.{Counted}
 use Rattle.visit.specs.declared.Given.{Given}
 use Rattle.visit.specs.declared.Tally.{Tally}
-use Rattle.visit.specs.Passes.{held, records, GivenAt, records_given, CountedAt, visit_one, visited_by, visit_all, left_of, Once, Visitable, Surveyed}
+use Rattle.visit.specs.Passes.{held, records, GivenAt, records_given, CountedAt, visit_one, visited_by, visit_all, left_of, Once, Visitable, Told}
 use Rattle.visit.proofs.Visitable.{once_visited, visited_none, visited_end, visited_next}
 
 agree : (z a b : Bool) (x : ℕ) → (b ≡ true → a ≡ false) → cond (z && b) 0 x ≡ cond ((z || a) && b) 0 x
@@ -132,41 +132,35 @@ module _ (now n : ℕ) (is : List ℕ) (s : List ℕ) where
           leaves = ap (λ (m : ℕ). left_of (held now t) m rest) a.left ∙ left_next (held now t) c.left i rest ∙ w.leaves;
         }
 
-    pub counting_fails : (i : ℕ) (rest : List ℕ) (r : Tally) → 0 < c.left → bucket_formed_at s i ≡ false → Counting now n is s c (i ∷ rest) → r.formed ≡ false
-        → Surveyed now n is s r
-    counting_fails i rest r h f w e =
-        record {
-          formed =
-              e ∙ ap (λ (b : Bool). b && buckets_formed s (visited (held now t) (c.left - held now t i) rest)) (sym f) ∙ asked_at i rest h w;
-          records = λ g. clash g e;
-          count = λ g. clash g e;
-        }
+    pub counting_fails : (i : ℕ) (rest : List ℕ) → 0 < c.left → bucket_formed_at s i ≡ false → Counting now n is s c (i ∷ rest)
+        → buckets_formed s (visited_by now n is t) ≡ false
+    counting_fails i rest h f w =
+        sym (asked_at i rest h w) ∙ ap (λ (b : Bool). b && buckets_formed s (visited (held now t) (c.left - held now t i) rest)) f
 
-    counting_done : (rest : List ℕ) (r : Tally) → visited (held now t) c.left rest ≡ [] → left_of (held now t) c.left rest ≡ c.left
-        → Counting now n is s c rest → r.formed ≡ true → r.records ≡ c.records → r.count ≡ n - c.left → Surveyed now n is s r
+    counting_done : (rest : List ℕ) (y : Tally) → visited (held now t) c.left rest ≡ [] → left_of (held now t) c.left rest ≡ c.left
+        → Counting now n is s c rest → y.records ≡ c.records → y.count ≡ n - c.left → Told now n is s y
     unfolding records_given
-    counting_done rest r e l w f g k =
+    counting_done rest y e l w g k =
         record {
-          formed = f ∙ ap (buckets_formed s) (sym e) ∙ w.asks;
+          formed = sym w.asks ∙ ap (buckets_formed s) e;
           records =
-              λ _.
               (let p = w.total in
               let q : records_given (records now t) c.zero (visited (held now t) c.left rest) ≡ 0 = ap (records_given (records now t) c.zero) e in
               omega arith);
-          count = λ _. k ∙ ap (λ (m : ℕ). n - m) (sym l ∙ w.leaves);
+          count = k ∙ ap (λ (m : ℕ). n - m) (sym l ∙ w.leaves);
         }
 
-    pub counting_ends : (rest : List ℕ) (r : Tally) → rest ≡ [] → Counting now n is s c rest → r.formed ≡ true → r.records ≡ c.records → r.count ≡ n - c.left
-        → Surveyed now n is s r
+    pub counting_ends : (rest : List ℕ) (y : Tally) → rest ≡ [] → Counting now n is s c rest → y.records ≡ c.records → y.count ≡ n - c.left
+        → Told now n is s y
     unfolding left_of
-    counting_ends rest r e =
-        counting_done rest r (ap (visited (held now t) c.left) e ∙ visited_end (held now t) c.left) (ap (left_of (held now t) c.left) e)
+    counting_ends rest y e =
+        counting_done rest y (ap (visited (held now t) c.left) e ∙ visited_end (held now t) c.left) (ap (left_of (held now t) c.left) e)
 
-    pub counting_full : (rest : List ℕ) (r : Tally) → c.left ≤ 0 → Counting now n is s c rest → r.formed ≡ true → r.records ≡ c.records → r.count ≡ n - c.left
-        → Surveyed now n is s r
-    counting_full rest r h =
+    pub counting_full : (rest : List ℕ) (y : Tally) → c.left ≤ 0 → Counting now n is s c rest → y.records ≡ c.records → y.count ≡ n - c.left
+        → Told now n is s y
+    counting_full rest y h =
         let e : c.left ≡ 0 = omega arith in
-        counting_done rest r (ap (λ (m : ℕ). visited (held now t) m rest) e ∙ visited_none (held now t) rest)
+        counting_done rest y (ap (λ (m : ℕ). visited (held now t) m rest) e ∙ visited_none (held now t) rest)
         (ap (λ (m : ℕ). left_of (held now t) m rest) e ∙ left_none (held now t) rest ∙ sym e)
 
 -- what one bucket adds

@@ -1,15 +1,15 @@
 -- The orders in which a listing visits the buckets: the closest visit, and all buckets in turn.
 use mathlib.Core.Path.{◌≡◌, refl, sym, ap, ap₂, ◌∙◌, subst}
-use mathlib.Core.Bool.{Bool, true, false, cond, ◌&&◌}
+use mathlib.Core.Bool.{Bool, true, false, cond}
 use mathlib.Core.List.{List, [], ◌∷◌, ◌++◌}
-use mathlib.Core.Logic.{◌⊎◌, inl, inr, ⊎_elim}
+use mathlib.Core.Logic.{⊎_elim}
 use Prim.Native.Nat.{ℕ, zero, suc, ◌+◌, ◌-◌, ◌≤◌, ◌<◌}
 use native.Mathlib.Numerals.{add-one}
 use native.Mathlib.Omega.{arith}
-use lib.Dec.{eqb, ltb}
+use lib.Dec.{eqb}
 use lib.ListN.{length, length-append, drop, drop_of_length-le}
 use lib.Seq.{drop-cons}
-use borrow.Author.Tests.{eq-eqb, ltb-true, ltb-false}
+use borrow.Author.Tests.{eq-eqb}
 use Rattle.laws.proofs.Touched.{all_visited}
 use Rattle.model.specs.Base.{tabulate}
 use Rattle.model.specs.Key.{test_bit}
@@ -17,15 +17,10 @@ use Rattle.model.specs.Visit.{sets_down, clears_up, visits}
 use Rattle.model.specs.Table.{num_buckets}
 use Rattle.model.specs.Listing.{visited}
 use Rattle.model.specs.Fits.{All}
-use Rattle.laws.proofs.Tests.{cases, clash, split, and_left, and_right}
+use Rattle.laws.proofs.Tests.{cases, clash}
 use Rattle.laws.proofs.Lists.{lt_or_le, length_tabulate, get_d_tabulate}
 use Rattle.laws.proofs.All.{all_any}
 use Rattle.laws.proofs.Visits.{visits_below, visits_once, visits_none, add_one, times, clears_last, no_bit}
-use Rattle.key.specs.declared.BucketIndex.{BucketIndex}
-use Rattle.key.specs.declared.ClosestBucketsIter.{ClosestBucketsIter}
-use Rattle.key.specs.Answers.{bucket_index_of}
-use Rattle.key.specs.Visits.{remaining, Stepped}
-use Rattle.key.proofs.Steps.{first_some, first_none}
 use Rattle.visit.specs.Passes.{Once, Visitable}
 
 -- a list in which each number from 1 on stands at most once
@@ -111,17 +106,6 @@ module _ (i : ℕ) where
       let e : length (tabulate num_buckets (λ j. j)) ≤ i = rw length_tabulate h in
       drop_of_length-le (tabulate num_buckets (λ j. j)) e
 
-  -- the test of a loop over them, which goes on while j < k
-  module _ (j k : ℕ) where
-    pub turn_on : (ltb j k && ltb i num_buckets) ≡ true → (j < k) × (i < num_buckets)
-    turn_on e = (ltb-true j k (and_left (ltb j k) _ e), ltb-true i num_buckets (and_right (ltb j k) _ e))
-
-    pub turn_off : (ltb j k && ltb i num_buckets) ≡ false → (k ≤ j) ⊎ (num_buckets ≤ i)
-    turn_off e =
-        split (ltb j k)
-        (λ t. inr (ltb-false i num_buckets (ap (λ (b : Bool). b && ltb i num_buckets) (sym t) ∙ e)))
-        (λ t. inl (ltb-false j k t))
-
 rest : (i : ℕ) (is : List ℕ) → Visitable (i ∷ is) → Visitable is
 rest i is c = record { below = c.below.1; once = c.once.1; short = (let h = c.short in omega arith) }
 
@@ -162,11 +146,3 @@ visited_agree f g n [] h = refl
 visited_agree f g zero (i ∷ is) h = refl
 visited_agree f g (suc n) (i ∷ is) h =
     ap (λ (m : ℕ). i ∷ visited g (suc n - m) is) h.0 ∙ ap (λ (js : List ℕ). i ∷ js) (visited_agree f g (suc n - f i) is h.1)
-
--- one step of the iterator
-
-pub step_at : {before after : ClosestBucketsIter} {j : BucketIndex} {i : ℕ} → Stepped before j after → j ≡ BucketIndex.At i → remaining before ≡ i ∷ remaining after
-step_at {before} {after} {j} {i} s e = first_some (remaining before) i (sym s.answer ∙ ap bucket_index_of e) ∙ ap (λ (l : List ℕ). i ∷ l) (sym s.rest)
-
-pub step_end : {before after : ClosestBucketsIter} {j : BucketIndex} → Stepped before j after → j ≡ BucketIndex.Nothing → remaining before ≡ []
-step_end {before} s e = first_none (remaining before) (sym s.answer ∙ ap bucket_index_of e)

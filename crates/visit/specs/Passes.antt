@@ -1,5 +1,5 @@
 -- The visit of the buckets: the pendings that are due, the records that the buckets give, and the table that is left.
-use Rattle.std.specs.Prelude.{ℕ, ◌+◌, ◌-◌, ◌≤◌, ◌<◌, ◌≡◌, Bool, true, cond, ◌&&◌, ◌||◌, List, [], ◌∷◌, length, eqb}
+use Rattle.std.specs.Prelude.{ℕ, ◌+◌, ◌-◌, ◌≤◌, ◌<◌, ◌≡◌, Bool, true, false, cond, ◌&&◌, ◌||◌, List, [], ◌∷◌, length, drop, eqb, Option, MatchOption}
 use Rattle.model.specs.Base.{tabulate}
 use Rattle.model.specs.Node.{EndedPending, placed_of}
 use Rattle.model.specs.Bucket.{num_entries, apply_pending}
@@ -67,10 +67,13 @@ left_of size n (i ∷ is) = left_of size (n - size i) is
 
 -- 02, slip 7: question 2 of the buckets that yield n nodes; where it passes, the records that they give and how many nodes they hold, up
 -- to n
-pub record Surveyed (now n : ℕ) (is : List ℕ) (s : List ℕ) (r : Tally) : Type 0 where
-  pub formed : r.formed ≡ buckets_formed s (visited_by now n is (table_of s))
-  pub records : r.formed ≡ true → r.records ≡ length (visit_all now n is (table_of s)).1
-  pub count : r.formed ≡ true → r.count ≡ n - left_of (held now (table_of s)) n is
+pub record Told (now n : ℕ) (is : List ℕ) (s : List ℕ) (y : Tally) : Type 0 where
+  pub formed : buckets_formed s (visited_by now n is (table_of s)) ≡ true
+  pub records : y.records ≡ length (visit_all now n is (table_of s)).1
+  pub count : y.count ≡ n - left_of (held now (table_of s)) n is
+
+abbrev pub Surveyed : ℕ → ℕ → List ℕ → List ℕ → Option Tally → Type 0
+Surveyed now n is s r = MatchOption r (buckets_formed s (visited_by now n is (table_of s)) ≡ false) (Told now n is s)
 
 -- no bucket but bucket 0 stands twice
 abbrev pub Once : List ℕ → Type 0
@@ -79,7 +82,7 @@ Once (i ∷ is) = All (λ (j : ℕ). j ≡ i → i ≡ 0) is × Once is
 
 -- the buckets of a visit, in its order
 abbrev pub order : Visit → List ℕ
-order Visit.InTurn = tabulate num_buckets (λ i. i)
+order (Visit.InTurn i) = drop i (tabulate num_buckets (λ j. j))
 order (Visit.Nearest it) = remaining it
 
 -- buckets of the table, in an order in which they may be visited

@@ -3,21 +3,19 @@
 #![tactic(auto)]
 
 ghost use Rattle.std.specs.Prelude.{◌≡◌, true, [], ◌∷◌, ◌+◌, ◌-◌, ◌≤◌, ◌<◌, length};
-ghost use Rattle.model.specs.Base.{tabulate};
 ghost use Rattle.model.specs.Bucket.{num_entries};
 ghost use Rattle.model.specs.Table.{num_buckets, max_records};
 ghost use Rattle.model.specs.Sizes.{storage_size};
 ghost use Rattle.model.specs.Layout.{table_of};
 ghost use Rattle.model.specs.Formed.{header_formed, buckets_formed};
-ghost use Rattle.key.specs.Visits.{remaining};
 ghost use Rattle.on_key.specs.Answers.{Ready, Timely};
 ghost use Rattle.visit.specs.Passes.{GivenAt, CountedAt, visit_one, visited_by, visit_all, Visitable, order, Surveyed, applied_in};
 
-use key::{BucketIndex, ClosestBucketsIter, ClosestBucketsIterState, Key};
+use key::ClosestBucketsIter;
 use storage::Layout;
 
 // What a bucket holds once its due pending is applied, how many records it gives, and how many of them tell of a placed pending.
-#[derive(Clone, Copy)]
+#[derive(Clone, Copy, Default)]
 pub struct Given {
     pub count: usize,
     pub records: usize,
@@ -25,18 +23,16 @@ pub struct Given {
 }
 
 // What the survey has counted: the items that are left to find, whether bucket 0 was visited, and the records.
-#[derive(Clone, Copy)]
+#[derive(Clone, Copy, Default)]
 pub struct Counted {
     pub left: usize,
     pub zero: bool,
     pub records: usize,
 }
 
-// What the survey tells: every bucket of the visit passes question 2, and if so how many records they give and how many items there are,
-// up to n.
+// What the survey tells where every bucket of the visit passes question 2: how many records they give and how many items there are, up to n.
 #[derive(Clone, Copy)]
 pub struct Tally {
-    pub formed: bool,
     pub records: usize,
     pub count: usize,
 }
@@ -44,35 +40,35 @@ pub struct Tally {
 // The buckets in a listing's order.
 #[derive(Clone, Copy)]
 pub enum Visit {
-    // All, by their index.
-    InTurn,
+    // All from the one given on, by their index.
+    InTurn(usize),
     // As a closest call visits them.
     Nearest(ClosestBucketsIter),
 }
 
-// All buckets in turn. Distance 0 has no set bit, so that bucket 0 comes first, then the clear bits upward.
-fn in_turn() -> ClosestBucketsIter
-    ensures { remaining result ≡ tabulate num_buckets (λ i. i) }
-{
-    let distance = Key {
-        w0: 0,
-        w1: 0,
-        w2: 0,
-        w3: 0,
-    };
-    ClosestBucketsIter {
-        distance,
-        state: ClosestBucketsIterState::ZoomIn(0),
-    }
-}
+impl Iterator for Visit {
+    ghost use Rattle.std.specs.Iterator.{YieldsFirst, item_count};
+    ghost use Rattle.visit.specs.Passes.{order};
 
-// The iterator over the buckets of the visit.
-fn buckets_of(visit: Visit) -> ClosestBucketsIter
-    ensures { remaining result ≡ order visit }
-{
-    match visit {
-        Visit::InTurn => in_turn(),
-        Visit::Nearest(it) => it,
+    type Item = usize;
+
+    ghost next_gives = { YieldsFirst order };
+
+    ghost remaining = { item_count order };
+
+    // Internal: the bucket to visit next.
+    fn next(&mut self) -> Option<usize> {
+        match self {
+            Visit::InTurn(next) => {
+                let i = *next;
+                if i < model::NUM_BUCKETS {
+                    *next = i + 1;
+                    return Some(i);
+                }
+                None
+            }
+            Visit::Nearest(it) => it.next(),
+        }
     }
 }
 
@@ -91,13 +87,10 @@ fn applied_at(s: &[u8], i: usize, time: u64) -> Given
     ensures { GivenAt time (table_of s.now) i result }
 {
     let a = on_key::apply_at(s, i, time);
-    let b = a.bucket;
-    let applied = a.applied;
-    let placed = bucket::only_placed(applied);
     Given {
-        count: b.count,
-        records: bucket::count_of(applied),
-        placed: bucket::count_of(placed),
+        count: a.bucket.count,
+        records: bucket::count_of(a.applied),
+        placed: bucket::count_of(bucket::only_placed(a.applied)),
     }
 }
 
@@ -110,21 +103,10 @@ pub fn given_at(s: &[u8], i: usize, time: u64) -> Given
     if !on_key::is_due(s, i, time) {
         return Given {
             count: held_at(s, i),
-            records: 0,
-            placed: 0,
+            ..Given::default()
         };
     }
     applied_at(s, i, time)
-}
-
-// a - b, or 0 where b is more.
-fn less(a: usize, b: usize) -> usize
-    ensures { result ≡ a - b }
-{
-    if a < b {
-        return 0;
-    }
-    a - b
 }
 
 // The count, one bucket further.
@@ -135,20 +117,16 @@ fn count_at(s: &[u8], i: usize, time: u64, c: Counted) -> Counted
     ensures { CountedAt time (table_of s.now) i c result }
 {
     let g = given_at(s, i, time);
-    let left = less(c.left, g.count);
+    let left = c.left.saturating_sub(g.count);
     if i != 0 {
         return Counted {
             left,
-            zero: c.zero,
             records: c.records + g.records,
+            ..c
         };
     }
     if c.zero {
-        return Counted {
-            left,
-            zero: true,
-            records: c.records,
-        };
+        return Counted { left, ..c };
     }
     Counted {
         left,
@@ -157,92 +135,31 @@ fn count_at(s: &[u8], i: usize, time: u64, c: Counted) -> Counted
     }
 }
 
-// The survey of all buckets in turn, up to the one that yields the n-th item.
-fn survey_in_turn(s: &[u8], n: usize, time: u64) -> Tally
-    requires s_len { (length s.now ≡ storage_size) × (header_formed s.now ≡ true) }
-    requires timely { Timely s.now time }
-    ensures { Surveyed time n (tabulate num_buckets (λ i. i)) s.now result }
-{
-    let mut c = Counted {
-        left: n,
-        zero: false,
-        records: 0,
-    };
-    let mut i: usize = 0;
-    while (0 < c.left) & (i < model::NUM_BUCKETS) {
-        if !well_formed::bucket_formed_at(s, i) {
-            return Tally {
-                formed: false,
-                records: 0,
-                count: 0,
-            };
-        }
-        c = count_at(s, i, time, c);
-        i += 1;
-    }
-    Tally {
-        formed: true,
-        records: c.records,
-        count: n - c.left,
-    }
-}
-
-// The survey of the buckets in the order of a closest call, up to the one that yields the n-th item.
-fn survey_nearest(s: &[u8], visit: ClosestBucketsIter, n: usize, time: u64) -> Tally
-    requires s_len { (length s.now ≡ storage_size) × (header_formed s.now ≡ true) }
-    requires timely { Timely s.now time }
-    requires visitable { Visitable (remaining visit) }
-    ensures { Surveyed time n (remaining visit) s.now result }
-{
-    let mut it = visit;
-    let mut c = Counted {
-        left: n,
-        zero: false,
-        records: 0,
-    };
-    while 0 < c.left {
-        let next = it.next();
-        it = next.iter;
-        let index = next.index;
-        match index {
-            BucketIndex::Nothing => {
-                return Tally {
-                    formed: true,
-                    records: c.records,
-                    count: n - c.left,
-                };
-            }
-            BucketIndex::At(i) => {
-                if !well_formed::bucket_formed_at(s, i) {
-                    return Tally {
-                        formed: false,
-                        records: 0,
-                        count: 0,
-                    };
-                }
-                c = count_at(s, i, time, c);
-            }
-        }
-    }
-    Tally {
-        formed: true,
-        records: c.records,
-        count: n,
-    }
-}
-
 // Internal: question 2 of each bucket that the visit comes to, up to the one that yields the n-th item; the records that they would give,
 // and how many items there are. Nothing of a bucket is read before it is asked, and nothing is written.
-pub fn survey(s: &[u8], visit: Visit, n: usize, time: u64) -> Tally
+pub fn survey(s: &[u8], visit: Visit, n: usize, time: u64) -> Option<Tally>
     requires s_len { (length s.now ≡ storage_size) × (header_formed s.now ≡ true) }
     requires timely { Timely s.now time }
     requires visitable { Visitable (order visit) }
     ensures { Surveyed time n (order visit) s.now result }
 {
-    match visit {
-        Visit::InTurn => survey_in_turn(s, n, time),
-        Visit::Nearest(it) => survey_nearest(s, it, n, time),
+    let mut c = Counted {
+        left: n,
+        ..Counted::default()
+    };
+    for i in visit {
+        if c.left == 0 {
+            break;
+        }
+        if !well_formed::bucket_formed_at(s, i) {
+            return None;
+        }
+        c = count_at(s, i, time, c);
     }
+    Some(Tally {
+        records: c.records,
+        count: n - c.left,
+    })
 }
 
 // Internal: applies the pending of bucket i in the storage, if it is due.
@@ -254,45 +171,12 @@ pub fn apply_in(s: &mut [u8], i: usize, time: u64)
 {
     if on_key::is_due(s, i, time) {
         let a = on_key::apply_at(s, i, time);
-        let applied = a.applied;
-        let b = a.bucket;
-        on_key::write_back(s, i, applied, b);
+        on_key::write_back(s, i, a.applied, a.bucket);
     }
 }
 
-// Visits the buckets that yield n items and applies their due pendings in the storage. records: what the survey counted; where there is
-// none, none is due.
-fn apply_visited(s: &mut [u8], visit: ClosestBucketsIter, n: usize, time: u64, records: usize)
-    requires s_len { (length s.old ≡ storage_size) × (header_formed s.old ≡ true) }
-    requires timely { Timely s.old time }
-    requires visitable { Visitable (remaining visit) }
-    requires s_value { buckets_formed s.old (visited_by time n (remaining visit) (table_of s.old)) ≡ true }
-    requires s_len_bound { length (visit_all time n (remaining visit) (table_of s.old)).0.queue ≤ max_records }
-    requires records_value { records ≡ length (visit_all time n (remaining visit) (table_of s.old)).1 }
-    ensures { s.new ≡ applied_in s.old time (visited_by time n (remaining visit) (table_of s.old)) }
-{
-    if records == 0 {
-        return;
-    }
-    let mut it = visit;
-    let mut left = n;
-    while 0 < left {
-        let next = it.next();
-        it = next.iter;
-        let index = next.index;
-        match index {
-            BucketIndex::Nothing => {
-                return;
-            }
-            BucketIndex::At(i) => {
-                apply_in(s, i, time);
-                left = less(left, held_at(s, i));
-            }
-        }
-    }
-}
-
-// Internal: the applying pass over the visit.
+// Internal: visits the buckets that yield n items and applies their due pendings in the storage. records: what the survey counted; where
+// there is none, none is due.
 pub fn apply_all(s: &mut [u8], visit: Visit, n: usize, time: u64, records: usize)
     requires s_len { (length s.old ≡ storage_size) × (header_formed s.old ≡ true) }
     requires timely { Timely s.old time }
@@ -302,6 +186,15 @@ pub fn apply_all(s: &mut [u8], visit: Visit, n: usize, time: u64, records: usize
     requires records_value { records ≡ length (visit_all time n (order visit) (table_of s.old)).1 }
     ensures { s.new ≡ applied_in s.old time (visited_by time n (order visit) (table_of s.old)) }
 {
-    let it = buckets_of(visit);
-    apply_visited(s, it, n, time, records);
+    if records == 0 {
+        return;
+    }
+    let mut left = n;
+    for i in visit {
+        if left == 0 {
+            break;
+        }
+        apply_in(s, i, time);
+        left = left.saturating_sub(held_at(s, i));
+    }
 }

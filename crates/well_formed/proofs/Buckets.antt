@@ -53,7 +53,7 @@ regroup false i s f n p c z = refl
 module _ (p : ℕ → Bool) (m : ℕ) (s : List ℕ) (at : ℕ) where
   -- zero bytes are an empty bucket
   pub bucket_zero : at + bucket_size ≤ length s → are_zero s at bucket_size ≡ true → bucket_formed p m (part s at bucket_size) ≡ true
-  bucket_zero l z = rw (part_are_zero s at bucket_size l z, ← bytes_empty) (bucket_formed_lem p m empty_bucket (record { formed = empty_formed m; of_index_lem = record { held = tt; pending = tt } }) empty_fits)
+  bucket_zero l z = rw (part_are_zero s at bucket_size l z, ← bytes_empty) (bucket_formed_lem p m empty_bucket (record { formed = empty_formed m; of_the_index = record { held = tt; pending = tt } }) empty_fits)
 
   module _ (n f : ℕ) (en : n ≡ get_or s at 0) (ef : f ≡ get_or s (at + 1) 0) where
     pub bucket_many : max_nodes_per_bucket < n → bucket_formed p m (part s at bucket_size) ≡ false

@@ -1,5 +1,5 @@
 -- Question 2 of one place: the tests of a bucket's bytes, by the bytes of the storage that the bucket stands in.
-use mathlib.Core.Path.{◌≡◌, sym, ap, ◌∙◌}
+use mathlib.Core.Path.{◌≡◌, refl, sym, ap, ◌∙◌}
 use mathlib.Core.Bool.{Bool, true, false, cond, not, ◌&&◌}
 use mathlib.Core.List.{List, [], ◌∷◌, append-nil}
 use mathlib.Core.Option.{Option}
@@ -11,6 +11,7 @@ use lib.Dec.{eqb}
 use lib.ListN.{length, get_or, set}
 use lib.Seq.{get_or-set_same, get_or-set_other}
 use borrow.Author.Tests.{eqb-true, eqb-false, ne_eqb}
+use Rattle.std.specs.Int.{from_bool}
 use Rattle.model.specs.Base.{same, select, tabulate}
 use Rattle.model.specs.Bytes.{number, part, Bytes}
 use Rattle.model.specs.Key.{distance, less_one}
@@ -107,12 +108,12 @@ last_bytes_differ s at j l b h d = all_if j _ (λ k i. ap not (other k i))
     other k i = rw (place_key s at k (omega arith), place_key s at j h) (same_not _ _ (λ q. d k i (lows k i q)))
 
 -- what is marked stays marked where one more is
-pub marked_more : (seen : List ℕ) (f : ℕ → ℕ) (j : ℕ) → f j < length seen → ((k : ℕ) → k < j → get_or seen (f k) 0 ≡ 1)
-    → (k : ℕ) → k < j + 1 → get_or (set seen (f j) 1) (f k) 0 ≡ 1
+pub marked_more : (seen : List Bool) (f : ℕ → ℕ) (j : ℕ) → f j < length seen → ((k : ℕ) → k < j → get_or seen (f k) false ≡ true)
+    → (k : ℕ) → k < j + 1 → get_or (set seen (f j) true) (f k) false ≡ true
 marked_more seen f j l m k h =
     split (eqb (f k) (f j))
-    (λ e. rw (eqb-true (f k) (f j) e) (get_or-set_same seen (f j) 1 0 l))
-    (λ e. get_or-set_other seen (f j) (f k) 1 0 (eqb-false (f k) (f j) e) ∙ m k (below e))
+    (λ e. rw (eqb-true (f k) (f j) e) (get_or-set_same seen (f j) true false l))
+    (λ e. get_or-set_other seen (f j) (f k) true false (eqb-false (f k) (f j) e) ∙ m k (below e))
   where
     below : eqb (f k) (f j) ≡ false → k < j
     below e = let d : k ≡ j → ⊥ = λ q. eqb-false (f k) (f j) e (ap f q) in omega arith
@@ -126,6 +127,15 @@ more_add false n = omega arith
 pub incoming_more : (f : ℕ → Node) (k : ℕ) → length (incoming_nodes (tabulate (k + 1) f)) ≡ length (incoming_nodes (tabulate k f)) + cond (connected_incoming (f k)) 1 0
 incoming_more f k =
     rw tabulate_one_more (length_select_insert connected_incoming (f k) (tabulate k f) [] ∙ rw append-nil (more_add (connected_incoming (f k)) (length (incoming_nodes (tabulate k f)))))
+
+as_number : (b : Bool) → from_bool b ≡ cond b 1 0
+as_number true = refl
+as_number false = refl
+
+-- one more counted, of b as a number
+pub counted : (f : ℕ → Node) (k : ℕ) {n m : ℕ} {b : Bool} → n ≡ length (incoming_nodes (tabulate k f)) → m ≡ from_bool b → b ≡ connected_incoming (f k)
+    → n + m ≡ length (incoming_nodes (tabulate (k + 1) f))
+counted f k h e g = rw (incoming_more, h, e, g, as_number)
 
 select_at_most : {A : Type 0} (p : A → Bool) (l : List A) → length (select p l) ≤ length l
 select_at_most p [] = omega arith

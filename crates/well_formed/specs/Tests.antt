@@ -1,4 +1,4 @@
--- Question 2's tests of one place, as the code runs them: what they are together is the model's `bucketFormed`.
+-- Question 2's tests of one place, as the code runs them: what they are together is the model's `bucket_formed`.
 use Rattle.std.specs.Prelude.{ℕ, Bool, ◌&&◌, List, get_or, eqb}
 use Rattle.model.specs.Key.{bucket_index}
 use Rattle.model.specs.Node.{Node}

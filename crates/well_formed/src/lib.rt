@@ -1,4 +1,5 @@
-// Internal: question 2 on the bytes of the storage, with one node by value at a time.
+// Internal: question 2 on the bytes of the storage, with one node by value at a time. Where tests are joined by `&`, and in a loop by `&=`, all of
+// them are made: on well-formed storage none fails, and a branch after each costs more.
 #![tactic(auto)]
 
 ghost use Rattle.std.specs.Prelude.{◌≡◌, true, cond, ◌&&◌, ◌+◌, ◌*◌, ◌-◌, ◌≤◌, ◌<◌, eqb, leb, length, get_or};
@@ -22,7 +23,7 @@ use storage::Layout;
 pub fn size(x: u8) -> usize
     ensures { result ≡ x }
 {
-    x as usize
+    usize::from(x)
 }
 
 // Internal: the bytes at `at` are those of the key. The last word decides most often.
@@ -30,12 +31,7 @@ pub fn has_key(s: &[u8], at: usize, key: Key) -> bool
     requires { at + key_size ≤ length s.now }
     ensures { result ≡ same (number (part s.now at key_size)) (num key) }
 {
-    if words::get_u64(s, at + (Layout::KEY - 8)) == key.w3 {
-        let k = Key::load(s, at);
-        k.eq(key)
-    } else {
-        false
-    }
+    words::get_u64(s, at + (Layout::KEY - 8)) == key.w3 && Key::load(s, at).eq(key)
 }
 
 // Internal: no place below k of the bucket at `at` has the key.
@@ -43,12 +39,10 @@ pub fn not_held(s: &[u8], at: usize, k: usize, key: Key) -> bool
     requires { (at + bucket_size ≤ length s.now) × (k ≤ max_nodes_per_bucket) }
     ensures { result ≡ not_held (part s.now at bucket_size) k (num key) }
 {
-    let mut j: usize = 0;
-    while j < k {
+    for j in 0..k {
         if has_key(s, at + (Layout::PLACES_AT + j * Layout::NODE), key) {
             return false;
         }
-        j += 1;
     }
     true
 }
@@ -58,18 +52,15 @@ fn keys_differ(s: &[u8], at: usize, count: usize) -> bool
     requires { (at + bucket_size ≤ length s.now) × (count ≤ max_nodes_per_bucket) }
     ensures { result ≡ all_below count (differs (part s.now at bucket_size)) }
 {
-    let mut seen = [0u8; 256];
+    let mut seen = [false; 256];
     let mut ok = true;
-    let mut j: usize = 0;
-    while j < count {
+    for j in 0..count {
         let place = at + (Layout::PLACES_AT + j * Layout::NODE);
-        let last = size(s[place + (Layout::KEY - 1)]);
-        if seen[last] != 0 {
-            let key = Key::load(s, place);
-            ok = ok & not_held(s, at, j, key);
+        let last = usize::from(s[place + (Layout::KEY - 1)]);
+        if seen[last] {
+            ok &= not_held(s, at, j, Key::load(s, place));
         }
-        seen[last] = 1;
-        j += 1;
+        seen[last] = true;
     }
     ok
 }
@@ -79,8 +70,7 @@ fn of_index(local: Key, key: Key, i: usize) -> bool
     requires { i < num_buckets }
     ensures { result ≡ of_index (num local) i (num key) }
 {
-    let d = local.distance(key);
-    Key::BITS - d.leading_zeros() == i + 1
+    Key::BITS - local.distance(key).leading_zeros() == i + 1
 }
 
 // The node's codes are in range, its key is of the index, and its state is the one given.
@@ -88,24 +78,14 @@ fn node_formed(n: Node, local: Key, i: usize, state: u8) -> bool
     requires { i < num_buckets }
     ensures { result ≡ ((node_codes n && of_index (num local) i (num n.key)) && eqb n.status.state state) }
 {
-    let key = n.key;
-    if !of_index(local, key, i) {
-        return false;
-    }
-    if n.status.state != state {
-        return false;
-    }
-    if 1 < n.status.direction {
-        return false;
-    }
-    n.in_range()
+    of_index(local, n.key, i) && n.status.state == state && n.status.direction <= 1 && n.in_range()
 }
 
 // Internal: the state that place j has where `first` is the first connected place.
 pub fn state_at(first: usize, j: usize) -> u8
     ensures { result ≡ state_at first j }
 {
-    if j < first { 0 } else { 1 }
+    u8::from(first <= j)
 }
 
 // The places below count: codes, index and state of each.
@@ -113,13 +93,11 @@ fn places_formed(s: &[u8], at: usize, count: usize, first: usize, local: Key, i:
     requires { (at + bucket_size ≤ length s.now) × (count ≤ max_nodes_per_bucket) × (i < num_buckets) }
     ensures { result ≡ all_below count (place_formed (of_index (num local) i) first (part s.now at bucket_size)) }
 {
-    let mut j: usize = 0;
-    while j < count {
+    for j in 0..count {
         let n = storage::load_node(s, at + (Layout::PLACES_AT + j * Layout::NODE));
         if !node_formed(n, local, i, state_at(first, j)) {
             return false;
         }
-        j += 1;
     }
     true
 }
@@ -128,7 +106,7 @@ fn places_formed(s: &[u8], at: usize, count: usize, first: usize, local: Key, i:
 pub fn one(b: bool) -> usize
     ensures { (result ≡ cond b 1 0) × (result ≤ 1) }
 {
-    if b { 1 } else { 0 }
+    usize::from(b)
 }
 
 // Internal: the node at `at` is connected and incoming.
@@ -148,10 +126,8 @@ fn incoming_within(s: &[u8], at: usize, count: usize, max_incoming: usize) -> bo
         return true;
     }
     let mut n: usize = 0;
-    let mut j: usize = 0;
-    while j < count {
-        n += one(is_incoming(s, at + (Layout::PLACES_AT + j * Layout::NODE)));
-        j += 1;
+    for j in 0..count {
+        n += usize::from(is_incoming(s, at + (Layout::PLACES_AT + j * Layout::NODE)));
     }
     n <= max_incoming
 }
@@ -170,8 +146,7 @@ fn pending_formed(s: &[u8], at: usize, count: usize, local: Key, i: usize) -> bo
         );
     }
     let n = storage::load_node(s, at + (Layout::PENDING_AT + 1));
-    let key = n.key;
-    (flag == 1) & (of_index(local, key, i) & (not_held(s, at, count, key) & n.in_range()))
+    (flag == 1) & (of_index(local, n.key, i) & (not_held(s, at, count, n.key) & n.in_range()))
 }
 
 // The places of the bucket at `at`: the keys differ, those held are formed, the others zero.
@@ -195,10 +170,7 @@ fn is_empty(s: &[u8], at: usize) -> bool
     requires { at + bucket_size ≤ length s.now }
     ensures { result ≡ true → are_zero s.now at bucket_size ≡ true }
 {
-    if s[at] != 0 {
-        return false;
-    }
-    words::all_zero(s, at, Layout::BUCKET)
+    s[at] == 0 && words::all_zero(s, at, Layout::BUCKET)
 }
 
 // The bucket of index i, whose bytes stand at `at`, by its count, its places and its pending.
@@ -206,8 +178,8 @@ fn parts_formed(s: &[u8], at: usize, local: Key, i: usize, max_incoming: usize) 
     requires { (at + bucket_size ≤ length s.now) × (i < num_buckets) }
     ensures { result ≡ bucket_formed (of_index (num local) i) max_incoming (part s.now at bucket_size) }
 {
-    let count = size(s[at]);
-    let first = size(s[at + 1]);
+    let count = usize::from(s[at]);
+    let first = usize::from(s[at + 1]);
     if model::MAX_NODES_PER_BUCKET < count {
         return false;
     }
@@ -221,10 +193,7 @@ pub fn bucket_formed(s: &[u8], at: usize, local: Key, i: usize, max_incoming: us
     requires { (at + bucket_size ≤ length s.now) × (i < num_buckets) }
     ensures { result ≡ bucket_formed (of_index (num local) i) max_incoming (part s.now at bucket_size) }
 {
-    if is_empty(s, at) {
-        return true;
-    }
-    parts_formed(s, at, local, i, max_incoming)
+    is_empty(s, at) || parts_formed(s, at, local, i, max_incoming)
 }
 
 // Internal: bucket i of the storage is well formed. Of an empty one nothing else is read.
@@ -237,7 +206,7 @@ pub fn bucket_formed_at(s: &[u8], i: usize) -> bool
         return true;
     }
     let local = Key::load(s, 0);
-    let max_incoming = size(s[Layout::MAX_INCOMING_AT]);
+    let max_incoming = usize::from(s[Layout::MAX_INCOMING_AT]);
     parts_formed(s, at, local, i, max_incoming)
 }
 
@@ -248,11 +217,9 @@ fn record_formed(s: &[u8], at: usize) -> bool
 {
     let kind = s[at + Layout::KEY];
     if kind == Layout::EVICTING_KIND {
-        let n = storage::load_node(s, at + (Layout::KEY + 1));
-        return n.in_range();
+        return storage::load_node(s, at + (Layout::KEY + 1)).in_range();
     }
-    let unused = words::all_zero(s, at + (Layout::KEY + 1), Layout::NODE);
-    (kind <= Layout::LAST_KIND) & unused
+    (kind <= Layout::LAST_KIND) & words::all_zero(s, at + (Layout::KEY + 1), Layout::NODE)
 }
 
 // The first count records of the queue.
@@ -261,10 +228,8 @@ fn records_formed(s: &[u8], count: usize) -> bool
     ensures { result ≡ all_below count (record_at_formed s.now) }
 {
     let mut ok = true;
-    let mut j: usize = 0;
-    while j < count {
-        ok = ok & record_formed(s, Layout::RECORDS_AT + j * Layout::RECORD);
-        j += 1;
+    for j in 0..count {
+        ok &= record_formed(s, Layout::RECORDS_AT + j * Layout::RECORD);
     }
     ok
 }
@@ -274,11 +239,11 @@ pub fn header_formed(s: &[u8]) -> bool
     requires { header_size ≤ length s.now }
     ensures { result ≡ header_formed s.now }
 {
-    let count = size(s[Layout::RECORD_COUNT_AT]);
+    let count = usize::from(s[Layout::RECORD_COUNT_AT]);
     if Layout::MAX_RECORDS < count {
         return false;
     }
-    let settings = (size(s[Layout::MAX_INCOMING_AT]) <= model::MAX_NODES_PER_BUCKET)
+    let settings = (usize::from(s[Layout::MAX_INCOMING_AT]) <= model::MAX_NODES_PER_BUCKET)
         & ((s[Layout::TABLE_FILTER_AT] <= 1) & (s[Layout::BUCKET_FILTER_AT] <= 1));
     let padding = words::all_zero(s, Layout::PADDING_AT, Layout::PADDING);
     let unused = words::all_zero_long(
@@ -295,10 +260,8 @@ pub fn buckets_formed(s: &[u8]) -> bool
     ensures { result ≡ all_below num_buckets (bucket_at_formed s.now) }
 {
     let mut ok = true;
-    let mut i: usize = 0;
-    while i < model::NUM_BUCKETS {
-        ok = ok & bucket_formed_at(s, i);
-        i += 1;
+    for i in 0..model::NUM_BUCKETS {
+        ok &= bucket_formed_at(s, i);
     }
     ok
 }

@@ -3,35 +3,33 @@
 #![tactic(auto)]
 
 ghost use Rattle.std.specs.Prelude.{◌≡◌, ◌+◌, ◌<◌};
-ghost use Rattle.model.specs.Session.{year_start};
+ghost use Rattle.model.specs.Session.{leap, year_start};
 
 use std::io;
+
+// The leap year rule.
+fn is_leap(year: u16) -> bool
+    ensures { result ≡ leap year }
+{
+    year % 4 == 0 && (year % 100 != 0 || year % 400 == 0)
+}
 
 // The start of the year behind the year 2000 + n.
 fn next_start(n: u16, start: u32) -> u32
     requires { (n < 400) × (start ≡ year_start n) }
     ensures { result ≡ year_start (n + 1) }
 {
-    let year = 2000 + n;
-    if year % 4 != 0 {
-        return start + 365;
-    }
-    if year % 100 != 0 {
+    if is_leap(2000 + n) {
         return start + 366;
     }
-    if year % 400 != 0 {
-        return start + 365;
-    }
-    start + 366
+    start + 365
 }
 
 fn main(rt: HostRuntime) -> io::Result<()> {
     let mut start: u32 = 0;
-    let mut n: u16 = 0;
-    while n < 400 {
+    for n in 0..400 {
         println!(rt; "{start}")?;
         start = next_start(n, start);
-        n += 1;
     }
     Ok(())
 }

@@ -1,0 +1,21 @@
+use Rattle.std.proofs.Common.{refl, sym, ◌∙◌}
+use Rattle.node.specs.Node.{node_of}
+use Rattle.bucket.specs.Bucket.{bucket_of, settings_of}
+use Rattle.bucket.proofs.Sound.{becomes_itself}
+use Rattle.bucket.proofs.Rules.{reinsert_filter, reinsert_many, reinsert_placed}
+use Rattle.bucket.proofs.KBucket.reinserted.Goals as goal
+
+pub returns-then-fails_filter : goal.returns-then-fails_filter
+returns-then-fails_filter c =
+    rw (reinsert_filter (settings_of c.args.self) (node_of c.args.node) (bucket_of c.args.self) (sym c.fails_filter.ensures ∙ c.if-fails_filter.true))
+    (record { result_value = refl; becomes = becomes_itself c.args.self c.requires.sound })
+
+pub returns-then-is_max_incoming : goal.returns-then-is_max_incoming
+returns-then-is_max_incoming c =
+    rw (reinsert_many (settings_of c.args.self) (node_of c.args.node) (bucket_of c.args.self) (sym c.fails_filter.ensures ∙ c.if-fails_filter.false) (sym c.is_max_incoming.ensures ∙ c.if-is_max_incoming.true))
+    (record { result_value = refl; becomes = becomes_itself c.args.self c.requires.sound })
+
+pub returns : goal.returns
+returns c =
+    rw (reinsert_placed (settings_of c.args.self) (node_of c.args.node) (bucket_of c.args.self) (sym c.fails_filter.ensures ∙ c.if-fails_filter.false) (sym c.is_max_incoming.ensures ∙ c.if-is_max_incoming.false))
+    (record { result_value = c.status_result.ensures; becomes = c.placed.ensures })

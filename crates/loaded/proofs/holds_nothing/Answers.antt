@@ -1,0 +1,24 @@
+use Rattle.std.proofs.Common.{◌≡◌, arith}
+use Rattle.model.specs.Table.{num_buckets}
+use Rattle.laws.proofs.Lists.{all_none, all_more}
+use Rattle.loaded.proofs.Asked.{empty_at, holds_records, holds_bucket, holds_none}
+use Rattle.loaded.proofs.holds_nothing.Goals as goal
+
+pub returns-then-s-ne0 : goal.returns-then-s-ne0
+returns-then-s-ne0 c = holds_records c.args.s.now c.requires.0 c.requires.1 c.if-s-ne0.true
+
+pub loop-i-init : goal.loop-i-init
+loop-i-init c = all_none _
+
+pub returns-then-not-s-at : goal.returns-then-not-s-at
+unfolding empty_at
+returns-then-not-s-at c = holds_bucket c.args.s.now c.requires.0 c.requires.1 c.loop-i.i c.loop-i-test.true c.if-not-s-at.true
+
+pub loop-i-preserved : goal.loop-i-preserved
+unfolding empty_at
+loop-i-preserved c = rw (all_more, c.loop-i.invariant) c.if-not-s-at.false
+
+pub returns : goal.returns
+returns c =
+    let e : c.loop-i.i ≡ num_buckets = omega arith in
+    holds_none c.args.s.now c.requires.0 c.requires.1 c.if-s-ne0.false (rw e at c.loop-i.invariant)

@@ -1,0 +1,21 @@
+use Rattle.std.proofs.Common.{Bool, ◌&&◌, refl, ◌∙◌, arith, rules}
+use Rattle.std.proofs.lemmas.Iterator.{YieldsList-from_range}
+use Rattle.std.proofs.lemmas.Iterator.Search.{any_from_yields_List}
+use Rattle.model.specs.Bytes.{part}
+use Rattle.model.specs.Node.{Node}
+use Rattle.model.specs.Filter.{counts}
+use Rattle.model.specs.Sizes.{bucket_size}
+use Rattle.node.specs.Node.{value_of}
+use Rattle.well_formed.specs.Tests.{node_at}
+use Rattle.loaded.specs.Load.{third_of}
+use Rattle.loaded.proofs.Nets.{any_listed}
+use Rattle.loaded.proofs.third.Goals as goal
+
+pub returns : goal.returns
+unfolding third_of
+returns c =
+    let a = c.args in
+    let bs = part a.s.now a.at bucket_size in
+    let passes : Node → Bool = λ n. counts (value_of a.a) n.value && counts (value_of a.b) n.value in
+    any_from_yields_List (λ j. passes (node_at bs j)) _ _ _ c.any.ensures.ran (YieldsList-from_range 0 a.count a.count refl (omega arith)) (λ x b q k. search rules)
+    ∙ any_listed a.s.now a.at passes a.count c.requires.1

@@ -1,8 +1,0 @@
-use Rattle.std.proofs.Common.{◌-◌, ◌≤◌}
-use Rattle.replay.proofs.replay.Given as goal
-
-abbrev pub invariant-loop-number : goal.invariant-loop-number
-invariant-loop-number g l = l.number ≤ 100000
-
-abbrev pub decreases-loop-number : goal.decreases-loop-number
-decreases-loop-number g l = 100000 - l.number

@@ -1,0 +1,13 @@
+use Rattle.std.proofs.Common.{◌≡◌, ◌≤◌}
+use Rattle.model.specs.Bytes.{part}
+use Rattle.model.specs.Sizes.{bucket_size}
+use Rattle.key.specs.Key.{num}
+use Rattle.node.specs.Node.{value_of}
+use Rattle.table_filter.specs.Counted.{counted_below}
+use Rattle.table_filter.proofs.counted_below.Given as goal
+
+abbrev pub invariant-loop-j : goal.invariant-loop-j
+invariant-loop-j l = record {
+  few : l.n ≤ l.j;
+  counted : l.n ≡ counted_below (num l.key) (value_of l.value) (part l.s l.at bucket_size) l.j;
+}

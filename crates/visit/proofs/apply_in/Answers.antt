@@ -1,0 +1,23 @@
+use Rattle.std.proofs.Common.{List, sym, ◌∙◌, rules}
+use mathlib.Core.Path.{ap₂}
+use Rattle.model.specs.Node.{EndedPending}
+use Rattle.model.specs.Bucket.{Bucket}
+use Rattle.on_key.specs.Answers.{rewritten}
+use Rattle.visit.proofs.Passes.{visit_room, visit_written, visit_unwritten}
+use Rattle.visit.proofs.apply_in.Goals as goal
+
+pub write_back-requires-clause-applied_value : goal.write_back-requires-clause-applied_value
+write_back-requires-clause-applied_value c =
+    visit_room c.args.s.now c.args.time c.args.i _ c.apply_at-a.ensures.records c.requires.s_len_bound
+
+pub returns-then-is_due : goal.returns-then-is_due
+returns-then-is_due c =
+    let a = c.args in
+    let x = c.apply_at-a.ensures in
+    c.write_back.ensures ∙ ap₂ (λ (b : Bucket) (rs : List EndedPending). rewritten a.s.now a.i b rs) x.bucket.bucket x.records
+    ∙ visit_written a.s.now a.time a.i
+
+pub returns-else-is_due : goal.returns-else-is_due
+returns-else-is_due c =
+    visit_unwritten c.args.s.now c.args.time c.args.i (λ j. search rules) c.requires.ready c.requires.timely c.requires.s_len_bound
+    (sym c.is_due.ensures ∙ c.if-is_due.false)

@@ -1,0 +1,10 @@
+use Rattle.std.proofs.Common.{sym, ◌∙◌}
+use Rattle.key.specs.Key.{num}
+use Rattle.well_formed.specs.Tests.{of_index}
+use Rattle.well_formed.proofs.Buckets.{bucket_zero}
+use Rattle.well_formed.proofs.bucket_formed.Goals as goal
+
+pub returns-then-is_empty : goal.returns-then-is_empty
+returns-then-is_empty c =
+    let a = c.args in
+    c.if-is_empty.true ∙ sym (bucket_zero (of_index (num a.local) a.i) a.max_incoming a.s.now a.at c.requires.0 (c.is_empty.ensures c.if-is_empty.true))
