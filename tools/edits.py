@@ -10,10 +10,12 @@ from functools import lru_cache
 from pathlib import Path
 
 ROOT = Path(__file__).resolve().parent.parent
-ITEM = re.compile(r'^impl (\w+)(?:<([^>{]*)>)?(?: for (\w+))?|^( *)((?:pub(?:\(crate\))? )?)(?:extern "C" )?fn (\w+)', re.M)
+ITEM = re.compile(
+    r'^impl(?:<(?P<generic>[^{]*?)>)? (?P<first>[\w:]+)(?:<(?P<args>(?:[^<>{]|<[^<>]*>)*)>)?(?: for (?P<type>[^{\n]+?))?\s*(?:\{|$)'
+    r'|^(?P<indent> *)(?P<public>(?:pub(?:\(crate\))? )?)(?:extern "C" )?fn (?P<name>\w+)', re.M)
 CONSTANT = re.compile(r"^(?:pub(?:\(crate\))? )?const (\w+)\b.*?;$", re.M | re.S)
-# the name of a step of a function, in its proof, is of several words with dashes; a test's fact may have another form
-STEP = re.compile(r"\w+(?:-\w+)+(?:\.(?:true|false)(?:-raw)?)?")
+# the name of a step of a function, in its proof, stands behind `c.` or is of several words with dashes; a test's fact may have another form
+STEP = re.compile(r"(?:\bc\.\w+(?:-\w+)*|\w+(?:-\w+)+)(?:\.(?:true|false)(?:-raw)?)?")
 TOKEN = re.compile(r"//[^\n]*|--[^\n]*|(?P<string>\"[^\"\n]*\")|(0x[0-9A-Fa-f_]+|[0-9][0-9_]*)|(\w+|[^\w\s])")
 
 
@@ -25,22 +27,32 @@ class Function:
         self.start, self.body, self.end = start, body, end
 
 
+def kind_of(item):
+    """an impl's name as rt has it: the type, the trait and the trait's arguments together, without the impl's own parameters"""
+    own = set(re.findall(r"\b(\w+)\b(?=\s*[:,]|\s*$)", item["generic"] or ""))
+
+    def together(text):
+        words = re.findall(r"\w+|\[", text or "")
+        return "".join("Array" if word == "[" else word[0].upper() + word[1:] for word in words if word not in own)
+
+    trait = item["first"].rpartition("::")[2]
+    return together(item["type"]) + trait + together(item["args"]) if item["type"] else trait
+
+
 @lru_cache(maxsize=None)
 def functions_of(crate, file):
     text = (ROOT / "crates" / crate / file).read_text()
     module = [] if file in ("src/lib.rt", "src/main.rt") else [Path(file).stem]
     kind, found = None, []
     for item in ITEM.finditer(text):
-        if item[1]:
-            # rt names the functions of an impl of a trait by the type, the trait and the trait's arguments together
-            of = "".join(part[0].upper() + part[1:] for part in re.findall(r"\w+", item[2] or "")) if item[3] else ""
-            kind = (item[3] or "") + item[1] + of
+        if item["first"]:
+            kind = kind_of(item)
             continue
         # a clause ends with a brace that closes, so that the first line of the head that ends with one that opens is its last
         opens = re.compile(r"^(?!\s*(?:requires|ensures)\b).*\{$", re.M).search(text, item.start())
-        closes = re.compile(rf"^{item[4]}\}}$", re.M).search(text, item.start())
-        name = "::".join([crate, *module, *([kind] if item[4] else []), item[6]])
-        found.append(Function(name, bool(item[5]), is_internal(text[: item.start()]), item.start(), opens.end(), closes.end()))
+        closes = re.compile(rf"^{item['indent']}\}}$", re.M).search(text, item.start())
+        name = "::".join([crate, *module, *([kind] if item["indent"] else []), item["name"]])
+        found.append(Function(name, bool(item["public"]), is_internal(text[: item.start()]), item.start(), opens.end(), closes.end()))
     return found
 
 

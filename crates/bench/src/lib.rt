@@ -8,38 +8,29 @@ use bucket::KBucket;
 use key::Key;
 use node::{Node, NodeStatus, Value};
 
-// An outgoing node with no address.
-fn node_from(k: u64, connected: bool) -> Node
+// An outgoing node with no address, connected where k is even.
+fn node_from(k: u64) -> Node
     ensures { node_codes result ≡ true }
 {
-    let key = Key {
-        w0: k,
-        w3: k,
-        ..Key::default()
-    };
-    let value = Value {
-        flag: 0,
-        a: 0,
-        b: 0,
-        c: 0,
-        d: 0,
-        slot: 0,
-    };
-    let status = NodeStatus {
-        state: u8::from(connected),
-        direction: 0,
-    };
-    Node { key, value, status }
+    Node {
+        key: Key {
+            w0: k,
+            w3: k,
+            ..Key::default()
+        },
+        value: Value::default(),
+        status: NodeStatus {
+            state: u8::from(k % 2 == 0),
+            direction: 0,
+        },
+    }
 }
 
-// Two disconnected and two connected nodes.
+// Two connected and two disconnected nodes.
 fn four_held() -> KBucket {
-    let made = KBucket::new(60000, 16, 0);
-    let mut b = made.bucket;
-    for i in 0..4u64 {
-        let node = node_from(i + 1, i % 2 == 0);
-        let r = b.insert(node, 0);
-        b = r.bucket;
+    let mut b = KBucket::new(60000, 16, 0).bucket;
+    for k in 0..4u64 {
+        b = b.insert(node_from(k), 0).bucket;
     }
     b
 }
@@ -58,9 +49,7 @@ pub extern "C" fn bench_insert_sound(rounds: u64) -> u64
     for _i in 0..rounds {
         let mut b = start;
         for k in 0..8u64 {
-            let node = node_from(100 + k, k % 2 == 0);
-            let r = b.insert_sound(node, 0);
-            b = r.bucket;
+            b = b.insert_sound(node_from(100 + k), 0).bucket;
         }
         seen += u64::from(b.count == 12);
     }
@@ -78,9 +67,7 @@ pub extern "C" fn bench_insert(rounds: u64) -> u64
     for _i in 0..rounds {
         let mut b = start;
         for k in 0..8u64 {
-            let node = node_from(100 + k, k % 2 == 0);
-            let r = b.insert(node, 0);
-            b = r.bucket;
+            b = b.insert(node_from(100 + k), 0).bucket;
         }
         seen += u64::from(b.count == 12);
     }

@@ -1,4 +1,7 @@
 -- What a step on the pending answers and leaves, and question 2 test by test.
+use Rattle.std.specs.Prelude as code
+use Rattle.std.specs.Option as option
+use Rattle.std.proofs.Common.{Some, None}
 use Prim.Native.Nat.{ℕ, ◌≤◌}
 use mathlib.Core.Path.{◌≡◌, refl, sym, ap, ◌∙◌, subst}
 use mathlib.Core.Bool.{Bool, true, false, cond, not, ◌&&◌}
@@ -21,44 +24,59 @@ use Rattle.node.specs.Node.{node_of, node_codes, is_zero, stored_node}
 use Rattle.places.specs.Places.{position, in_state, different}
 use Rattle.places.proofs.Laws.{before_le}
 use Rattle.places.proofs.Model.{held_is}
-use Rattle.bucket.specs.declared.Pending.{Pending}
-use Rattle.bucket.specs.declared.Pending.TheVariants.{Nothing, Waiting}
+use Rattle.bucket.specs.declared.PendingNode.{PendingNode}
+use Rattle.bucket.specs.declared.EndedPending.{EndedPending}
 use Rattle.bucket.specs.declared.KBucket.{KBucket}
-use Rattle.bucket.specs.Calls.{update_result_of}
+use Rattle.bucket.specs.Calls.{update_result_of, records_of}
 use Rattle.bucket.specs.Bucket.{pending_of, held_of, bucket_of, settings_of, stored_pending, pending_fits, pending_sound, sound, Sound, Becomes, repending, changes_pending}
-use Rattle.bucket.specs.declared.Updated.{Updated}
+use Rattle.bucket.specs.declared.UpdateResult.{UpdateResult}
+use Rattle.bucket.specs.declared.Step.{Step}
 use Rattle.bucket.proofs.Sound.{nodes_of, pending_of_lem, formed_of, becomes_itself}
 use Rattle.bucket.proofs.Steps.{pending_becomes, place_of}
 
 -- A step on the pending.
 
-waiting_stored : (n m : Node) (d : ℕ) → Waiting n d ≡ Waiting m d → n ≡ m
-waiting_stored n m d e = cc
+-- Is there a pending, or a record?
 
-module _ (b : KBucket) (s : Sound b) (n : Node) (d : ℕ) (e : b.pending ≡ Waiting n d) where
+pub waits : (p : code.Option PendingNode) → is_some (pending_of p) ≡ option.is_some p
+waits None = refl
+waits (Some p) = refl
+
+pub one_record : (e : code.Option EndedPending) → length (records_of e) ≡ cond (option.is_some e) 1 0
+one_record None = refl
+one_record (Some e) = refl
+
+pending_inner : (p q : PendingNode) → Some p ≡ Some q → p ≡ q
+pending_inner p q e = cc
+
+module _ (b : KBucket) (s : Sound b) (p : PendingNode) (e : b.pending ≡ Some p) where
   -- the pending is stored, and its key is not held
-  pub pending_stored : n ≡ stored_node (node_of n)
-  pending_stored = waiting_stored n (stored_node (node_of n)) d (subst (λ (p : Pending). p ≡ stored_pending (pending_of p)) e (pending_of_lem b s))
+  pub pending_stored : p.node ≡ stored_node (node_of p.node)
+  pending_stored =
+      ap (λ (q : PendingNode). q.node)
+      (pending_inner p _ (subst (λ (q : code.Option PendingNode). q ≡ stored_pending (pending_of q)) e (pending_of_lem b s)))
 
-  pub pending_apart : holds (num n.key) (bucket_of b) ≡ false
-  pending_apart = subst (λ (p : Pending). Opt (λ (q : model.PendingNode). holds q.node.key (bucket_of b) ≡ false) (pending_of p)) e (formed_of b s).pending_apart
+  pub pending_apart : holds (num p.node.key) (bucket_of b) ≡ false
+  pending_apart = subst (λ (q : code.Option PendingNode). Opt (λ (r : model.PendingNode). holds r.node.key (bucket_of b) ≡ false) (pending_of q)) e (formed_of b s).pending_apart
 
-  pub pending_changed : (n' : Node) (m : model.Node) → m.key ≡ num n.key → n' ≡ stored_node m
-      → Becomes (settings_of b) (with_pending (some (record { node = m; deadline = d })) (bucket_of b)) (repending (Waiting n' d) b)
-  pending_changed n' m k q =
-      pending_becomes b s (Waiting n' d) (some (record { node = m; deadline = d })) (ap (λ (x : Node). Waiting x d) q)
-      (ap (λ (x : ℕ). holds x (bucket_of b)) k ∙ pending_apart)
+  pub pending_changed : (n : Node) (m : model.Node) → m.key ≡ num p.node.key → n ≡ stored_node m
+      → Becomes (settings_of b) (with_pending (some (record { node = m; deadline = p.deadline })) (bucket_of b))
+      (repending (Some (record { node = n; deadline = p.deadline })) b)
+  pending_changed n m k q =
+      pending_becomes b s (Some (record { node = n; deadline = p.deadline })) (some (record { node = m; deadline = p.deadline }))
+      (ap (λ (x : Node). Some (record { node = x; deadline = p.deadline })) q) (ap (λ (x : ℕ). holds x (bucket_of b)) k ∙ pending_apart)
 
 -- what the step answers and leaves, where f makes of a stored node what g makes of the model's
 pub pending_step : (b : KBucket) → Sound b → (k : ℕ) (g : model.Node → model.Node) (f : Node → Node → Type 0) → ((n : model.Node) → (g n).key ≡ n.key)
     → ((n m : Node) → n ≡ stored_node (node_of n) → f n m → m ≡ stored_node (g (node_of n)))
-    → (p : Pending) → b.pending ≡ p → (r : Updated) → changes_pending f k b p r
+    → (p : code.Option PendingNode) → b.pending ≡ p → (r : Step UpdateResult) → changes_pending f k b p r
     → (update_result_of r.result ≡ (update_if_pending k g (bucket_of b) (pending_of p)).0)
     × Becomes (settings_of b) (update_if_pending k g (bucket_of b) (pending_of p)).1 r.bucket
-pending_step b s k g f same-key changes Nothing e r h = rw h (refl, becomes_itself b s)
-pending_step b s k g f same-key changes (Waiting n d) e r h =
-    split (same (num n.key) k)
-    (λ t. let x = h.1 t in rw (t, x.2) (refl, pending_changed b s n d e x.0 (g (node_of n)) (same-key (node_of n)) (changes n x.0 (pending_stored b s n d e) x.1)))
+pending_step b s k g f same-key changes None e r h = rw h (refl, becomes_itself b s)
+pending_step b s k g f same-key changes (Some p) e r h =
+    split (same (num p.node.key) k)
+    (λ t. let x = h.1 t in
+    rw (t, x.2) (refl, pending_changed b s p e x.0 (g (node_of p.node)) (same-key (node_of p.node)) (changes p.node x.0 (pending_stored b s p e) x.1)))
     (λ t. rw (t, h.0 t) (refl, becomes_itself b s))
 
 pub pending_unchanged : (u d : Bool) (b : Bucket) → b.pending ≡ none → update_pending u d b ≡ b
@@ -90,11 +108,11 @@ held_test k b =
     ap is_some (get_nodes k (bucket_of b)) ∙ held_is k (nodes (bucket_of b)) ∙ ap (λ (x : ℕ). ltb x (length (nodes (bucket_of b)))) (place_of k b)
     ∙ ap (ltb (position k (held_of b))) (ap length (nodes_of b) ∙ length-map (held_of b) node_of)
 
-pub pending_test : (b : KBucket) (p : Pending) → pending_fits (held_of b) p ≡ pending_sound (bucket_of b) p
-pending_test b Nothing = refl
-pending_test b (Waiting n d) =
-    let k = num n.key in
-    ap (λ (t : Bool). t && node_codes n)
+pub pending_test : (b : KBucket) (p : code.Option PendingNode) → pending_fits (held_of b) p ≡ pending_sound (bucket_of b) p
+pending_test b None = refl
+pending_test b (Some p) =
+    let k = num p.node.key in
+    ap (λ (t : Bool). t && node_codes p.node)
     (absent_test (position k (held_of b)) (length (held_of b)) (before_le (λ (m : Node). same (node_of m).key k) (held_of b)) ∙ ap not (sym (held_test k b)))
 
 -- Question 2, test by test.

@@ -5,3 +5,4 @@ pub mod Steps
 pub mod Rules
 pub mod Answers
 pub mod Entry
+pub mod Held

@@ -1,4 +1,6 @@
 -- What a sound bucket tells, and when a bucket is sound.
+use Rattle.std.specs.Prelude as code
+use Rattle.std.proofs.Common.{Some, None}
 use Prim.Native.Nat.{ℕ, ◌+◌, ◌-◌, ◌≤◌}
 use native.Mathlib.Omega.{arith}
 use mathlib.Core.Path.{◌≡◌, refl, sym, ap, ◌∙◌, subst}
@@ -23,8 +25,7 @@ use Rattle.node.proofs.Tests.{and_both}
 use Rattle.node.proofs.Stored.{stored_node_of, zero_is}
 use Rattle.places.specs.Places.{padded, in_state, different}
 use Rattle.places.proofs.Model.{map_take, map_drop, all_of_every, all_of_map, different_true}
-use Rattle.bucket.specs.declared.Pending.{Pending}
-use Rattle.bucket.specs.declared.Pending.TheVariants.{Nothing, Waiting}
+use Rattle.bucket.specs.declared.PendingNode.{PendingNode}
 use Rattle.bucket.specs.declared.KBucket.{KBucket}
 use Rattle.bucket.specs.Bucket as specs
 use Rattle.bucket.specs.Bucket.{pending_of, held_of, bucket_of, settings_of, stored_pending, stored, pending_sound, PendingWords, sound, Sound, Becomes}
@@ -81,9 +82,9 @@ on n e = (and_both (eqb n.status.state 1) (node_codes n) e).0
 codes : (s : ℕ) (n : Node) → in_state s n ≡ true → node_codes n ≡ true
 codes s n e = (and_both (eqb n.status.state s) (node_codes n) e).1
 
-apart : (b : Bucket) (p : Pending) → pending_sound b p ≡ true → Opt (λ (q : model.PendingNode). holds q.node.key b ≡ false) (pending_of p)
-apart b Nothing e = tt
-apart b (Waiting n d) e = not-true _ (and_both (not (holds (num n.key) b)) (node_codes n) e).0
+apart : (b : Bucket) (p : code.Option PendingNode) → pending_sound b p ≡ true → Opt (λ (q : model.PendingNode). holds q.node.key b ≡ false) (pending_of p)
+apart b None e = tt
+apart b (Some p) e = not-true _ (and_both (not (holds (num p.node.key) b)) (node_codes p.node) e).0
 
 -- the disconnected nodes of a bucket, place by place
 front_nodes : (b : KBucket) → b.first_connected_pos ≤ b.count → take b.first_connected_pos (map node_of (held_of b)) ≡ map node_of (take b.first_connected_pos b.nodes)
@@ -189,9 +190,10 @@ zero_run : (ns : List Node) → All (λ (n : Node). is_zero n ≡ true) ns → n
 zero_run [] h = refl
 zero_run (n ∷ ns) h = ap (λ (m : Node). m ∷ ns) (zero_is n h.0) ∙ ap (λ (ms : List Node). zero_node ∷ ms) (zero_run ns h.1)
 
-pending_there : (b : Bucket) (p : Pending) → PendingWords p → pending_sound b p ≡ true → p ≡ stored_pending (pending_of p)
-pending_there b Nothing w e = refl
-pending_there b (Waiting n d) w e = ap (λ (m : Node). Waiting m d) (sym (stored_node_of n w (and_both (not (holds (num n.key) b)) (node_codes n) e).1))
+pending_there : (b : Bucket) (p : code.Option PendingNode) → PendingWords p → pending_sound b p ≡ true → p ≡ stored_pending (pending_of p)
+pending_there b None w e = refl
+pending_there b (Some p) w e =
+    ap (λ (m : Node). Some (record { node = m; deadline = p.deadline })) (sym (stored_node_of p.node w (and_both (not (holds (num p.node.key) b)) (node_codes p.node) e).1))
 
 module _ (b : KBucket) (e : sound b ≡ true) (len : length b.nodes ≡ max_nodes_per_bucket)
     (w₁ : All (λ (n : Node). Words n.key) (take b.first_connected_pos b.nodes))

@@ -1,4 +1,6 @@
 -- The steps that the bucket's rules are made of, by value: the tests, a node placed, a node taken out, another pending.
+use Rattle.std.specs.Prelude as code
+use Rattle.std.proofs.Common.{Some, None}
 use Prim.Native.Nat.{ℕ, zero, suc, ◌+◌, ◌-◌, ◌≤◌, ◌<◌}
 use native.Mathlib.Nat.{not-suc-le-zero}
 use native.Mathlib.Numerals.{add-one}
@@ -18,6 +20,8 @@ use Rattle.model.specs.Node as model
 use Rattle.model.specs.Filter.{ip_filter_fails, max_nodes_per_subnet_bucket}
 use Rattle.model.specs.Bucket.{Bucket, BucketSettings, max_nodes_per_bucket, nodes, num_entries, is_full, get, holds, fails_bucket_filter, incoming_nodes, is_max_incoming, with_pending, cleared, only, placed, take_out, omit, is_first, revalue}
 use Rattle.model.specs.Fits.{Opt, Formed}
+use Rattle.model.specs.Bucket as rules
+use Rattle.model.specs.Call.{is_one}
 use Rattle.laws.proofs.KeepLists.{get_nodes, length_revalue}
 use Rattle.laws.proofs.Lists.{get_d_any}
 use Rattle.laws.proofs.KeepFormed.{count_nodes, count_put, placed_formed, take_out_formed, nodes_take_out, nodes_revalue, with_pending_formed}
@@ -30,8 +34,7 @@ use Rattle.places.specs.Places.{position, insert_at, remove_at, padded}
 use Rattle.places.proofs.Moves.{remove_at_length}
 use Rattle.places.proofs.Padded.{padded_insert, padded_remove}
 use Rattle.places.proofs.Model.{before_map, map_insert_at, map_remove_at, map_set, revalue_at, place, held_is, find_held, find_absent, first_is, own_place, found_key, omit_at, omit_front, put_connected, put_disconnected}
-use Rattle.bucket.specs.declared.Pending.{Pending}
-use Rattle.bucket.specs.declared.Pending.TheVariants.{Nothing, Waiting}
+use Rattle.bucket.specs.declared.PendingNode.{PendingNode}
 use Rattle.bucket.specs.declared.KBucket.{KBucket}
 use Rattle.bucket.specs.Bucket.{pending_of, held_of, key_at, bucket_of, settings_of, stored_pending, stored, Sound, Becomes, cleared_pending, repending}
 use Rattle.bucket.proofs.Rules.{Open}
@@ -99,27 +102,26 @@ module _ (b : KBucket) (n : model.Node) where
 
 -- Another pending.
 
-pub pending_becomes : (b : KBucket) → Sound b → (p : Pending) (q : Option model.PendingNode) → p ≡ stored_pending q
+pub pending_becomes : (b : KBucket) → Sound b → (p : code.Option PendingNode) (q : Option model.PendingNode) → p ≡ stored_pending q
     → Opt (λ (x : model.PendingNode). holds x.node.key (bucket_of b) ≡ false) q → Becomes (settings_of b) (with_pending q (bucket_of b)) (repending p b)
 pending_becomes b s p q e h =
     becomes (settings_of b) (with_pending q (bucket_of b)) (repending p b)
-    (ap (repending p) s.exact ∙ ap (λ (x : Pending). repending x (stored (settings_of b) (bucket_of b))) e)
+    (ap (repending p) s.exact ∙ ap (λ (x : code.Option PendingNode). repending x (stored (settings_of b) (bucket_of b))) e)
     (with_pending_formed b.max_incoming q (bucket_of b) (formed_of b s) h) (maximum_of b s)
 
-cleared_by : (k : ℕ) (n : Node) (d : ℕ) (t : Bool) → Waiting n d ≡ stored_pending (some (record { node = node_of n; deadline = d }))
-    → cond t Nothing (Waiting n d) ≡ stored_pending (cond t none (some (record { node = node_of n; deadline = d })))
-cleared_by k n d true e = refl
-cleared_by k n d false e = e
+cleared_by : (p : PendingNode) (t : Bool) → Some p ≡ stored_pending (pending_of (Some p)) → cond t None (Some p) ≡ stored_pending (cond t none (pending_of (Some p)))
+cleared_by p true e = refl
+cleared_by p false e = e
 
-cleared_stored : (k : ℕ) (p : Pending) → p ≡ stored_pending (pending_of p) → cleared_pending k p ≡ stored_pending (cleared k (pending_of p))
-cleared_stored k Nothing e = refl
-cleared_stored k (Waiting n d) e = cleared_by k n d (same (num n.key) k) e
+cleared_stored : (k : ℕ) (p : code.Option PendingNode) → p ≡ stored_pending (pending_of p) → cleared_pending k p ≡ stored_pending (cleared k (pending_of p))
+cleared_stored k None e = refl
+cleared_stored k (Some p) e = cleared_by p (same (num p.node.key) k) e
 
 -- A node placed.
 
 module _ (b : KBucket) (s : Sound b) (room : b.count < max_nodes_per_bucket) (n : Node) (w : Words n.key) (c : node_codes n ≡ true)
     (new : holds (num n.key) (bucket_of b) ≡ false) (low : is_max_incoming (settings_of b) (node_of n) (bucket_of b) ≡ false)
-    (ns : List Node) (p : Pending) (ep : p ≡ cleared_pending (num n.key) b.pending) where
+    (ns : List Node) (p : code.Option PendingNode) (ep : p ≡ cleared_pending (num n.key) b.pending) where
   put_nodes : (pos : ℕ) → pos ≤ b.count → nodes (placed (node_of n) (bucket_of b)) ≡ insert_at pos (node_of n) (nodes (bucket_of b))
       → ns ≡ take max_nodes_per_bucket (insert_at pos n b.nodes) → ns ≡ padded (map stored_node (nodes (placed (node_of n) (bucket_of b))))
   put_nodes pos h e q =
@@ -270,10 +272,24 @@ module _ {s : BucketSettings} {m : Bucket} {b : KBucket} (x : Becomes s m b) whe
 
 -- the pending goes, if told so
 pub unpended : (b : KBucket) → Sound b → (go : Bool) (p : Option model.PendingNode) → p ≡ (bucket_of b).pending
-    → Becomes (settings_of b) (with_pending (cond go none p) (bucket_of b)) (repending (cond go Nothing b.pending) b)
-unpended b s true p e = pending_becomes b s Nothing none refl tt
+    → Becomes (settings_of b) (with_pending (cond go none p) (bucket_of b)) (repending (cond go None b.pending) b)
+unpended b s true p e = pending_becomes b s None none refl tt
 unpended b s false p e =
     pending_becomes b s b.pending p (pending_of_lem b s ∙ ap stored_pending (sym e)) (subst (Opt (λ (x : model.PendingNode). holds x.node.key (bucket_of b) ≡ false)) (sym e) (formed_of b s).pending_apart)
+
+-- the bucket that a node which was taken out is put into again
+pub put_into : (b left rest : KBucket) → Sound b → (pos u : ℕ) → pos < b.count → Becomes (settings_of b) (take_out (key_at b pos) (bucket_of b)) left
+    → rest ≡ repending (cond (eqb u 1 && eqb pos 0) None left.pending) left
+    → Becomes (settings_of b) (rules.taken_out (key_at b pos) (is_one u) (bucket_of b)) rest
+put_into b left rest s pos u h x e =
+    let k = key_at b pos in
+    let go : Bool = eqb u 1 && eqb pos 0 in
+    let p = (bucket_of b).pending in
+    let y = unpended left x.sound go p (ap (λ (m : Bucket). m.pending) (sym x.bucket)) in
+    let z = subst (Becomes (settings_of left) (with_pending (cond go none p) (bucket_of left))) (sym e) y in
+    subst (λ (t : Bool). Becomes (settings_of b) (with_pending (cond (eqb u 1 && t) none p) (take_out k (bucket_of b))) rest)
+    (sym (first_at b s pos h))
+    (then_becomes x (λ (s : BucketSettings) (m : Bucket). with_pending (cond go none p) m) z)
 
 -- the disconnected nodes of a bucket, by the first connected place
 pub none_disconnected : (b : KBucket) → Sound b → b.first_connected_pos ≡ 0 → (bucket_of b).disconnected ≡ []

@@ -1,4 +1,5 @@
 -- A bucket and its stored form: there and back, and question 2 of what is stored.
+use Rattle.std.specs.Prelude as code
 use Prim.Native.Nat.{ℕ, zero, suc, ◌-◌, ◌≤◌}
 use native.Mathlib.Omega.{arith}
 use mathlib.Core.Path.{◌≡◌, refl, sym, ap, ◌∙◌}
@@ -24,13 +25,13 @@ use Rattle.node.proofs.Stored.{node_of_stored, codes_stored}
 use Rattle.places.specs.Places.{in_state, different}
 use Rattle.places.proofs.Model.{map_take, map_drop, every_of_all, all_of_map, different_of}
 use Rattle.places.proofs.Padded.{padded_held, padded_length}
-use Rattle.bucket.specs.declared.Pending.{Pending}
+use Rattle.bucket.specs.declared.PendingNode.{PendingNode}
 use Rattle.bucket.specs.declared.KBucket.{KBucket}
 use Rattle.bucket.specs.Bucket.{pending_of, held_of, bucket_of, settings_of, stored_pending, stored, pending_sound, sound}
 use Rattle.laws.proofs.All.{all_map}
 
 -- two buckets are equal where their parts are
-pub same_parts : {ns ns' : List Node} {k k' f f' t t' l l' g g' : ℕ} {p p' : Pending} → ns ≡ ns' → k ≡ k' → f ≡ f' → p ≡ p' → t ≡ t' → l ≡ l' → g ≡ g'
+pub same_parts : {ns ns' : List Node} {k k' f f' t t' l l' g g' : ℕ} {p p' : code.Option PendingNode} → ns ≡ ns' → k ≡ k' → f ≡ f' → p ≡ p' → t ≡ t' → l ≡ l' → g ≡ g'
     → ◌≡◌ {A = KBucket}
     (record { nodes = ns; count = k; first_connected_pos = f; pending = p; pending_timeout = t; max_incoming = l; filter = g })
     (record { nodes = ns'; count = k'; first_connected_pos = f'; pending = p'; pending_timeout = t'; max_incoming = l'; filter = g' })

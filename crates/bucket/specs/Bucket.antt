@@ -1,5 +1,6 @@
 -- The model's bucket that a KBucket stands for, how a bucket is stored in sixteen places, and question 2 of a bucket by itself.
-use Rattle.std.specs.Prelude.{ℕ, ◌≤◌, ◌≡◌, Bool, true, false, cond, not, ◌&&◌, List, map, length, take, drop, get_or, eqb, leb}
+use Rattle.std.specs.Prelude.{Some, None, ℕ, ◌≤◌, ◌≡◌, Bool, true, false, cond, not, ◌&&◌, List, map, length, take, drop, get_or, eqb, leb}
+use Rattle.std.specs.Prelude as code
 use Rattle.std.proofs.Math.Option.{Option, none, some}
 use Rattle.model.specs.Base.{same, every}
 use Rattle.model.specs.Node as model
@@ -9,16 +10,16 @@ use Rattle.node.specs.declared.Node.{Node}
 use Rattle.model.specs.Layout.{flag_byte}
 use Rattle.node.specs.Node.{node_of, node_codes, is_zero, stored_node, zero_node}
 use Rattle.places.specs.Places.{padded, position, in_state, different}
-use Rattle.bucket.specs.declared.Pending.{Pending}
-use Rattle.bucket.specs.declared.Pending.TheVariants.{Nothing, Waiting}
+use Rattle.bucket.specs.declared.PendingNode.{PendingNode}
 use Rattle.bucket.specs.declared.KBucket.{KBucket}
 use Rattle.bucket.specs.declared.FailureReason.TheVariants.{KeyNonExistent}
+use Rattle.bucket.specs.declared.UpdateResult.{UpdateResult}
 use Rattle.bucket.specs.declared.UpdateResult.TheVariants.{UpdatedPending, Failed}
-use Rattle.bucket.specs.declared.Updated.{Updated}
+use Rattle.bucket.specs.declared.Step.{Step}
 
-abbrev pub pending_of : Pending → Option model.PendingNode
-pending_of Nothing = none
-pending_of (Waiting n deadline) = some (record { node = node_of n; deadline = deadline })
+abbrev pub pending_of : code.Option PendingNode → Option model.PendingNode
+pending_of None = none
+pending_of (Some p) = some (record { node = node_of p.node; deadline = p.deadline })
 
 -- the nodes in the places that are held
 abbrev pub held_of : KBucket → List Node
@@ -43,9 +44,9 @@ first_connected b = cond (eqb b.first_connected_pos b.count) none (some b.first_
 abbrev pub settings_of : KBucket → BucketSettings
 settings_of b = record { pending_timeout = b.pending_timeout; max_incoming = b.max_incoming; filter = eqb b.filter 1 }
 
-abbrev pub stored_pending : Option model.PendingNode → Pending
-stored_pending none = Nothing
-stored_pending (some p) = Waiting (stored_node p.node) p.deadline
+abbrev pub stored_pending : Option model.PendingNode → code.Option PendingNode
+stored_pending none = None
+stored_pending (some p) = Some (record { node = stored_node p.node; deadline = p.deadline })
 
 -- the disconnected nodes, then the connected ones, then zero in the free places; with none connected the first connected place is the count
 abbrev pub stored : BucketSettings → Bucket → KBucket
@@ -61,19 +62,19 @@ stored s b =
     }
 
 -- 01, question 2: a pending not held, codes as in 4
-abbrev pub pending_sound : Bucket → Pending → Bool
-pending_sound b Nothing = true
-pending_sound b (Waiting n deadline) = not (holds (num n.key) b) && node_codes n
+abbrev pub pending_sound : Bucket → code.Option PendingNode → Bool
+pending_sound b None = true
+pending_sound b (Some p) = not (holds (num p.node.key) b) && node_codes p.node
 
 -- the same, of the nodes held, place by place
-abbrev pub pending_fits : List Node → Pending → Bool
-pending_fits ns Nothing = true
-pending_fits ns (Waiting n deadline) = eqb (position (num n.key) ns) (length ns) && node_codes n
+abbrev pub pending_fits : List Node → code.Option PendingNode → Bool
+pending_fits ns None = true
+pending_fits ns (Some p) = eqb (position (num p.node.key) ns) (length ns) && node_codes p.node
 
 -- the words of a pending's key are words
-abbrev pub PendingWords : Pending → Type 0
-PendingWords Nothing = Unit {0}
-PendingWords (Waiting n deadline) = Words n.key
+abbrev pub PendingWords : code.Option PendingNode → Type 0
+PendingWords None = Unit {0}
+PendingWords (Some p) = Words p.node.key
 
 -- 01, question 2, all but the index: at most 16 different keys, disconnected first, first connected place exact, codes as in 4, connected
 -- incoming within max_incoming, the pending, unused places zero, the settings' codes
@@ -101,12 +102,12 @@ pub record Becomes (s : BucketSettings) (b : Bucket) (r : KBucket) : Type 0 wher
   pub sound : Sound r
 
 -- the pending, unless it is of this key
-abbrev pub cleared_pending : ℕ → Pending → Pending
-cleared_pending k Nothing = Nothing
-cleared_pending k (Waiting n deadline) = cond (same (num n.key) k) Nothing (Waiting n deadline)
+abbrev pub cleared_pending : ℕ → code.Option PendingNode → code.Option PendingNode
+cleared_pending k None = None
+cleared_pending k (Some p) = cond (same (num p.node.key) k) None (Some p)
 
 -- another pending, and all else as it is
-abbrev pub repending : Pending → KBucket → KBucket
+abbrev pub repending : code.Option PendingNode → KBucket → KBucket
 repending p b =
     record {
       nodes = b.nodes;
@@ -119,8 +120,9 @@ repending p b =
     }
 
 -- the step on a pending of key k answers and leaves r; f says what it makes of the node
-abbrev pub changes_pending : (Node → Node → Type 0) → ℕ → KBucket → Pending → Updated → Type 0
-changes_pending f k b Nothing r = r ≡ record { bucket = b; result = Failed KeyNonExistent }
-changes_pending f k b (Waiting n deadline) r =
-    (same (num n.key) k ≡ false → r ≡ record { bucket = b; result = Failed KeyNonExistent })
-    × (same (num n.key) k ≡ true → (m : Node) × f n m × (r ≡ record { bucket = repending (Waiting m deadline) b; result = UpdatedPending }))
+abbrev pub changes_pending : (Node → Node → Type 0) → ℕ → KBucket → code.Option PendingNode → Step UpdateResult → Type 0
+changes_pending f k b None r = r ≡ record { bucket = b; result = Failed KeyNonExistent }
+changes_pending f k b (Some p) r =
+    (same (num p.node.key) k ≡ false → r ≡ record { bucket = b; result = Failed KeyNonExistent })
+    × (same (num p.node.key) k ≡ true
+    → (m : Node) × f p.node m × (r ≡ record { bucket = repending (Some (record { node = m; deadline = p.deadline })) b; result = UpdatedPending }))

@@ -1,5 +1,6 @@
 -- What the answers mean, and the calls on a bucket by itself: the questions that each is asked, and what it answers and leaves.
-use Rattle.std.specs.Prelude.{ℕ, Bool, true, false, cond, ◌&&◌, List, [], ◌∷◌, leb}
+use Rattle.std.specs.Prelude.{Result, Ok, Err, Some, None, ℕ, Bool, true, false, cond, ◌&&◌, List, [], ◌∷◌, leb}
+use Rattle.std.specs.Prelude as code
 use Rattle.std.proofs.Math.Option.{Option, none, some}
 use Rattle.model.specs.Node as model
 use Rattle.model.specs.Result as result
@@ -12,6 +13,7 @@ use Rattle.key.specs.Key.{num}
 use Rattle.node.specs.declared.Value.{Value}
 use Rattle.node.specs.declared.NodeStatus.{NodeStatus}
 use Rattle.node.specs.declared.Node.{Node}
+use Rattle.node.specs.declared.Refusal.{Refusal}
 use Rattle.node.specs.Node.{value_of, node_of, value_codes, node_codes}
 use Rattle.bucket.specs.declared.KBucket.{KBucket}
 use Rattle.bucket.specs.declared.InsertResult.{InsertResult}
@@ -19,23 +21,10 @@ use Rattle.bucket.specs.declared.FailureReason.{FailureReason}
 use Rattle.bucket.specs.declared.UpdateResult.{UpdateResult}
 use Rattle.bucket.specs.declared.Ending.{Ending}
 use Rattle.bucket.specs.declared.EndedPending.{EndedPending}
-use Rattle.bucket.specs.declared.InsertAnswer.{InsertAnswer}
-use Rattle.bucket.specs.declared.ApplyAnswer.{ApplyAnswer}
-use Rattle.bucket.specs.declared.UpdateAnswer.{UpdateAnswer}
-use Rattle.bucket.specs.declared.PendingAnswer.{PendingAnswer}
-use Rattle.bucket.specs.declared.RemoveAnswer.{RemoveAnswer}
-use Rattle.bucket.specs.declared.NewAnswer.{NewAnswer}
 use Rattle.bucket.specs.declared.InsertResult.TheVariants as insert_result
 use Rattle.bucket.specs.declared.FailureReason.TheVariants as reason
 use Rattle.bucket.specs.declared.UpdateResult.TheVariants as update-result
 use Rattle.bucket.specs.declared.Ending.TheVariants as ending
-use Rattle.bucket.specs.declared.EndedPending.TheVariants as applied
-use Rattle.bucket.specs.declared.InsertAnswer.TheVariants as insert-answer
-use Rattle.bucket.specs.declared.ApplyAnswer.TheVariants as apply-answer
-use Rattle.bucket.specs.declared.UpdateAnswer.TheVariants as update-answer
-use Rattle.bucket.specs.declared.PendingAnswer.TheVariants as pending-answer
-use Rattle.bucket.specs.declared.RemoveAnswer.TheVariants as remove-answer
-use Rattle.bucket.specs.declared.NewAnswer.TheVariants as new-answer
 use Rattle.bucket.specs.Bucket.{bucket_of, settings_of, stored, sound}
 
 -- What the results mean.
@@ -64,6 +53,8 @@ update_result_of (update-result.Failed r) = result.UpdateResult.Failed (failure_
 update_result_of update-result.NotModified = result.UpdateResult.NotModified
 
 abbrev pub ending_of : Ending → model.Ending
+ending_of (ending.Placed None) = model.Ending.Placed none
+ending_of (ending.Placed (Some n)) = model.Ending.Placed (some (node_of n))
 ending_of ending.FirstConnected = model.Ending.FirstConnected
 ending_of ending.BucketFilter = model.Ending.BucketFilter
 ending_of ending.TooManyIncoming = model.Ending.TooManyIncoming
@@ -71,47 +62,28 @@ ending_of ending.Inserted = model.Ending.Inserted
 ending_of ending.FirstConfirmed = model.Ending.FirstConfirmed
 
 -- the records of ended pendings: one, or none
-abbrev pub records_of : EndedPending → List model.EndedPending
-records_of applied.Nothing = []
-records_of (applied.Placed k) = record { key = num k; ending = model.Ending.Placed none } ∷ []
-records_of (applied.Replaced k n) = record { key = num k; ending = model.Ending.Placed (some (node_of n)) } ∷ []
-records_of (applied.Dropped k e) = record { key = num k; ending = ending_of e } ∷ []
+abbrev pub records_of : code.Option EndedPending → List model.EndedPending
+records_of None = []
+records_of (Some e) = record { key = num e.key; ending = ending_of e.ending } ∷ []
 
 -- 01, question 4: the codes of the node that was evicted, if one was
-abbrev pub applied_codes : EndedPending → Bool
-applied_codes applied.Nothing = true
-applied_codes (applied.Placed k) = true
-applied_codes (applied.Replaced k n) = node_codes n
-applied_codes (applied.Dropped k e) = true
+abbrev pub ending_codes : Ending → Bool
+ending_codes (ending.Placed None) = true
+ending_codes (ending.Placed (Some n)) = node_codes n
+ending_codes ending.FirstConnected = true
+ending_codes ending.BucketFilter = true
+ending_codes ending.TooManyIncoming = true
+ending_codes ending.Inserted = true
+ending_codes ending.FirstConfirmed = true
 
-abbrev pub insert_answer_of : InsertAnswer → Reply result.BucketInsertResult
-insert_answer_of (insert-answer.Refused q) = Reply.Refused q
-insert_answer_of (insert-answer.Answered r) = Reply.Answered (insert_result_of r)
+abbrev pub applied_codes : code.Option EndedPending → Bool
+applied_codes None = true
+applied_codes (Some e) = ending_codes e.ending
 
-abbrev pub apply_answer_of : ApplyAnswer → Reply (List model.EndedPending)
-apply_answer_of (apply-answer.Refused q) = Reply.Refused q
-apply_answer_of (apply-answer.Answered r) = Reply.Answered (records_of r)
-
--- the codes of the node that was evicted, if one was, are in range
-abbrev pub apply_codes : ApplyAnswer → Bool
-apply_codes (apply-answer.Refused q) = true
-apply_codes (apply-answer.Answered r) = applied_codes r
-
-abbrev pub update_answer_of : UpdateAnswer → Reply result.UpdateResult
-update_answer_of (update-answer.Refused q) = Reply.Refused q
-update_answer_of (update-answer.Answered r) = Reply.Answered (update_result_of r)
-
-abbrev pub pending_answer_of : PendingAnswer → Reply (Unit {0})
-pending_answer_of (pending-answer.Refused q) = Reply.Refused q
-pending_answer_of pending-answer.Done = Reply.Answered tt
-
-abbrev pub remove_answer_of : RemoveAnswer → Reply Bool
-remove_answer_of (remove-answer.Refused q) = Reply.Refused q
-remove_answer_of (remove-answer.Answered r) = Reply.Answered r
-
-abbrev pub new_answer_of : NewAnswer → Reply (Unit {0})
-new_answer_of (new-answer.Refused q) = Reply.Refused q
-new_answer_of new-answer.Created = Reply.Answered tt
+-- the same of an answer
+abbrev pub apply_codes : Result (code.Option EndedPending) Refusal → Bool
+apply_codes (Err r) = true
+apply_codes (Ok e) = applied_codes e
 
 -- The calls. A refusal is the number alone, and the bucket comes back as it was.
 
@@ -119,46 +91,37 @@ abbrev pub answered : {A : Type 0} → KBucket → Option ℕ → A × bucket.Bu
 answered b (some q) r = (Reply.Refused q, b)
 answered b none r = (Reply.Answered r.0, stored (settings_of b) r.1)
 
--- question 2, all but the index, and 4
-abbrev pub questions : KBucket → Bool → List (ℕ × Bool) → List (ℕ × Bool)
-questions b codes rest = (2, sound b) ∷ (4, codes) ∷ rest
-
--- the number of the question that failed, 0 for none
-abbrev pub refusal_number : Option ℕ → ℕ
-refusal_number none = 0
-refusal_number (some q) = q
-
--- question 5
-abbrev pub timely : KBucket → ℕ → List (ℕ × Bool)
-timely b now = (5, deadline_fits b.pending_timeout (some now)) ∷ []
+-- question 2, all but the index, 4, and 5
+abbrev pub questions : KBucket → Bool → Option ℕ → List (ℕ × Bool)
+questions b codes now = (2, sound b) ∷ (4, codes) ∷ (5, deadline_fits b.pending_timeout now) ∷ []
 
 unfoldable pub insert_call : KBucket → Node → ℕ → Reply result.BucketInsertResult × KBucket
 insert_call b n now =
-    answered b (first_failed (questions b (node_codes n) (timely b now))) (bucket.insert (settings_of b) now (node_of n) (bucket_of b))
+    answered b (first_failed (questions b (node_codes n) (some now))) (bucket.insert (settings_of b) now (node_of n) (bucket_of b))
 
 -- 01, Apply pending: a drop leaves no record. 02, slip 4, gives one to table calls only.
 unfoldable pub apply_pending_call : KBucket → ℕ → Reply (List model.EndedPending) × KBucket
 apply_pending_call b now =
     let r = bucket.apply_pending (settings_of b) now (bucket_of b) in
-    answered b (first_failed (questions b true (timely b now))) (model.placed_of r.1, r.0)
+    answered b (first_failed (questions b true (some now))) (model.placed_of r.1, r.0)
 
 unfoldable pub update_status_call : KBucket → Key → ℕ → ℕ → Reply result.UpdateResult × KBucket
 update_status_call b k state direction =
-    answered b (first_failed (questions b (leb state 1 && leb direction 2) []))
+    answered b (first_failed (questions b (leb state 1 && leb direction 2) none))
     (bucket.update_status (settings_of b) (num k) (is_one state) (optional direction) (bucket_of b))
 
 unfoldable pub update_value_call : KBucket → Key → Value → Reply result.UpdateResult × KBucket
 update_value_call b k v =
-    answered b (first_failed (questions b (value_codes v) [])) (bucket.update_value (settings_of b) (num k) (value_of v) (bucket_of b))
+    answered b (first_failed (questions b (value_codes v) none)) (bucket.update_value (settings_of b) (num k) (value_of v) (bucket_of b))
 
 unfoldable pub update_pending_call : KBucket → NodeStatus → Reply (Unit {0}) × KBucket
 update_pending_call b s =
-    answered b (first_failed (questions b (leb s.state 1 && leb s.direction 1) []))
+    answered b (first_failed (questions b (leb s.state 1 && leb s.direction 1) none))
     (tt, bucket.update_pending (is_one s.state) (is_one s.direction) (bucket_of b))
 
 unfoldable pub remove_call : KBucket → Key → ℕ → Reply Bool × KBucket
 remove_call b k now =
-    answered b (first_failed (questions b true (timely b now))) (bucket.remove (settings_of b) now (num k) (bucket_of b))
+    answered b (first_failed (questions b true (some now))) (bucket.remove (settings_of b) now (num k) (bucket_of b))
 
 -- 01, question 4: max_incoming 0 to 16, filter 0 or 1. A refusal comes with the bucket that is all zero.
 unfoldable pub new_call : ℕ → ℕ → ℕ → Reply (Unit {0}) × KBucket

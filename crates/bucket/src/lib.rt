@@ -2,7 +2,7 @@
 // the disconnected ones, then the connected ones.
 #![tactic(auto)]
 
-ghost use Rattle.std.specs.Prelude.{◌≡◌, true, false, cond, ℕ, ◌+◌, ◌≤◌, ◌<◌, ◌^◌, leb, eqb, length, take, get_or, [], ◌∷◌};
+ghost use Rattle.std.specs.Prelude.{◌≡◌, None, Some, Ok, Err, true, false, cond, ℕ, ◌+◌, ◌≤◌, ◌<◌, ◌^◌, leb, eqb, length, take, get_or, [], ◌∷◌};
 ghost use Rattle.std.proofs.Math.Option.{Option, none, some};
 ghost use Rattle.model.specs.Base.{is_some};
 ghost use Rattle.model.specs.Value.{Value};
@@ -10,22 +10,24 @@ ghost use Rattle.model.specs.Node as ends;
 ghost use Rattle.model.specs.Node.{placed_of, with_status, with_value, same_status};
 ghost use Rattle.model.specs.Bucket.{BucketSettings, max_nodes_per_bucket, empty_bucket, holds, fails_bucket_filter, is_max_incoming, placed, take_out, insert_full, insert, apply_pending, apply_due, reinsert, update_status, update_status_of, update_if_pending, update_value, update_value_of, update_pending, remove, status_result, get};
 ghost use Rattle.model.specs.Call.{is_one, optional};
-ghost use Rattle.model.specs.Question.{first_failed};
+ghost use Rattle.model.specs.Question.{first_failed, deadline_fits};
 ghost use Rattle.model.specs.Layout.{ending_kind};
 ghost use Rattle.key.specs.Key.{num, Words};
+ghost use Rattle.key.specs.Answers.{option_of};
 ghost use Rattle.node.specs.Node.{value_of, node_of, value_codes, node_codes, zero_node};
-ghost use Rattle.bucket.specs.declared.Pending.TheVariants.{Nothing, Waiting};
+ghost use Rattle.node.specs.Refusal.{failed_of, reply_of};
 ghost use Rattle.bucket.specs.Bucket.{pending_of, key_at, bucket_of, settings_of, stored, sound, Sound, Becomes, repending, cleared_pending, pending_fits, PendingWords, changes_pending};
-ghost use Rattle.bucket.specs.Calls.{refusal_number, questions, timely, insert_result_of, update_result_of, ending_of, records_of, applied_codes, insert_answer_of, apply_answer_of, apply_codes, update_answer_of, pending_answer_of, remove_answer_of, new_answer_of, insert_call, apply_pending_call, update_status_call, update_value_call, update_pending_call, remove_call, new_call};
+ghost use Rattle.bucket.specs.Calls.{questions, insert_result_of, update_result_of, ending_of, records_of, applied_codes, apply_codes, insert_call, apply_pending_call, update_status_call, update_value_call, update_pending_call, remove_call, new_call};
 
 use key::Key;
-use node::{Node, NodeStatus, Value};
+use node::{Code, Node, NodeStatus, Refusal, Value};
 
-// A node that is pending insertion into a full bucket, and the time from which on it is due.
+// A node that is pending insertion into a full bucket.
 #[derive(Clone, Copy)]
-pub enum Pending {
-    Nothing,
-    Waiting(Node, u64),
+pub struct PendingNode {
+    pub node: Node,
+    // From this time on it is due.
+    pub deadline: u64,
 }
 
 #[derive(Clone, Copy)]
@@ -35,13 +37,13 @@ pub struct KBucket {
     pub count: usize,
     // The place of the first connected node, and count where no node is connected.
     pub first_connected_pos: usize,
-    pub pending: Pending,
+    pub pending: Option<PendingNode>,
     // How long a new pending waits, in milliseconds.
     pub pending_timeout: u64,
     // The maximum of connected incoming nodes.
     pub max_incoming: usize,
     // The bucket's IP filter: 0 off, 1 on.
-    pub filter: u8,
+    pub filter: Code,
 }
 
 // The result of inserting a node.
@@ -77,10 +79,11 @@ pub enum UpdateResult {
     NotModified,
 }
 
-// How a pending ended that was not placed: dropped because 16 are held and place 0 is connected, by the bucket filter, by the incoming
-// limit; cleared by a direct insert of its key, or because place 0 was confirmed.
+// How a pending ended: placed, with the node that it evicted, if any; dropped because 16 are held and place 0 is connected, by the bucket
+// filter, by the incoming limit; cleared by a direct insert of its key, or because place 0 was confirmed.
 #[derive(Clone, Copy)]
 pub enum Ending {
+    Placed(Option<Node>),
     FirstConnected,
     BucketFilter,
     TooManyIncoming,
@@ -88,110 +91,18 @@ pub enum Ending {
     FirstConfirmed,
 }
 
-// The record of an ended pending: none; placed, its key; placed, its key and the node that it evicted; not placed, its key and ending.
+// The record of an ended pending.
 #[derive(Clone, Copy)]
-pub enum EndedPending {
-    Nothing,
-    Placed(Key),
-    Replaced(Key, Node),
-    Dropped(Key, Ending),
+pub struct EndedPending {
+    pub key: Key,
+    pub ending: Ending,
 }
 
+// What a step on a bucket leaves and answers.
 #[derive(Clone, Copy)]
-pub struct Inserted {
+pub struct Step<T> {
     pub bucket: KBucket,
-    pub result: InsertResult,
-}
-
-#[derive(Clone, Copy)]
-pub struct Applied {
-    pub bucket: KBucket,
-    pub applied: EndedPending,
-}
-
-#[derive(Clone, Copy)]
-pub struct Updated {
-    pub bucket: KBucket,
-    pub result: UpdateResult,
-}
-
-#[derive(Clone, Copy)]
-pub struct Removed {
-    pub bucket: KBucket,
-    pub found: bool,
-}
-
-// What a call answers: the number of the question that failed, or its result.
-#[derive(Clone, Copy)]
-pub enum InsertAnswer {
-    Refused(u8),
-    Answered(InsertResult),
-}
-
-#[derive(Clone, Copy)]
-pub enum ApplyAnswer {
-    Refused(u8),
-    Answered(EndedPending),
-}
-
-#[derive(Clone, Copy)]
-pub enum UpdateAnswer {
-    Refused(u8),
-    Answered(UpdateResult),
-}
-
-#[derive(Clone, Copy)]
-pub enum PendingAnswer {
-    Refused(u8),
-    Done,
-}
-
-#[derive(Clone, Copy)]
-pub enum RemoveAnswer {
-    Refused(u8),
-    Answered(bool),
-}
-
-#[derive(Clone, Copy)]
-pub enum NewAnswer {
-    Refused(u8),
-    Created,
-}
-
-#[derive(Clone, Copy)]
-pub struct InsertReply {
-    pub bucket: KBucket,
-    pub answer: InsertAnswer,
-}
-
-#[derive(Clone, Copy)]
-pub struct ApplyReply {
-    pub bucket: KBucket,
-    pub answer: ApplyAnswer,
-}
-
-#[derive(Clone, Copy)]
-pub struct UpdateReply {
-    pub bucket: KBucket,
-    pub answer: UpdateAnswer,
-}
-
-#[derive(Clone, Copy)]
-pub struct PendingReply {
-    pub bucket: KBucket,
-    pub answer: PendingAnswer,
-}
-
-#[derive(Clone, Copy)]
-pub struct RemoveReply {
-    pub bucket: KBucket,
-    pub answer: RemoveAnswer,
-}
-
-#[derive(Clone, Copy)]
-pub struct NewReply {
-    pub bucket: KBucket,
-    pub answer: NewAnswer,
+    pub result: T,
 }
 
 impl KBucket {
@@ -208,24 +119,24 @@ impl KBucket {
         + 1
         + 1;
 
-    // An empty bucket. Refuses a maximum over 16 or a filter over 1 with 4.
-    pub fn new(pending_timeout: u64, max_incoming: usize, filter: u8) -> NewReply
-        ensures { new_call pending_timeout max_incoming filter ≡ (new_answer_of result.answer, result.bucket) }
+    // An empty bucket. Refuses a maximum over 16 or a filter over 1 with question 4.
+    pub fn new(pending_timeout: u64, max_incoming: usize, filter: Code) -> Step<Result<(), Refusal>>
+        ensures { new_call pending_timeout max_incoming filter ≡ (reply_of (λ u. u) result.result, result.bucket) }
     {
         if KBucket::MAX_NODES_PER_BUCKET < max_incoming || 1 < filter {
-            return NewReply {
+            return Step {
                 bucket: KBucket::empty(0, 0, 0),
-                answer: NewAnswer::Refused(4),
+                result: Err(Refusal::Code),
             };
         }
-        NewReply {
+        Step {
             bucket: KBucket::empty(pending_timeout, max_incoming, filter),
-            answer: NewAnswer::Created,
+            result: Ok(()),
         }
     }
 
     // Internal: an empty bucket of settings that are in range.
-    pub fn empty(pending_timeout: u64, max_incoming: usize, filter: u8) -> KBucket
+    pub fn empty(pending_timeout: u64, max_incoming: usize, filter: Code) -> KBucket
         requires { filter ≤ 1 }
         ensures { result ≡ stored (record { pending_timeout = pending_timeout; max_incoming = max_incoming; filter = is_one filter }) empty_bucket }
     {
@@ -233,7 +144,7 @@ impl KBucket {
             nodes: [Node::zero(); KBucket::MAX_NODES_PER_BUCKET],
             count: 0,
             first_connected_pos: 0,
-            pending: Pending::Nothing,
+            pending: None,
             pending_timeout,
             max_incoming,
             filter,
@@ -272,7 +183,7 @@ impl KBucket {
     }
 
     // Internal: another pending, and all else as it is.
-    pub fn with_pending(self, pending: Pending) -> KBucket
+    pub fn with_pending(self, pending: Option<PendingNode>) -> KBucket
         ensures { result ≡ repending pending self }
     {
         KBucket { pending, ..self }
@@ -322,7 +233,7 @@ impl KBucket {
     }
 
     // Internal: inserts a node into a sound bucket.
-    pub fn insert_sound(self, node: Node, now: u64) -> Inserted
+    pub fn insert_sound(self, node: Node, now: u64) -> Step<InsertResult>
         requires sound { Sound self }
         requires node_value { node_codes node ≡ true }
         requires pending_timeout_bound { now + self.pending_timeout < 2 ^ 64 }
@@ -330,25 +241,25 @@ impl KBucket {
         ensures becomes { Becomes (settings_of self) (insert (settings_of self) now (node_of node) (bucket_of self)).1 result.bucket }
     {
         if self.holds(node.key) {
-            return Inserted {
+            return Step {
                 bucket: self,
                 result: InsertResult::NodeExists,
             };
         }
         if self.fails_filter(node.value) {
-            return Inserted {
+            return Step {
                 bucket: self,
                 result: InsertResult::FailedFilter,
             };
         }
         if self.is_max_incoming(node) {
-            return Inserted {
+            return Step {
                 bucket: self,
                 result: InsertResult::TooManyIncoming,
             };
         }
         if self.count < KBucket::MAX_NODES_PER_BUCKET {
-            return Inserted {
+            return Step {
                 bucket: self.placed(node),
                 result: InsertResult::Inserted,
             };
@@ -357,7 +268,7 @@ impl KBucket {
     }
 
     // Internal: what an insert of a node that is not held does with 16 held: the node becomes the pending, or nothing changes.
-    pub fn insert_full(self, node: Node, now: u64) -> Inserted
+    pub fn insert_full(self, node: Node, now: u64) -> Step<InsertResult>
         requires sound { Sound self }
         requires node_value { node_codes node ≡ true }
         requires pending_timeout_bound { now + self.pending_timeout < 2 ^ 64 }
@@ -365,98 +276,105 @@ impl KBucket {
         ensures result_value { insert_result_of result.result ≡ (insert_full (settings_of self) now (node_of node) (bucket_of self) (node_of node).connected (bucket_of self).disconnected (bucket_of self).pending).0 }
         ensures becomes { Becomes (settings_of self) (insert_full (settings_of self) now (node_of node) (bucket_of self) (node_of node).connected (bucket_of self).disconnected (bucket_of self).pending).1 result.bucket }
     {
-        if !node.is_connected() || self.first_connected_pos == 0 || waits(self.pending) {
-            return Inserted {
+        if !node.is_connected() || self.first_connected_pos == 0 || self.pending.is_some() {
+            return Step {
                 bucket: self,
                 result: InsertResult::Full,
             };
         }
         let deadline = now + self.pending_timeout;
-        Inserted {
-            bucket: self.with_pending(Pending::Waiting(node, deadline)),
+        Step {
+            bucket: self.with_pending(Some(PendingNode { node, deadline })),
             result: InsertResult::Pending(self.nodes[0].key),
         }
     }
 
     // Internal: applies a due node, which is the pending no more, to a sound bucket.
-    pub fn apply_due(self, node: Node, now: u64) -> Applied
+    pub fn apply_due(self, node: Node, now: u64) -> Step<Option<EndedPending>>
         requires sound { Sound self }
         requires node_value { node_codes node ≡ true }
         requires pending_timeout_bound { now + self.pending_timeout < 2 ^ 64 }
         requires pending_value { pending_of self.pending ≡ none }
         requires self_value { holds (num node.key) (bucket_of self) ≡ false }
-        ensures applied_value { records_of result.applied ≡ (apply_due (settings_of self) now (node_of node) (bucket_of self)).1 }
+        ensures result_value { records_of result.result ≡ (apply_due (settings_of self) now (node_of node) (bucket_of self)).1 }
         ensures becomes { Becomes (settings_of self) (apply_due (settings_of self) now (node_of node) (bucket_of self)).0 result.bucket }
-        ensures applied_value_2 { applied_codes result.applied ≡ true }
+        ensures result_value_2 { applied_codes result.result ≡ true }
     {
         let full = KBucket::MAX_NODES_PER_BUCKET <= self.count;
         if full && self.first_connected_pos == 0 {
-            return Applied {
-                bucket: self,
-                applied: EndedPending::Dropped(node.key, Ending::FirstConnected),
-            };
+            return self.dropped(node.key, Ending::FirstConnected);
         }
         if self.fails_filter(node.value) {
-            return Applied {
-                bucket: self,
-                applied: EndedPending::Dropped(node.key, Ending::BucketFilter),
-            };
+            return self.dropped(node.key, Ending::BucketFilter);
         }
         if self.is_max_incoming(node) {
-            return Applied {
-                bucket: self,
-                applied: EndedPending::Dropped(node.key, Ending::TooManyIncoming),
-            };
+            return self.dropped(node.key, Ending::TooManyIncoming);
         }
         if full {
             return self.evict(node);
         }
-        Applied {
+        Step {
             bucket: self.placed(node),
-            applied: EndedPending::Placed(node.key),
+            result: Some(EndedPending {
+                key: node.key,
+                ending: Ending::Placed(None),
+            }),
+        }
+    }
+
+    // The pending of this key is dropped, and the bucket is as it is.
+    fn dropped(self, key: Key, ending: Ending) -> Step<Option<EndedPending>>
+        ensures { result ≡ record { bucket = self; result = Some (record { key = key; ending = ending }) } }
+    {
+        Step {
+            bucket: self,
+            result: Some(EndedPending { key, ending }),
         }
     }
 
     // Internal: a node that is not held in place of the node at place 0, which is disconnected.
-    pub fn evict(self, node: Node) -> Applied
+    pub fn evict(self, node: Node) -> Step<Option<EndedPending>>
         requires sound { Sound self }
         requires node_value { node_codes node ≡ true }
         requires max_nodes_per_bucket_le_count { max_nodes_per_bucket ≤ self.count }
         requires self_value { holds (num node.key) (bucket_of self) ≡ false }
         requires self_value_2 { is_max_incoming (settings_of self) (node_of node) (bucket_of self) ≡ false }
-        ensures applied_value { records_of result.applied ≡ ends.ended (node_of node) (ends.Ending.Placed (some (node_of (get_or self.nodes 0 zero_node)))) }
+        ensures result_value { records_of result.result ≡ ends.ended (node_of node) (ends.Ending.Placed (some (node_of (get_or self.nodes 0 zero_node)))) }
         ensures becomes { Becomes (settings_of self) (placed (node_of node) (take_out (key_at self 0) (bucket_of self))) result.bucket }
-        ensures applied_value_2 { applied_codes result.applied ≡ true }
+        ensures result_value_2 { applied_codes result.result ≡ true }
     {
         let evicted = self.nodes[0];
         let rest = self.taken_out(0);
-        Applied {
+        Step {
             bucket: rest.placed(node),
-            applied: EndedPending::Replaced(node.key, evicted),
+            result: Some(EndedPending {
+                key: node.key,
+                ending: Ending::Placed(Some(evicted)),
+            }),
         }
     }
 
     // Internal: applies the pending of a sound bucket when its deadline has come.
-    pub fn apply_pending_sound(self, now: u64) -> Applied
+    pub fn apply_pending_sound(self, now: u64) -> Step<Option<EndedPending>>
         requires sound { Sound self }
         requires pending_timeout_bound { now + self.pending_timeout < 2 ^ 64 }
-        ensures applied_value { records_of result.applied ≡ (apply_pending (settings_of self) now (bucket_of self)).1 }
+        ensures result_value { records_of result.result ≡ (apply_pending (settings_of self) now (bucket_of self)).1 }
         ensures becomes { Becomes (settings_of self) (apply_pending (settings_of self) now (bucket_of self)).0 result.bucket }
-        ensures applied_value_2 { applied_codes result.applied ≡ true }
+        ensures result_value_2 { applied_codes result.result ≡ true }
     {
         match self.pending {
-            Pending::Waiting(node, deadline) if deadline <= now => {
-                self.with_pending(Pending::Nothing).apply_due(node, now)
+            Some(pending) if pending.deadline <= now => {
+                self.with_pending(None).apply_due(pending.node, now)
             }
-            _ => Applied {
+            _ => Step {
                 bucket: self,
-                applied: EndedPending::Nothing,
+                result: None,
             },
         }
     }
 
     // Internal: the status step on the node at place pos of a sound bucket.
-    pub fn status_at(self, pos: usize, state: u8, direction: u8) -> Updated
+    pub fn status_at(self, pos: usize, state: Code, direction: Code) -> Step<UpdateResult>
         requires sound { Sound self }
         requires pos_lt_count { pos < self.count }
         requires state_bound { state ≤ 1 }
@@ -472,7 +390,7 @@ impl KBucket {
     }
 
     // Inserts a node that was taken out, and that was `old` before. It stays out where a test fails.
-    fn reinserted(self, old: Node, node: Node) -> Updated
+    fn reinserted(self, old: Node, node: Node) -> Step<UpdateResult>
         requires sound { Sound self }
         requires count_lt_max_nodes_per_bucket { self.count < max_nodes_per_bucket }
         requires node_value { node_codes node ≡ true }
@@ -481,45 +399,44 @@ impl KBucket {
         ensures becomes { Becomes (settings_of self) (reinsert (settings_of self) (node_of node) (bucket_of self)).1 result.bucket }
     {
         if self.fails_filter(node.value) {
-            return Updated {
+            return Step {
                 bucket: self,
                 result: UpdateResult::Failed(FailureReason::BucketFilter),
             };
         }
         if self.is_max_incoming(node) {
-            return Updated {
+            return Step {
                 bucket: self,
                 result: UpdateResult::Failed(FailureReason::TooManyIncoming),
             };
         }
-        Updated {
+        Step {
             bucket: self.placed(node),
             result: status_result(old, node),
         }
     }
 
-    // Internal: the pending goes, if told so.
+    // Internal: the pending goes, if told so. A method of its own: its callers take their step on what it leaves, in both cases the same.
     pub fn without_pending(self, go: bool) -> KBucket
-        ensures { result ≡ repending (cond go Nothing self.pending) self }
+        ensures { result ≡ repending (cond go None self.pending) self }
     {
-        if go {
-            self.with_pending(Pending::Nothing)
-        } else {
-            self
-        }
+        if go { self.with_pending(None) } else { self }
     }
 
     // The step on a pending of this key; `f` is what it does to the node.
-    fn pending_changed<F: FnOnce(Node) -> Node>(self, key: Key, f: F) -> Updated
+    fn pending_changed<F: FnOnce(Node) -> Node>(self, key: Key, f: F) -> Step<UpdateResult>
         requires { F.IsAlwaysCallable f }
         ensures { changes_pending (F.post f) (num key) self self.pending result }
     {
         match self.pending {
-            Pending::Waiting(node, deadline) if node.key.eq(key) => Updated {
-                bucket: self.with_pending(Pending::Waiting(f(node), deadline)),
+            Some(pending) if pending.node.key.eq(key) => Step {
+                bucket: self.with_pending(Some(PendingNode {
+                    node: f(pending.node),
+                    ..pending
+                })),
                 result: UpdateResult::UpdatedPending,
             },
-            _ => Updated {
+            _ => Step {
                 bucket: self,
                 result: UpdateResult::Failed(FailureReason::KeyNonExistent),
             },
@@ -527,7 +444,7 @@ impl KBucket {
     }
 
     // Internal: the status step on a pending of this key.
-    pub fn status_pending(self, key: Key, state: u8, direction: u8) -> Updated
+    pub fn status_pending(self, key: Key, state: Code, direction: Code) -> Step<UpdateResult>
         requires sound { Sound self }
         requires state_bound { state ≤ 1 }
         requires direction_bound { direction ≤ 2 }
@@ -538,7 +455,7 @@ impl KBucket {
     }
 
     // Internal: update_status on a sound bucket; direction 2 is none given.
-    pub fn update_status_sound(self, key: Key, state: u8, direction: u8) -> Updated
+    pub fn update_status_sound(self, key: Key, state: Code, direction: Code) -> Step<UpdateResult>
         requires sound { Sound self }
         requires state_bound { state ≤ 1 }
         requires direction_bound { direction ≤ 2 }
@@ -553,7 +470,7 @@ impl KBucket {
     }
 
     // Internal: the value step on the node at place pos of a sound bucket.
-    pub fn value_at(mut self, pos: usize, value: Value) -> Updated
+    pub fn value_at(mut self, pos: usize, value: Value) -> Step<UpdateResult>
         requires sound { Sound self }
         requires pos_lt_count { pos < self.count }
         requires value_value { value_codes value ≡ true }
@@ -562,7 +479,7 @@ impl KBucket {
     {
         let old = self.nodes[pos];
         if old.value.eq(value) {
-            return Updated {
+            return Step {
                 bucket: self,
                 result: UpdateResult::NotModified,
             };
@@ -570,21 +487,21 @@ impl KBucket {
         if self.filter == 1 {
             let rest = self.taken_out(pos);
             if rest.fails_filter(value) {
-                return Updated {
+                return Step {
                     bucket: rest,
                     result: UpdateResult::Failed(FailureReason::BucketFilter),
                 };
             }
         }
         self.nodes[pos] = old.with_value(value);
-        Updated {
+        Step {
             bucket: self,
             result: UpdateResult::Updated,
         }
     }
 
     // Internal: the value step on a pending of this key.
-    pub fn value_pending(self, key: Key, value: Value) -> Updated
+    pub fn value_pending(self, key: Key, value: Value) -> Step<UpdateResult>
         requires sound { Sound self }
         requires value_value { value_codes value ≡ true }
         ensures result_value { update_result_of result.result ≡ (update_if_pending (num key) (with_value (value_of value)) (bucket_of self) (pending_of self.pending)).0 }
@@ -594,7 +511,7 @@ impl KBucket {
     }
 
     // Internal: update_value on a sound bucket.
-    pub fn update_value_sound(self, key: Key, value: Value) -> Updated
+    pub fn update_value_sound(self, key: Key, value: Value) -> Step<UpdateResult>
         requires sound { Sound self }
         requires value_value { value_codes value ≡ true }
         ensures result_value { update_result_of result.result ≡ (update_value (settings_of self) (num key) (value_of value) (bucket_of self)).0 }
@@ -608,37 +525,38 @@ impl KBucket {
     }
 
     // Internal: update_pending on a sound bucket.
-    pub fn update_pending_sound(self, state: u8, direction: u8) -> KBucket
+    pub fn update_pending_sound(self, state: Code, direction: Code) -> KBucket
         requires sound { Sound self }
         requires state_bound { state ≤ 1 }
         requires direction_bound { direction ≤ 1 }
         ensures { Becomes (settings_of self) (update_pending (is_one state) (is_one direction) (bucket_of self)) result }
     {
         match self.pending {
-            Pending::Nothing => self,
-            Pending::Waiting(node, deadline) => {
-                self.with_pending(Pending::Waiting(node.with_status(state, direction), deadline))
-            }
+            None => self,
+            Some(pending) => self.with_pending(Some(PendingNode {
+                node: pending.node.with_status(state, direction),
+                ..pending
+            })),
         }
     }
 
     // Internal: remove on a sound bucket.
-    pub fn remove_sound(self, key: Key, now: u64) -> Removed
+    pub fn remove_sound(self, key: Key, now: u64) -> Step<bool>
         requires sound { Sound self }
         requires pending_timeout_bound { now + self.pending_timeout < 2 ^ 64 }
-        ensures found_value { result.found ≡ (remove (settings_of self) now (num key) (bucket_of self)).0 }
+        ensures result_value { result.result ≡ (remove (settings_of self) now (num key) (bucket_of self)).0 }
         ensures becomes { Becomes (settings_of self) (remove (settings_of self) now (num key) (bucket_of self)).1 result.bucket }
     {
         let pos = places::position(self.nodes, 0, self.count, key);
         if pos < self.count {
-            return Removed {
+            return Step {
                 bucket: self.taken_out(pos).apply_pending_sound(now).bucket,
-                found: true,
+                result: true,
             };
         }
-        Removed {
+        Step {
             bucket: self,
-            found: false,
+            result: false,
         }
     }
 
@@ -666,209 +584,178 @@ impl KBucket {
         different & (placed & (few & (pending & codes)))
     }
 
-    // Internal: the first of questions 2 and 4 that fails, or 0. `codes` is question 4.
-    pub fn asked(self, codes: bool) -> u8
-        ensures value { result ≡ refusal_number (first_failed (questions self codes [])) }
-        ensures sound { result ≡ 0 → Sound self × (codes ≡ true) × (first_failed (questions self codes []) ≡ none) }
+    // Internal: questions 2, 4 and, where a time is given, 5. `codes` is question 4.
+    pub fn asked(self, codes: bool, now: Option<u64>) -> Result<(), Refusal>
+        ensures value { failed_of result ≡ first_failed (questions self codes (option_of now)) }
+        ensures sound { result ≡ Ok tt → Sound self × (codes ≡ true) × (deadline_fits self.pending_timeout (option_of now) ≡ true) }
     {
         if !self.is_sound() {
-            return 2;
+            return Err(Refusal::Form);
         }
         if !codes {
-            return 4;
+            return Err(Refusal::Code);
         }
-        0
+        match now {
+            Some(now) if u64::MAX - self.pending_timeout < now => Err(Refusal::Time),
+            _ => Ok(()),
+        }
     }
 
-    // Internal: the same with question 5.
-    pub fn asked_at(self, codes: bool, now: u64) -> u8
-        ensures value { result ≡ refusal_number (first_failed (questions self codes (timely self now))) }
-        ensures sound { result ≡ 0 → Sound self × (codes ≡ true) × (now + self.pending_timeout < 2 ^ 64) × (first_failed (questions self codes (timely self now)) ≡ none) }
+    // Internal: the bucket as it is, and why a call is refused.
+    fn refused<T>(self, refusal: Refusal) -> Step<Result<T, Refusal>>
+        ensures { result ≡ record { bucket = self; result = Err refusal } }
     {
-        if !self.is_sound() {
-            return 2;
+        Step {
+            bucket: self,
+            result: Err(refusal),
         }
-        if !codes {
-            return 4;
-        }
-        if u64::MAX - self.pending_timeout < now {
-            return 5;
-        }
-        0
     }
 
     // Inserts a node: the first match of 01, Insert.
-    pub fn insert(self, node: Node, now: u64) -> InsertReply
-        ensures { insert_call self node now ≡ (insert_answer_of result.answer, result.bucket) }
+    pub fn insert(self, node: Node, now: u64) -> Step<Result<InsertResult, Refusal>>
+        ensures { insert_call self node now ≡ (reply_of insert_result_of result.result, result.bucket) }
     {
-        let q = self.asked_at(node.in_range(), now);
-        if q != 0 {
-            return InsertReply {
-                bucket: self,
-                answer: InsertAnswer::Refused(q),
-            };
-        }
-        let r = self.insert_sound(node, now);
-        InsertReply {
-            bucket: r.bucket,
-            answer: InsertAnswer::Answered(r.result),
+        match self.asked(node.in_range(), Some(now)) {
+            Ok(()) => self.insert_sound(node, now).accepted(),
+            Err(refusal) => self.refused(refusal),
         }
     }
 
-    // Applies the pending when its deadline has come.
-    pub fn apply_pending(self, now: u64) -> ApplyReply
-        ensures value { apply_pending_call self now ≡ (apply_answer_of result.answer, result.bucket) }
-        ensures answer_value { apply_codes result.answer ≡ true }
+    // Applies the pending when its deadline has come. A drop leaves no record (01, Apply pending).
+    pub fn apply_pending(self, now: u64) -> Step<Result<Option<EndedPending>, Refusal>>
+        ensures value { apply_pending_call self now ≡ (reply_of records_of result.result, result.bucket) }
+        ensures result_value { apply_codes result.result ≡ true }
     {
-        let q = self.asked_at(true, now);
-        if q != 0 {
-            return ApplyReply {
-                bucket: self,
-                answer: ApplyAnswer::Refused(q),
-            };
-        }
-        let r = self.apply_pending_sound(now);
-        ApplyReply {
-            bucket: r.bucket,
-            answer: ApplyAnswer::Answered(only_placed(r.applied)),
+        match self.asked(true, Some(now)) {
+            Ok(()) => {
+                let step = self.apply_pending_sound(now);
+                Step {
+                    bucket: step.bucket,
+                    result: Ok(only_placed(step.result)),
+                }
+            }
+            Err(refusal) => self.refused(refusal),
         }
     }
 
     // Takes the node of the key out, changes its status and inserts it; direction 2 is none given.
-    pub fn update_status(self, key: Key, state: u8, direction: u8) -> UpdateReply
-        ensures { update_status_call self key state direction ≡ (update_answer_of result.answer, result.bucket) }
+    pub fn update_status(
+        self,
+        key: Key,
+        state: Code,
+        direction: Code,
+    ) -> Step<Result<UpdateResult, Refusal>>
+        ensures { update_status_call self key state direction ≡ (reply_of update_result_of result.result, result.bucket) }
     {
-        let q = self.asked((state <= 1) & (direction <= 2));
-        if q != 0 {
-            return UpdateReply {
-                bucket: self,
-                answer: UpdateAnswer::Refused(q),
-            };
-        }
-        let r = self.update_status_sound(key, state, direction);
-        UpdateReply {
-            bucket: r.bucket,
-            answer: UpdateAnswer::Answered(r.result),
+        match self.asked((state <= 1) & (direction <= 2), None) {
+            Ok(()) => self.update_status_sound(key, state, direction).accepted(),
+            Err(refusal) => self.refused(refusal),
         }
     }
 
     // Changes the value of the node of the key, in its place.
-    pub fn update_value(self, key: Key, value: Value) -> UpdateReply
-        ensures { update_value_call self key value ≡ (update_answer_of result.answer, result.bucket) }
+    pub fn update_value(self, key: Key, value: Value) -> Step<Result<UpdateResult, Refusal>>
+        ensures { update_value_call self key value ≡ (reply_of update_result_of result.result, result.bucket) }
     {
-        let q = self.asked(value.in_range());
-        if q != 0 {
-            return UpdateReply {
-                bucket: self,
-                answer: UpdateAnswer::Refused(q),
-            };
-        }
-        let r = self.update_value_sound(key, value);
-        UpdateReply {
-            bucket: r.bucket,
-            answer: UpdateAnswer::Answered(r.result),
+        match self.asked(value.in_range(), None) {
+            Ok(()) => self.update_value_sound(key, value).accepted(),
+            Err(refusal) => self.refused(refusal),
         }
     }
 
     // Sets the status of the pending, if any.
-    pub fn update_pending(self, status: NodeStatus) -> PendingReply
-        ensures { update_pending_call self status ≡ (pending_answer_of result.answer, result.bucket) }
+    pub fn update_pending(self, status: NodeStatus) -> Step<Result<(), Refusal>>
+        ensures { update_pending_call self status ≡ (reply_of (λ u. u) result.result, result.bucket) }
     {
-        let q = self.asked((status.state <= 1) & (status.direction <= 1));
-        if q != 0 {
-            return PendingReply {
-                bucket: self,
-                answer: PendingAnswer::Refused(q),
-            };
-        }
-        PendingReply {
-            bucket: self.update_pending_sound(status.state, status.direction),
-            answer: PendingAnswer::Done,
+        match self.asked((status.state <= 1) & (status.direction <= 1), None) {
+            Ok(()) => Step {
+                bucket: self.update_pending_sound(status.state, status.direction),
+                result: Ok(()),
+            },
+            Err(refusal) => self.refused(refusal),
         }
     }
 
     // Takes the node of the key out, then applies a due pending and throws its record away.
-    pub fn remove(self, key: Key, now: u64) -> RemoveReply
-        ensures { remove_call self key now ≡ (remove_answer_of result.answer, result.bucket) }
+    pub fn remove(self, key: Key, now: u64) -> Step<Result<bool, Refusal>>
+        ensures { remove_call self key now ≡ (reply_of (λ found. found) result.result, result.bucket) }
     {
-        let q = self.asked_at(true, now);
-        if q != 0 {
-            return RemoveReply {
-                bucket: self,
-                answer: RemoveAnswer::Refused(q),
-            };
-        }
-        let r = self.remove_sound(key, now);
-        RemoveReply {
-            bucket: r.bucket,
-            answer: RemoveAnswer::Answered(r.found),
+        match self.asked(true, Some(now)) {
+            Ok(()) => self.remove_sound(key, now).accepted(),
+            Err(refusal) => self.refused(refusal),
         }
     }
 }
 
-// Internal: is there a pending?
-pub fn waits(p: Pending) -> bool
-    ensures { result ≡ is_some (pending_of p) }
-{
-    matches!(p, Pending::Waiting(..))
+impl<T> Step<T> {
+    // The step as the answer of a call that is not refused.
+    fn accepted(self) -> Step<Result<T, Refusal>>
+        ensures { result ≡ record { bucket = self.bucket; result = Ok self.result } }
+    {
+        Step {
+            bucket: self.bucket,
+            result: Ok(self.result),
+        }
+    }
+}
+
+impl Ending {
+    // The kind that stands for the ending in a record.
+    pub fn kind(self) -> u8
+        ensures { result ≡ ending_kind (ending_of self) }
+    {
+        match self {
+            Ending::Placed(None) => 0,
+            Ending::Placed(Some(_)) => 1,
+            Ending::FirstConnected => 2,
+            Ending::BucketFilter => 3,
+            Ending::TooManyIncoming => 4,
+            Ending::Inserted => 5,
+            Ending::FirstConfirmed => 6,
+        }
+    }
 }
 
 // Internal: the record of a pending that was placed; none of one that was not.
-pub fn only_placed(ended: EndedPending) -> EndedPending
+pub fn only_placed(ended: Option<EndedPending>) -> Option<EndedPending>
     requires { applied_codes ended ≡ true }
     ensures result_value { records_of result ≡ placed_of (records_of ended) }
     ensures result_value_2 { applied_codes result ≡ true }
 {
     match ended {
-        EndedPending::Dropped(..) => EndedPending::Nothing,
-        _ => ended,
-    }
-}
-
-// Internal: how many records there are of it.
-pub fn count_of(ended: EndedPending) -> usize
-    ensures { (result ≡ length (records_of ended)) × (result ≤ 1) }
-{
-    match ended {
-        EndedPending::Nothing => 0,
-        _ => 1,
-    }
-}
-
-// Internal: the kind that stands for the ending in a record.
-pub fn ending_code(ending: Ending) -> u8
-    ensures { result ≡ ending_kind (ending_of ending) }
-{
-    match ending {
-        Ending::FirstConnected => 2,
-        Ending::BucketFilter => 3,
-        Ending::TooManyIncoming => 4,
-        Ending::Inserted => 5,
-        Ending::FirstConfirmed => 6,
+        Some(
+            EndedPending {
+                ending: Ending::Placed(_),
+                ..
+            },
+        ) => ended,
+        _ => None,
     }
 }
 
 // Internal: the pending, unless it is of this key.
-pub fn cleared(key: Key, p: Pending) -> Pending
-    ensures { result ≡ cleared_pending (num key) p }
+pub fn cleared(key: Key, pending: Option<PendingNode>) -> Option<PendingNode>
+    ensures { result ≡ cleared_pending (num key) pending }
 {
-    match p {
-        Pending::Waiting(node, _) if node.key.eq(key) => Pending::Nothing,
-        _ => p,
+    match pending {
+        Some(p) if p.node.key.eq(key) => None,
+        _ => pending,
     }
 }
 
 // Internal: is a pending not held, and are its codes in range? A yes also tells what Rattle knows of its key.
-pub fn pending_sound(nodes: [Node; KBucket::MAX_NODES_PER_BUCKET], count: usize, p: Pending) -> bool
+pub fn pending_sound(
+    nodes: [Node; KBucket::MAX_NODES_PER_BUCKET],
+    count: usize,
+    pending: Option<PendingNode>,
+) -> bool
     requires { count ≤ max_nodes_per_bucket }
-    ensures value { result ≡ pending_fits (take count nodes) p }
-    ensures pending_words { PendingWords p }
+    ensures value { result ≡ pending_fits (take count nodes) pending }
+    ensures pending_words { PendingWords pending }
 {
-    match p {
-        Pending::Nothing => true,
-        Pending::Waiting(node, _) => {
-            has_codes(node) && places::position(nodes, 0, count, node.key) == count
-        }
+    match pending {
+        None => true,
+        Some(p) => { has_codes(p.node) && places::position(nodes, 0, count, p.node.key) == count }
     }
 }
 

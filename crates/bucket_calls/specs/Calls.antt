@@ -1,5 +1,5 @@
 -- The calls on a bucket by itself, with the arguments as a host gives them: what each is asked, returns and leaves.
-use Rattle.std.specs.Prelude.{ℕ, Bool, true, ◌&&◌, List, [], ◌∷◌, ◌++◌, length, eqb, leb}
+use Rattle.std.specs.Prelude.{Result, Ok, Err, ℕ, Bool, true, ◌&&◌, List, [], ◌∷◌, ◌++◌, length, eqb, leb}
 use Rattle.std.proofs.Math.Option.{Option, none, some}
 use Rattle.model.specs.Node.{placed_of}
 use Rattle.model.specs.Base.{first}
@@ -10,9 +10,16 @@ use Rattle.model.specs.Call.{ValueArgument, is_one, optional, value_of}
 use Rattle.model.specs.Question.{first_failed, value_in_range}
 use Rattle.model.specs.Step.{node_of}
 use Rattle.model.specs.Layout.{flag_byte, bucket_bytes}
+use Rattle.node.specs.declared.Refusal.{Refusal}
+use Rattle.node.specs.Refusal.{number_of}
 use Rattle.codes.specs.Codes.{refused_code, update_code, bucket_insert_code, bucket_insert_bytes, applied_code, applied_bytes, answer_size}
 use Rattle.codes.specs.Exported.{Exported}
 use Rattle.bucket_calls.specs.Lent.{lent_size, lent_settings, lent_bucket, lent_five, empty_bytes}
+
+-- the number of what a call answers: its result's, or the refusal's
+abbrev pub code_of : Result ℕ Refusal → ℕ
+code_of (Ok n) = n
+code_of (Err r) = refused_code (number_of r)
 
 pub data BucketCall : Type 0 where
   insert : (key : List ℕ) (value : ValueArgument) (state direction now : ℕ) → BucketCall

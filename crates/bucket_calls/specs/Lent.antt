@@ -1,5 +1,5 @@
 -- The bytes of a bucket by itself: what a table stores of a bucket, then pending timeout, max_incoming, filter.
-use Rattle.std.specs.Prelude.{ℕ, ◌+◌, Bool, true, ◌&&◌, List, [], ◌∷◌, ◌++◌, length, get_or, eqb, leb}
+use Rattle.std.specs.Prelude.{ℕ, ◌≡◌, ◌+◌, Bool, true, ◌&&◌, List, [], ◌∷◌, ◌++◌, length, get_or, eqb, leb}
 use Rattle.std.proofs.Math.Option.{Option}
 use Rattle.model.specs.Bytes.{number, bytes, part}
 use Rattle.model.specs.Bucket.{Bucket, BucketSettings, max_nodes_per_bucket, empty_bucket}
@@ -46,8 +46,16 @@ lent_five bs key codes now =
     ∷ (5, deadline_fits (lent_settings bs).pending_timeout now)
     ∷ []
 
-unfoldable pub failed_of_lent : List ℕ → Bool → Bool → Option ℕ → Option ℕ
+abbrev pub failed_of_lent : List ℕ → Bool → Bool → Option ℕ → Option ℕ
 failed_of_lent bs key codes now = first_failed (lent_five bs key codes now)
+
+-- what is known where none of them fails
+pub record Passed (bs : List ℕ) (key codes : Bool) (now : Option ℕ) : Type 0 where
+  pub size : length bs ≡ lent_size
+  pub formed : lent_formed bs ≡ true
+  pub key_fits : key ≡ true
+  pub in_range : codes ≡ true
+  pub in_time : deadline_fits (lent_settings bs).pending_timeout now ≡ true
 
 -- place j: codes in range, the state that the place has, and a key that no place before it has
 unfoldable pub place_sound : ℕ → List ℕ → ℕ → Bool

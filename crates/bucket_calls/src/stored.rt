@@ -1,20 +1,20 @@
 // Internal: a bucket by itself, lent as bytes: its questions, and the bucket by value.
-ghost use Rattle.std.specs.Prelude.{◌≡◌, true, ◌&&◌, ◌≤◌, ◌<◌, length, get_or, leb, eqb};
-ghost use Rattle.std.proofs.Math.Option.{none, some};
+ghost use Rattle.std.specs.Prelude.{◌≡◌, OnOk, true, ◌&&◌, ◌≤◌, ◌<◌, length, get_or, leb, eqb};
 ghost use Rattle.model.specs.Base.{all_below, tabulate};
 ghost use Rattle.model.specs.Bytes.{part};
 ghost use Rattle.model.specs.Bucket.{max_nodes_per_bucket, incoming_nodes};
 ghost use Rattle.model.specs.Sizes.{bucket_size};
 ghost use Rattle.model.specs.Formed.{not_held, state_at, pending_formed};
 ghost use Rattle.key.specs.Key.{num};
+ghost use Rattle.key.specs.Answers.{option_of};
 ghost use Rattle.node.specs.Node.{node_codes};
+ghost use Rattle.node.specs.Refusal.{failed_of};
 ghost use Rattle.well_formed.specs.Tests.{node_at};
-ghost use Rattle.on_key.specs.Answers.{refusal};
 ghost use Rattle.bucket.specs.Bucket.{Becomes};
-ghost use Rattle.bucket_calls.specs.Lent.{lent_size, lent_settings, lent_bucket, lent_formed, failed_of_lent, place_sound};
+ghost use Rattle.bucket_calls.specs.Lent.{lent_size, lent_settings, lent_bucket, lent_formed, failed_of_lent, Passed, place_sound};
 
 use bucket::KBucket;
-use node::Node;
+use node::{Node, Refusal};
 use storage::Layout;
 
 // Where the settings stand, behind the bucket.
@@ -34,9 +34,8 @@ fn place_sound(s: &[u8], first: usize, j: usize, node: Node) -> bool
     requires { (bucket_size ≤ length s.now) × (j < max_nodes_per_bucket) }
     ensures { result ≡ ((node_codes node && eqb node.status.state (state_at first j)) && not_held (part s.now 0 bucket_size) j (num node.key)) }
 {
-    let key = node.key;
     (node.in_range() & (node.status.state == well_formed::state_at(first, j)))
-        & well_formed::not_held(s, 0, j, key)
+        & well_formed::not_held(s, 0, j, node.key)
 }
 
 // The places below count, with at most max_incoming nodes that are connected and incoming.
@@ -64,9 +63,8 @@ fn pending_sound(s: &[u8], count: usize) -> bool
     if flag == 0 {
         return words::all_zero(s, Layout::PENDING_AT + 1, Layout::NODE + Layout::TIME);
     }
-    let n = storage::load_node(s, Layout::PENDING_AT + 1);
-    let key = n.key;
-    (flag == 1) & (well_formed::not_held(s, 0, count, key) & n.in_range())
+    let node = storage::load_node(s, Layout::PENDING_AT + 1);
+    (flag == 1) & (well_formed::not_held(s, 0, count, node.key) & node.in_range())
 }
 
 // Question 2, all but the index.
@@ -90,37 +88,28 @@ fn lent_formed(s: &[u8]) -> bool
     (unused & ((first <= count) & (places & pending_sound(s, count)))) & settings
 }
 
-// Internal: the first failed question of 1 to 4, or 0, where no time is given.
-pub fn asked(s: &[u8], key: bool, codes: bool) -> u8
-    ensures { failed_of_lent s.now key codes none ≡ refusal result }
+// Internal: questions 1 to 4 and, where a time is given, 5.
+#[tactic(auto, unfolding(crate::specs::Lent::lent_settings))]
+pub fn asked(s: &[u8], key: bool, codes: bool, time: Option<u64>) -> Result<(), Refusal>
+    ensures value { failed_of result ≡ failed_of_lent s.now key codes (option_of time) }
+    ensures passed { OnOk result (Passed s.now key codes (option_of time)) }
 {
     if s.len() != KBucket::BYTES {
-        return 1;
+        return Err(Refusal::Size);
     }
     if !lent_formed(s) {
-        return 2;
+        return Err(Refusal::Form);
     }
     if !key {
-        return 3;
+        return Err(Refusal::Key);
     }
     if !codes {
-        return 4;
+        return Err(Refusal::Code);
     }
-    0
-}
-
-// Internal: the first failed question of 1 to 5, or 0.
-pub fn asked_at(s: &[u8], key: bool, codes: bool, time: u64) -> u8
-    ensures { failed_of_lent s.now key codes (some time) ≡ refusal result }
-{
-    let q = asked(s, key, codes);
-    if q != 0 {
-        return q;
+    match time {
+        Some(time) if u64::MAX - words::get_u64(s, Lent::TIMEOUT_AT) < time => Err(Refusal::Time),
+        _ => Ok(()),
     }
-    if 0xFFFF_FFFF_FFFF_FFFF - words::get_u64(s, Lent::TIMEOUT_AT) < time {
-        return 5;
-    }
-    0
 }
 
 // Internal: the bucket, by value.

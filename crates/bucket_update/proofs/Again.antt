@@ -149,8 +149,8 @@ module _ (s : BucketSettings) (now : ℕ) (b : Bucket) (m : Node) (at : get m.ke
       ∙ ap (λ (z : UpdateResult × Bucket). (Answer.InsertOrUpdate (insert_updates (update_value s m.key v z.1).0 z.0), (update_value s m.key v z.1).1)) y
       ∙ ap (λ (z : UpdateResult × Bucket). (Answer.InsertOrUpdate (insert_updates z.0 (status_result m stated none)), z.1)) f
 
-  pub insert_steps : insert_or_update_in s false now new b ≡ held_steps s m new left
-  insert_steps =
+  restated_steps : insert_or_update_in s false now new b ≡ held_steps s m new left
+  restated_steps =
       let absent = take_out_without m.key b in
       split (fails_bucket_filter s m.value left)
       (λ f. failed FailureReason.BucketFilter (reinsert_filter s stated left f) ∙ rw f)
@@ -163,22 +163,32 @@ module _ (s : BucketSettings) (now : ℕ) (b : Bucket) (m : Node) (at : get m.ke
       (λ h. passed e _ _ (value_refused s stated v left absent f h) ∙ rw (f, g, h))
       (λ h. passed e _ _ (value_placed s stated v left absent h) ∙ rw (f, g, h))))
 
+module _ (s : BucketSettings) (now : ℕ) (b : Bucket) (m n : Node) (at : get n.key b ≡ some m) (own : m.key ≡ n.key) where
+  pub insert_steps : insert_or_update_in s false now n b ≡ held_steps s m n (taken_out n.key n.connected b)
+  insert_steps =
+      subst (λ (x : Node). insert_or_update_in s false now x b ≡ held_steps s m x (taken_out x.key x.connected b))
+      (ap (λ (k : ℕ). record { key = k; value = n.value; connected = n.connected; incoming = n.incoming }) own)
+      (restated_steps s now b m (subst (λ (k : ℕ). get k b ≡ some m) (sym own) at) n.connected n.incoming n.value)
+
   -- where the bucket filter is off
   module _ (off : s.filter ≡ false) where
-    abbrev again : Option FailureReason × Bucket → Answer × Bucket
-    again r = (Answer.InsertOrUpdate (insert_updates (value_result m.value v) (status_result m new r.0)), r.1)
+    abbrev rest : Bucket
+    rest = taken_out n.key n.connected b
 
-    pub insert_again : insert_or_update_in s false now new b ≡ again (put_again s new b)
+    abbrev again : Option FailureReason × Bucket → Answer × Bucket
+    again r = (Answer.InsertOrUpdate (insert_updates (value_result m.value n.value) (status_result m n r.0)), r.1)
+
+    pub insert_again : insert_or_update_in s false now n b ≡ again (put_again s n b)
     insert_again =
-        let f = filter_off s m.value left off in
-        let h = filter_off s v left off in
+        let f = filter_off s m.value rest off in
+        let h = filter_off s n.value rest off in
         insert_steps
-        ∙ split (is_max_incoming s new left)
+        ∙ split (is_max_incoming s n rest)
         (λ g.
         rw (f, g)
-        (ap (λ (r : InsertResult). (Answer.InsertOrUpdate r, left)) (sym (failed_both (same_value m.value v) FailureReason.TooManyIncoming))
-        ∙ ap again (sym (reinsert_many s new left h g))))
-        (λ g. rw (f, g, h) (ap again (sym (reinsert_placed s new left h g))))
+        (ap (λ (r : InsertResult). (Answer.InsertOrUpdate r, rest)) (sym (failed_both (same_value m.value n.value) FailureReason.TooManyIncoming))
+        ∙ ap again (sym (reinsert_many s n rest h g))))
+        (λ g. rw (f, g, h) (ap again (sym (reinsert_placed s n rest h g))))
 
 -- A value in the place of a key: the node is found with it, and the step that takes the node out sees no difference.
 
@@ -213,7 +223,7 @@ status_valued : (m n : Node) (v : Value) (o : Option FailureReason) → status_r
 status_valued m n v none = refl
 status_valued m n v (some r) = refl
 
--- update_node of a held node m, where a state is given
+-- update_node of a held node m, where a state is given, by the node's own key
 module _ (s : BucketSettings) (now : ℕ) (b : Bucket) (m : Node) (at : get m.key b ≡ some m) (u : Bool) (v : Value) where
   abbrev valued : Node
   valued = with_status u none (with_value v m)
@@ -227,8 +237,8 @@ module _ (s : BucketSettings) (now : ℕ) (b : Bucket) (m : Node) (at : get m.ke
   abbrev answered : Bool → Answer × Bucket
   answered t = left_by (cond t UpdateResult.NotModified UpdateResult.Updated) valued (taken_out m.key u b)
 
-  pub node_again : fails_bucket_filter s v (take_out m.key b) ≡ false → update_node_in s false now m.key v (some u) b ≡ left_by (value_result m.value v) valued (taken_out m.key u b)
-  node_again f =
+  own_again : fails_bucket_filter s v (take_out m.key b) ≡ false → update_node_in s false now m.key v (some u) b ≡ left_by (value_result m.value v) valued (taken_out m.key u b)
+  own_again f =
       split (same_value m.value v)
       (λ e.
       let x = value_same s m.key v b m at e in
@@ -248,10 +258,9 @@ module _ (s : BucketSettings) (now : ℕ) (b : Bucket) (m : Node) (at : get m.ke
       ∙ ap (left_by UpdateResult.Updated valued) (without_revalue m.key u v b)
       ∙ ap answered (sym e))
 
-  -- a value that the filter refuses fails in either step
-  pub node_refused : taken_out m.key u b ≡ take_out m.key b → fails_bucket_filter s v (take_out m.key b) ≡ true
+  own_refused : taken_out m.key u b ≡ take_out m.key b → fails_bucket_filter s v (take_out m.key b) ≡ true
       → update_node_in s false now m.key v (some u) b ≡ (Answer.Update (UpdateResult.Failed FailureReason.BucketFilter), take_out m.key b)
-  node_refused p f =
+  own_refused p f =
       split (same_value m.value v)
       (λ e.
       let x = value_same s m.key v b m at e in
@@ -265,3 +274,25 @@ module _ (s : BucketSettings) (now : ℕ) (b : Bucket) (m : Node) (at : get m.ke
       let x = value_fails s m.key v b m at e f in
       node_failed s false now m.key v (some u) b refl (ap (λ (r : UpdateResult × Bucket). is_failed r.0) x)
       ∙ ap (λ (r : UpdateResult × Bucket). (Answer.Update r.0, r.1)) x)
+
+-- by the key and the state that the call names
+module _ (s : BucketSettings) (now : ℕ) (b : Bucket) (m : Node) (k : ℕ) (at : get k b ≡ some m) (own : m.key ≡ k) (o : Option Bool) (u : Bool) (given : o ≡ some u) (v : Value) where
+  abbrev becomes : Node
+  becomes = with_status u none (with_value v m)
+
+  abbrev updates : Option FailureReason × Bucket → Answer × Bucket
+  updates x = (Answer.Update (both_updates (value_result m.value v) (status_result m becomes x.0)), x.1)
+
+  own_at : get m.key b ≡ some m
+  own_at = subst (λ (i : ℕ). get i b ≡ some m) (sym own) at
+
+  by_key : {x : Answer × Bucket} → update_node_in s false now m.key v (some u) b ≡ x → update_node_in s false now k v o b ≡ x
+  by_key {x} e = subst (λ (i : ℕ). update_node_in s false now i v o b ≡ x) own (ap (λ (d : Option Bool). update_node_in s false now m.key v d b) given ∙ e)
+
+  pub node_again : fails_bucket_filter s v (take_out m.key b) ≡ false → update_node_in s false now k v o b ≡ updates (put_again s becomes b)
+  node_again f = by_key (own_again s now b m own_at u v f)
+
+  -- a value that the filter refuses fails in either step
+  pub node_refused : taken_out m.key u b ≡ take_out m.key b → fails_bucket_filter s v (take_out m.key b) ≡ true
+      → update_node_in s false now k v o b ≡ (Answer.Update (UpdateResult.Failed FailureReason.BucketFilter), take_out m.key b)
+  node_refused p f = by_key (own_refused s now b m own_at u v p f)

@@ -1,17 +1,26 @@
 -- What update_node and insert_or_update answer and leave, case by case.
-use Prim.Native.Nat.{ℕ}
+use Prim.Native.Nat.{ℕ, ◌≤◌}
 use mathlib.Core.Path.{◌≡◌, refl, ap, ◌∙◌, subst}
 use mathlib.Core.Bool.{Bool, true, false, cond}
 use mathlib.Core.Option.{Option, none, some}
-use borrow.Author.Tests.{eq-eqb, ne_eqb}
+use lib.Dec.{leb}
+use borrow.Author.Tests.{eq-eqb, ne_eqb, le-leb}
 use Rattle.model.specs.Value.{Value}
 use Rattle.model.specs.Node.{Node}
 use Rattle.model.specs.Result.{FailureReason, UpdateResult, InsertResult, is_failed}
 use Rattle.model.specs.Bucket.{Bucket, BucketSettings, holds, insert, update_status, update_value, remove}
 use Rattle.model.specs.Table.{Answer, both_updates, update_node_in, insert_updates, inserts, insert_or_update_in}
 use Rattle.model.specs.Call.{is_one, optional}
+use Rattle.laws.proofs.Tests.{and_left, and_right}
+use Rattle.node.specs.declared.Value as stored
+use Rattle.node.specs.declared.Node as node
+use Rattle.node.specs.Node.{value_codes, node_codes, restated, revalued}
+use Rattle.bucket.specs.declared.FailureReason as failure
+use Rattle.bucket.specs.declared.UpdateResult as declared
+use Rattle.bucket.specs.declared.UpdateResult.TheVariants as result
 use Rattle.bucket.specs.declared.KBucket.{KBucket}
 use Rattle.bucket.specs.Bucket.{Becomes}
+use Rattle.bucket.specs.Calls.{update_result_of}
 
 pub both_failed : (v : UpdateResult) (r : FailureReason) → UpdateResult.Failed r ≡ both_updates v (UpdateResult.Failed r)
 both_failed UpdateResult.Updated r = refl
@@ -33,6 +42,17 @@ pub stated : (s : BucketSettings) (m : Bucket) (k : ℕ) (u : Bool) {d e : Optio
 stated s m k u {t = t} g p b =
     (p ∙ ap (λ (d : Option Bool). (update_status s k u d m).0) g, subst (λ (d : Option Bool). Becomes s (update_status s k u d m).1 t) g b)
 
+pub not_failed : (r : declared.UpdateResult) → ((x : failure.FailureReason) → r ≡ result.Failed x → ⊥) → is_failed (update_result_of r) ≡ false
+not_failed result.Updated h = refl
+not_failed result.UpdatedAndPromoted h = refl
+not_failed result.UpdatedPending h = refl
+not_failed (result.Failed x) h = absurd (h x refl)
+not_failed result.NotModified h = refl
+
+-- the codes of a stored node with another value and another state
+pub codes_again : (v : stored.Value) (state : ℕ) (old : node.Node) → node_codes old ≡ true → value_codes v ≡ true → state ≤ 1 → node_codes (restated state 2 (revalued v old)) ≡ true
+codes_again v state old e c l = rw (le-leb state 1 l, and_left (leb old.status.direction 1) (value_codes old.value) (and_right (leb old.status.state 1) _ e)) c
+
 -- update_node
 
 module _ (s : BucketSettings) (fails : Bool) (now k : ℕ) (v : Value) (u : Option Bool) (b : Bucket) where
@@ -47,9 +67,6 @@ module _ (s : BucketSettings) (fails : Bool) (now k : ℕ) (v : Value) (u : Opti
     node_failed f = rw (e, f)
 
     module _ (f : is_failed of_value.0 ≡ false) where
-      pub node_valued : u ≡ none → update_node_in s fails now k v u b ≡ (Answer.Update of_value.0, of_value.1)
-      node_valued g = rw (e, f, g)
-
       pub node_both : (x : Bool) → u ≡ some x
           → update_node_in s fails now k v u b
           ≡ (Answer.Update (both_updates of_value.0 (update_status s k x none of_value.1).0), (update_status s k x none of_value.1).1)
@@ -60,10 +77,6 @@ module _ (s : BucketSettings) (fails : Bool) (now k : ℕ) (v : Value) (u : Opti
 module _ (s : BucketSettings) (fails : Bool) (now : ℕ) (n : Node) (b : Bucket) where
   abbrev of_status : UpdateResult × Bucket
   of_status = update_status s n.key n.connected (some n.incoming) b
-
-  pub insert_filtered : fails ≡ true
-      → insert_or_update_in s fails now n b ≡ (Answer.InsertOrUpdate (InsertResult.Failed FailureReason.TableFilter), (remove s now n.key b).1)
-  insert_filtered e = rw e
 
   module _ (e : fails ≡ false) where
     pub insert_absent : holds n.key b ≡ false

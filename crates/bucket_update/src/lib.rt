@@ -2,7 +2,6 @@
 #![tactic(auto)]
 
 ghost use Rattle.std.specs.Prelude.{◌≡◌, true, false, ◌+◌, ◌≤◌, ◌<◌, ◌^◌};
-ghost use Rattle.model.specs.Result.{is_failed};
 ghost use Rattle.model.specs.Bucket.{status_result};
 ghost use Rattle.model.specs.Table.{Answer, both_updates, update_node_in, insert_updates, inserts, insert_or_update_in};
 ghost use Rattle.model.specs.Call.{optional};
@@ -13,9 +12,9 @@ ghost use Rattle.bucket.specs.Calls.{update_result_of, insert_result_of};
 ghost use Rattle.bucket_update.specs.Results.{table_insert_result_of};
 ghost use Rattle.bucket_update.specs.Again.{put_again, value_result};
 
-use bucket::{FailureReason, InsertResult as BucketInsertResult, KBucket, UpdateResult, Updated};
+use bucket::{FailureReason, InsertResult as BucketInsertResult, KBucket, Step, UpdateResult};
 use key::Key;
-use node::{Node, Value};
+use node::{Code, Node, Value};
 
 // What insert_or_update answers.
 #[derive(Clone, Copy)]
@@ -31,19 +30,6 @@ pub enum InsertResult {
     Updated(bool),
     UpdatedPending,
     Failed(FailureReason),
-}
-
-#[derive(Clone, Copy)]
-pub struct InsertedOrUpdated {
-    pub bucket: KBucket,
-    pub result: InsertResult,
-}
-
-// Internal: did the step fail?
-pub fn is_failed(r: UpdateResult) -> bool
-    ensures { result ≡ is_failed (update_result_of r) }
-{
-    matches!(r, UpdateResult::Failed(_))
 }
 
 // Internal: what the value's step and the status's step of update_node answer together.
@@ -73,7 +59,7 @@ pub fn value_result(old: Value, value: Value) -> UpdateResult
 
 // Takes out the node at place pos and inserts one of its key, where the bucket filter is off. Answers as the status's step of a node that
 // was `old`.
-fn put_again(b: KBucket, pos: usize, old: Node, node: Node) -> Updated
+fn put_again(b: KBucket, pos: usize, old: Node, node: Node) -> Step<UpdateResult>
     requires sound { Sound b }
     requires pos_lt_count { pos < b.count }
     requires b_value { (settings_of b).filter ≡ false }
@@ -82,30 +68,31 @@ fn put_again(b: KBucket, pos: usize, old: Node, node: Node) -> Updated
     ensures result_value { update_result_of result.result ≡ status_result (node_of old) (node_of node) (put_again (settings_of b) (node_of node) (bucket_of b)).0 }
     ensures becomes { Becomes (settings_of b) (put_again (settings_of b) (node_of node) (bucket_of b)).1 result.bucket }
 {
-    let held = b.without_pending((node.status.state == 1) & (pos == 0));
-    let left = held.taken_out(pos);
+    let left = b
+        .taken_out(pos)
+        .without_pending((node.status.state == 1) & (pos == 0));
     if left.is_max_incoming(node) {
-        return Updated {
+        return Step {
             bucket: left,
             result: UpdateResult::Failed(FailureReason::TooManyIncoming),
         };
     }
-    let put = left.placed(node);
-    Updated {
-        bucket: put,
+    Step {
+        bucket: left.placed(node),
         result: bucket::status_result(old, node),
     }
 }
 
-// Internal: update_node on the bucket of its key; `fails` is the table filter's answer, state 2 is none given.
+// Internal: update_node on the bucket of its key; state 2 is none given. `fails` is the answer of the table filter, a test that the bucket alone
+// cannot make. It stays a bool, as in the model's rule: two functions would leave each of their callers the same branch.
 pub fn update_node_in(
     b: KBucket,
     fails: bool,
     key: Key,
     value: Value,
-    state: u8,
+    state: Code,
     time: u64,
-) -> Updated
+) -> Step<UpdateResult>
     requires sound { Sound b }
     requires value_value { value_codes value ≡ true }
     requires state_bound { state ≤ 2 }
@@ -114,46 +101,28 @@ pub fn update_node_in(
     ensures becomes { Becomes (settings_of b) (update_node_in (settings_of b) fails time (num key) (value_of value) (optional state) (bucket_of b)).1 result.bucket }
 {
     if fails {
-        let out = b.remove_sound(key, time);
-        let left = out.bucket;
-        return Updated {
-            bucket: left,
+        return Step {
+            bucket: b.remove_sound(key, time).bucket,
             result: UpdateResult::Failed(FailureReason::TableFilter),
         };
     }
-    let nodes = b.nodes;
-    let count = b.count;
-    let pos = places::position(nodes, 0, count, key);
-    if (pos < count) & ((b.filter != 1) & (state != 2)) {
-        let old = nodes[pos];
-        let valued = old.with_value(value);
-        let node = valued.with_status(state, 2);
-        let again = put_again(b, pos, old, node);
-        let left = again.bucket;
-        let of_status = again.result;
-        let of_value = value_result(old.value, value);
-        let both = both_updates(of_value, of_status);
-        return Updated {
-            bucket: left,
-            result: both,
+    let pos = places::position(b.nodes, 0, b.count, key);
+    if pos < b.count && b.filter != 1 && state != 2 {
+        let old = b.nodes[pos];
+        let again = put_again(b, pos, old, old.with_value(value).with_status(state, 2));
+        return Step {
+            result: both_updates(value_result(old.value, value), again.result),
+            ..again
         };
     }
-    let v = b.update_value_sound(key, value);
-    let changed = v.bucket;
-    let of_value = v.result;
-    if is_failed(of_value) {
-        return v;
+    let valued = b.update_value_sound(key, value);
+    if state == 2 || matches!(valued.result, UpdateResult::Failed(_)) {
+        return valued;
     }
-    if state == 2 {
-        return v;
-    }
-    let u = changed.update_status_sound(key, state, 2);
-    let left = u.bucket;
-    let of_status = u.result;
-    let both = both_updates(of_value, of_status);
-    Updated {
-        bucket: left,
-        result: both,
+    let stated = valued.bucket.update_status_sound(key, state, 2);
+    Step {
+        result: both_updates(valued.result, stated.result),
+        ..stated
     }
 }
 
@@ -197,8 +166,8 @@ pub fn inserts(r: BucketInsertResult) -> InsertResult
     }
 }
 
-// Internal: insert_or_update on the bucket of its key; `fails` is the table filter's answer.
-pub fn insert_or_update_in(b: KBucket, fails: bool, node: Node, time: u64) -> InsertedOrUpdated
+// Internal: insert_or_update on the bucket of its key; `fails` as in update_node_in.
+pub fn insert_or_update_in(b: KBucket, fails: bool, node: Node, time: u64) -> Step<InsertResult>
     requires sound { Sound b }
     requires node_value { node_codes node ≡ true }
     requires pending_timeout_bound { time + b.pending_timeout < 2 ^ 64 }
@@ -206,53 +175,37 @@ pub fn insert_or_update_in(b: KBucket, fails: bool, node: Node, time: u64) -> In
     ensures becomes { Becomes (settings_of b) (insert_or_update_in (settings_of b) fails time (node_of node) (bucket_of b)).1 result.bucket }
 {
     if fails {
-        let out = b.remove_sound(node.key, time);
-        let left = out.bucket;
-        return InsertedOrUpdated {
-            bucket: left,
+        return Step {
+            bucket: b.remove_sound(node.key, time).bucket,
             result: InsertResult::Failed(FailureReason::TableFilter),
         };
     }
-    let nodes = b.nodes;
-    let count = b.count;
-    let pos = places::position(nodes, 0, count, node.key);
-    if pos < count {
-        if b.filter != 1 {
-            let old = nodes[pos];
-            let again = put_again(b, pos, old, node);
-            let left = again.bucket;
-            let of_status = again.result;
-            let of_value = value_result(old.value, node.value);
-            let both = insert_updates(of_value, of_status);
-            return InsertedOrUpdated {
-                bucket: left,
-                result: both,
-            };
-        }
-        let u = b.update_status_sound(node.key, node.status.state, node.status.direction);
-        let changed = u.bucket;
-        let of_status = u.result;
-        if is_failed(of_status) {
-            return InsertedOrUpdated {
-                bucket: changed,
-                result: InsertResult::Failed(FailureReason::TooManyIncoming),
-            };
-        }
-        let v = changed.update_value_sound(node.key, node.value);
-        let left = v.bucket;
-        let of_value = v.result;
-        let both = insert_updates(of_value, of_status);
-        return InsertedOrUpdated {
-            bucket: left,
-            result: both,
+    let pos = places::position(b.nodes, 0, b.count, node.key);
+    if b.count <= pos {
+        let put = b.insert_sound(node, time);
+        return Step {
+            bucket: put.bucket,
+            result: inserts(put.result),
         };
     }
-    let put = b.insert_sound(node, time);
-    let left = put.bucket;
-    let of_insert = put.result;
-    let told = inserts(of_insert);
-    InsertedOrUpdated {
-        bucket: left,
-        result: told,
+    if b.filter != 1 {
+        let old = b.nodes[pos];
+        let again = put_again(b, pos, old, node);
+        return Step {
+            bucket: again.bucket,
+            result: insert_updates(value_result(old.value, node.value), again.result),
+        };
+    }
+    let stated = b.update_status_sound(node.key, node.status.state, node.status.direction);
+    if let UpdateResult::Failed(_) = stated.result {
+        return Step {
+            bucket: stated.bucket,
+            result: InsertResult::Failed(FailureReason::TooManyIncoming),
+        };
+    }
+    let valued = stated.bucket.update_value_sound(node.key, node.value);
+    Step {
+        bucket: valued.bucket,
+        result: insert_updates(valued.result, stated.result),
     }
 }

@@ -5,6 +5,7 @@ use mathlib.Core.List.{List, [], ◌∷◌, ◌++◌, map, append_assoc}
 use Prim.Native.Nat.{ℕ, suc, ◌+◌, ◌-◌, ◌≤◌, ◌<◌}
 use native.Mathlib.Nat.{add-zero}
 use native.Mathlib.Omega.{arith}
+use Rattle.std.specs.Prelude.{Option, Some, None}
 use lib.ListN.{length, get_or, set, replicate, length-append}
 use lib.Seq.{set-append_seam}
 use lib.Dec.{eqb, leb}
@@ -30,8 +31,7 @@ use Rattle.node.proofs.Stored.{stored_value_of}
 use Rattle.places.specs.Places.{padded}
 use Rattle.storage.specs.Read.{read_value, read_node}
 use Rattle.storage.proofs.Nodes.{value_of_read, codes_read, codes_value}
-use Rattle.bucket.specs.declared.Pending.{Pending}
-use Rattle.bucket.specs.declared.Pending.TheVariants.{Nothing, Waiting}
+use Rattle.bucket.specs.declared.PendingNode.{PendingNode}
 use Rattle.bucket.specs.declared.KBucket.{KBucket}
 use Rattle.bucket.specs.Bucket.{stored_pending, Becomes}
 use Rattle.bucket.proofs.Stored.{same_parts}
@@ -70,7 +70,7 @@ places_next s at i ns l e =
 
 module _ (s : List ℕ) (at : ℕ) where
   pending_at_lem : read_pending (part s at pending_size)
-      ≡ cond (eqb (get_or s at 0) 1) (Waiting (read_node (part s (at + 1) node_size)) (number (part s (at + (1 + node_size)) time_size))) Nothing
+      ≡ cond (eqb (get_or s at 0) 1) (Some (record { node = read_node (part s (at + 1) node_size); deadline = number (part s (at + (1 + node_size)) time_size) })) None
   unfolding read_pending
   pending_at_lem =
       rw (
@@ -81,10 +81,10 @@ module _ (s : List ℕ) (at : ℕ) where
       )
 
   pub pending_waiting : (n : Node) (d : ℕ) → get_or s at 0 ≡ 1 → n ≡ read_node (part s (at + 1) node_size) → d ≡ number (part s (at + (1 + node_size)) time_size)
-      → Waiting n d ≡ read_pending (part s at pending_size)
+      → Some (record { node = n; deadline = d }) ≡ read_pending (part s at pending_size)
   pending_waiting n d e f g = rw (pending_at_lem, e, f, g)
 
-  pub pending_nothing : (get_or s at 0 ≡ 1 → ⊥) → Nothing ≡ read_pending (part s at pending_size)
+  pub pending_nothing : (get_or s at 0 ≡ 1 → ⊥) → None ≡ read_pending (part s at pending_size)
   pending_nothing e = rw (pending_at_lem, ne_eqb (get_or s at 0) 1 e)
 
 -- a node that is read is what is stored of the node that its bytes are
@@ -189,7 +189,7 @@ module _ (s : List ℕ) (at m : ℕ) (c : sound_bytes m (part s at bucket_size) 
   pub count_few : get_or s at 0 ≤ max_nodes_per_bucket
   count_few = rw count_at at (checked (λ k. true) m bucket_bytes_at c).at_most
 
-  pub loaded_at : at + bucket_size ≤ length s → Bytes s → (t f : ℕ) → m ≤ max_nodes_per_bucket → f ≤ 1 → (ns : List Node) (k j : ℕ) (q : Pending)
+  pub loaded_at : at + bucket_size ≤ length s → Bytes s → (t f : ℕ) → m ≤ max_nodes_per_bucket → f ≤ 1 → (ns : List Node) (k j : ℕ) (q : Option PendingNode)
       → ns ≡ padded (read_places bucket_bytes_at k) → k ≡ get_or s at 0 → j ≡ get_or s (at + 1) 0 → q ≡ read_pending (part s (at + pending_at) pending_size)
       → Becomes (settings t m f) (bucket_in bucket_bytes_at)
       (record { nodes = ns; count = k; first_connected_pos = j; pending = q; pending_timeout = t; max_incoming = m; filter = f })

@@ -1,16 +1,17 @@
 -- What is written of a bucket, part by part, is its bytes.
 use mathlib.Core.Path.{◌≡◌, refl, sym, ap, ◌∙◌}
-use mathlib.Core.Bool.{true, not}
+use mathlib.Core.Bool.{true}
 use mathlib.Core.List.{List, [], ◌∷◌, ◌++◌, map, append_assoc, map-append}
 use Prim.Native.Nat.{ℕ, ◌+◌, ◌*◌, ◌-◌, ◌≤◌, ◌<◌}
 use native.Mathlib.Numerals.{add-one}
 use native.Mathlib.Omega.{arith}
+use Rattle.std.specs.Prelude.{Some}
 use lib.ListN.{length, get_or, take, length-append, length-replicate, length-map}
 use lib.Seq.{length-take-le, take-suc}
 use Rattle.model.specs.Base.{joined}
 use Rattle.model.specs.Bytes.{bytes, splice, zeros}
 use Rattle.model.specs.Node as model
-use Rattle.model.specs.Bucket.{Bucket, max_nodes_per_bucket, nodes, num_entries, holds}
+use Rattle.model.specs.Bucket.{Bucket, max_nodes_per_bucket, nodes, num_entries}
 use Rattle.model.specs.Sizes.{time_size, node_size, place_at, pending_at, pending_size, bucket_size}
 use Rattle.model.specs.Layout.{node_bytes, pending_bytes, bucket_bytes}
 use Rattle.laws.proofs.Lists.{joined_snoc, length_joined}
@@ -19,30 +20,19 @@ use Rattle.laws.proofs.Bytes.{length_bytes}
 use Rattle.laws.proofs.NodeBytes.{length_node}
 use Rattle.laws.proofs.BucketBytes.{length_held, length_pending}
 use Rattle.laws.proofs.All.{all_any}
-use Rattle.key.specs.Key.{num}
 use Rattle.node.specs.declared.Node.{Node}
 use Rattle.node.specs.Node.{node_of, node_codes, stored_node, zero_node}
-use Rattle.node.proofs.Tests.{and_both}
 use Rattle.node.proofs.Stored.{stored_codes}
 use Rattle.places.proofs.Padded.{padded_length}
-use Rattle.bucket.specs.declared.Pending.{Pending}
-use Rattle.bucket.specs.declared.Pending.TheVariants.{Nothing, Waiting}
+use Rattle.bucket.specs.declared.PendingNode.{PendingNode}
 use Rattle.bucket.specs.declared.KBucket.{KBucket}
-use Rattle.bucket.specs.Bucket.{pending_of, bucket_of, pending_sound, Sound}
-use Rattle.bucket.proofs.Sound.{passed, nodes_of, count_of, first_of, places_of}
+use Rattle.bucket.specs.Bucket.{pending_of, bucket_of, Sound}
+use Rattle.bucket.proofs.Sound.{nodes_of, count_of, first_of, places_of}
 use Rattle.bucket.proofs.Steps.{nodes_count, stored_at}
-use Rattle.buckets.specs.Read.{pending_codes}
 
--- the codes of a sound bucket
-
-pending_codes_lem : (b : Bucket) (p : Pending) → pending_sound b p ≡ true → pending_codes p ≡ true
-pending_codes_lem b Nothing h = refl
-pending_codes_lem b (Waiting n d) h = (and_both (not (holds (num n.key) b)) (node_codes n) h).1
+-- the places of a sound bucket, and the codes of the nodes in them
 
 module _ (b : KBucket) (s : Sound b) where
-  pub codes_pending : pending_codes b.pending ≡ true
-  codes_pending = pending_codes_lem (bucket_of b) b.pending (passed b s.test).pending_fits
-
   pub places_long : length b.nodes ≡ max_nodes_per_bucket
   places_long =
       let xs : List Node = map stored_node (nodes (bucket_of b)) in
@@ -57,13 +47,13 @@ unfoldable pub held_bytes : List Node → ℕ → List ℕ
 held_bytes ns i = joined node_bytes (map node_of (take i ns))
 
 module _ (s : List ℕ) (at : ℕ) where
-  pub pending_put : (n : Node) (d : ℕ) → at + pending_size ≤ length s
-      → splice (splice (splice s at (1 ∷ [])) (at + 1) (node_bytes (node_of n))) (at + (1 + node_size)) (bytes time_size d) ≡ splice s at (pending_bytes (pending_of (Waiting n d)))
-  pending_put n d l =
-      let ns : List ℕ = node_bytes (node_of n) in
+  pub pending_put : (p : PendingNode) → at + pending_size ≤ length s
+      → splice (splice (splice s at (1 ∷ [])) (at + 1) (node_bytes (node_of p.node))) (at + (1 + node_size)) (bytes time_size p.deadline) ≡ splice s at (pending_bytes (pending_of (Some p)))
+  pending_put p l =
+      let ns : List ℕ = node_bytes (node_of p.node) in
       rw (
         splice_next s at 1 (1 ∷ []) ns refl (simp length_node (omega arith)),
-        splice_next s at (1 + node_size) ((1 ∷ []) ++ ns) (bytes time_size d) (simp length_node) (simp length_bytes (omega arith)),
+        splice_next s at (1 + node_size) ((1 ∷ []) ++ ns) (bytes time_size p.deadline) (simp length_node) (simp length_bytes (omega arith)),
       )
 
   pub held_none : (ns : List Node) → s ≡ splice s at (held_bytes ns 0)

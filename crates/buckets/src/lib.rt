@@ -11,21 +11,22 @@ ghost use Rattle.model.specs.Formed.{header_formed, bucket_formed_at};
 ghost use Rattle.bucket.specs.Bucket.{pending_of, bucket_of, Sound, Becomes};
 ghost use Rattle.buckets.specs.Read.{read_pending, pending_codes, sound_bytes, settings};
 
-use bucket::{KBucket, Pending};
-use node::Node;
+use bucket::{KBucket, PendingNode};
+use node::{Code, Node};
 use storage::Layout;
 
 // The pending whose bytes stand at `at`.
-fn load_pending(s: &[u8], at: usize) -> Pending
+fn load_pending(s: &[u8], at: usize) -> Option<PendingNode>
     requires { at + pending_size ≤ length s.now }
     ensures { result ≡ read_pending (part s.now at pending_size) }
 {
     if s[at] == 1 {
-        let node = storage::load_node(s, at + 1);
-        let deadline = words::get_u64(s, at + (1 + Layout::NODE));
-        Pending::Waiting(node, deadline)
+        Some(PendingNode {
+            node: storage::load_node(s, at + 1),
+            deadline: words::get_u64(s, at + (1 + Layout::NODE)),
+        })
     } else {
-        Pending::Nothing
+        None
     }
 }
 
@@ -35,7 +36,7 @@ pub fn load_at(
     at: usize,
     pending_timeout: u64,
     max_incoming: usize,
-    filter: u8,
+    filter: Code,
 ) -> KBucket
     requires bucket_size_in_bounds { at + bucket_size ≤ length s.now }
     requires bucket_size_value { sound_bytes max_incoming (part s.now at bucket_size) ≡ true }
@@ -43,17 +44,15 @@ pub fn load_at(
     ensures { Becomes (settings pending_timeout max_incoming filter) (bucket_in (part s.now at bucket_size)) result }
 {
     let count = usize::from(s[at]);
-    let first = usize::from(s[at + 1]);
-    let pending = load_pending(s, at + Layout::PENDING_AT);
-    let mut nodes = [Node::zero(); 16];
+    let mut nodes = [Node::zero(); KBucket::MAX_NODES_PER_BUCKET];
     for i in 0..count {
         nodes[i] = storage::load_node(s, at + (Layout::PLACES_AT + i * Layout::NODE));
     }
     KBucket {
         nodes,
         count,
-        first_connected_pos: first,
-        pending,
+        first_connected_pos: usize::from(s[at + 1]),
+        pending: load_pending(s, at + Layout::PENDING_AT),
         pending_timeout,
         max_incoming,
         filter,
@@ -68,31 +67,26 @@ pub fn load_bucket(s: &[u8], i: usize) -> KBucket
     requires i_value { bucket_formed_at s.now i ≡ true }
     ensures { Becomes (table_of s.now).settings.bucket ((table_of s.now).buckets i) result }
 {
-    let pending_timeout = words::get_u64(s, Layout::TIMEOUT_AT);
-    let max_incoming = usize::from(s[Layout::MAX_INCOMING_AT]);
-    let filter = s[Layout::BUCKET_FILTER_AT];
     load_at(
         s,
         Layout::HEADER + i * Layout::BUCKET,
-        pending_timeout,
-        max_incoming,
-        filter,
+        words::get_u64(s, Layout::TIMEOUT_AT),
+        usize::from(s[Layout::MAX_INCOMING_AT]),
+        s[Layout::BUCKET_FILTER_AT],
     )
 }
 
-// Internal: the bytes of a pending, put at `at`.
-pub fn store_pending(s: &mut [u8], at: usize, p: Pending)
-    requires { (at + pending_size ≤ length s.old) × (pending_codes p ≡ true) }
-    ensures { s.new ≡ splice s.old at (pending_bytes (pending_of p)) }
+// Internal: the bytes of a pending, put at `at`; zero bytes where there is none.
+pub fn store_pending(s: &mut [u8], at: usize, pending: Option<PendingNode>)
+    requires { (at + pending_size ≤ length s.old) × (pending_codes pending ≡ true) }
+    ensures { s.new ≡ splice s.old at (pending_bytes (pending_of pending)) }
 {
-    match p {
-        Pending::Nothing => {
-            words::put_zeros(s, at, Layout::PENDING);
-        }
-        Pending::Waiting(node, deadline) => {
+    match pending {
+        None => words::put_zeros(s, at, Layout::PENDING),
+        Some(p) => {
             words::put_byte(s, at, 1);
-            storage::store_node(s, at + 1, node);
-            words::put_u64(s, at + (1 + Layout::NODE), deadline);
+            storage::store_node(s, at + 1, p.node);
+            words::put_u64(s, at + (1 + Layout::NODE), p.deadline);
         }
     }
 }

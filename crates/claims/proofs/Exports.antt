@@ -7,7 +7,7 @@ use mathlib.Core.List.{List, []}
 use mathlib.Core.Option.{Option, none, some}
 use lib.ListN.{length}
 use lib.Dec.{leb}
-use borrow.Author.Tests.{le-leb, lt-leb, leb-true}
+use borrow.Author.Tests.{le-leb, lt-leb}
 use Rattle.model.specs.Bytes.{Bytes}
 use Rattle.model.specs.Table.{Answer}
 use Rattle.model.specs.Call.{Listing, Call}
@@ -25,11 +25,10 @@ use Rattle.laws.proofs.Tests.{clash}
 use Rattle.laws.proofs.Questions.{without_room}
 use Rattle.laws.proofs.SavedSteps.{read_few}
 use Rattle.theorem.proofs.Theorem.{theorem_closest}
-use Rattle.items.specs.declared.ListAnswer.TheVariants as list-answer
 use Rattle.codes.specs.Codes.{refused_code, answer_code, answer_size}
 use Rattle.codes.specs.Exported
 use Rattle.codes.specs.Exported.{Leaves, Writes, exported, exported_with}
-use Rattle.codes.proofs.Thin.{few}
+use Rattle.codes.proofs.Few.{few}
 use Rattle.claims.specs.Listed.{can_answer}
 use Rattle.claims.specs.Runs.{ClosestList}
 use Rattle.claims.specs.Exports.{Called, carries, seen, host_questions, HostRefusal, accepted_answer_of, answer_of}
@@ -101,7 +100,7 @@ list_read l n time out s bs = go (first_failed (all_questions c s)) refl
     go (some q) e = refusal_read c q bs
     go none e =
         let k = length (found l n time (table_of s)) in
-        let m : k ≤ max_count = leb-true k max_count (few l n time out s (list-answer.Found k) (ap (λ (o : Option ℕ). (StepBytes.unless_refused_bytes o c s).answer) (sym e))) in
+        let m : k ≤ max_count = few l n time out s k (ap (λ (o : Option ℕ). (StepBytes.unless_refused_bytes o c s).answer) (sym e)) in
         ap (λ (b : Bool). cond b (Answer.Refused (k - refused_code 0)) (Answer.Found k)) (lt-leb (refused_code 0) k (omega arith))
 
 -- the reader's code is read as its answer, on any storage
@@ -133,7 +132,7 @@ export_closest_list {l} {n} {time} {out} {s = s} {code} {out' = out'} run x e b 
 few_found : (c : Call) (s : List ℕ) (n : ℕ) → can_answer c (Answer.Found n) ≡ true → Answer.Found n ≡ (step_bytes c s).answer → n ≤ max_count
 few_found (Call.new k timeout m tf bf) s n h e = clash h refl
 few_found (Call.on_key k c) s n h e = clash h refl
-few_found (Call.list l m time out) s n h e = leb-true n max_count (few l m time out s (list-answer.Found n) e)
+few_found (Call.list l m time out) s n h e = few l m time out s n e
 few_found Call.take_applied_pending s n h e = clash h refl
 few_found (Call.read r) s n h e = clash h refl
 

@@ -2,6 +2,4 @@
 pub mod Thin
 pub mod Put
 pub mod Apart
-pub mod Told
-pub mod Explained
-pub mod Saved
+pub mod Few

@@ -4,7 +4,7 @@
 ghost use Rattle.std.specs.Prelude.{◌≡◌, true, ◌≤◌, length};
 ghost use Rattle.model.specs.Base.{first};
 ghost use Rattle.model.specs.Bytes.{splice};
-ghost use Rattle.model.specs.Layout.{flag_byte};
+ghost use Rattle.node.specs.Refusal.{number_of};
 ghost use Rattle.bucket.specs.Calls.{insert_result_of, failure_reason_of, update_result_of, records_of, applied_codes};
 ghost use Rattle.codes.specs.Codes.{refused_code, failed_code, update_code, bucket_insert_code, bucket_insert_bytes, applied_code, applied_bytes, answer_size};
 
@@ -12,6 +12,7 @@ pub mod answers;
 
 use bucket::{EndedPending, FailureReason, InsertResult, UpdateResult};
 use key::Key;
+use node::Refusal;
 use storage::Layout;
 
 // What an answer's bytes have room for at the least: a record.
@@ -22,21 +23,14 @@ impl Answer {
     pub const BYTES: usize = Layout::RECORD;
 }
 
-// Internal: refused by question q.
-pub fn refused(q: u8) -> u32
-    ensures { result ≡ refused_code q }
+// Internal: the number of a refusal.
+pub fn refused(refusal: Refusal) -> u32
+    ensures { result ≡ refused_code (number_of refusal) }
 {
-    0x1_0000 + u32::from(q)
+    0x1_0000 + u32::from(refusal.number())
 }
 
-// Internal: 1 for true.
-pub fn flag_code(b: bool) -> u32
-    ensures { (result ≡ flag_byte b) × (result ≤ 1) }
-{
-    u32::from(b)
-}
-
-// Internal: the number of a reason.
+// Internal: the number of a reason. It is no `From`, which can only stand in the crate of the type: the numbers are the exports' alone.
 pub fn reason_code(reason: FailureReason) -> u32
     ensures { result ≡ failed_code (failure_reason_of reason) }
 {
@@ -50,7 +44,7 @@ pub fn reason_code(reason: FailureReason) -> u32
     }
 }
 
-// Internal: the number of an update's result.
+// Internal: the number of an update's result, no `From` either.
 pub fn update_code(res: UpdateResult) -> u32
     ensures { result ≡ update_code (update_result_of res) }
 {
@@ -64,6 +58,7 @@ pub fn update_code(res: UpdateResult) -> u32
 }
 
 // Internal: the number of a bucket insert's result; the key that it names, put in the answer.
+#[tactic(auto, using(laws::proofs::Parts::splice_nil))]
 pub fn put_bucket_insert(answer: &mut [u8], res: InsertResult) -> u32
     requires { answer_size ≤ length answer.old }
     ensures value { result ≡ bucket_insert_code (insert_result_of res) }
@@ -83,12 +78,13 @@ pub fn put_bucket_insert(answer: &mut [u8], res: InsertResult) -> u32
 }
 
 // Internal: 1 for a record, which is put in the answer, 0 for none.
-pub fn put_applied(answer: &mut [u8], applied: EndedPending) -> u32
+#[tactic(auto, using(crate::proofs::Put::applied_bytes_lem))]
+pub fn put_applied(answer: &mut [u8], applied: Option<EndedPending>) -> u32
     requires answer_size_in_bounds { answer_size ≤ length answer.old }
     requires applied_value { applied_codes applied ≡ true }
     ensures value { result ≡ applied_code (first (records_of applied)) }
     ensures answer_after { answer.new ≡ splice answer.old 0 (applied_bytes (first (records_of applied))) }
 {
     header::store_record(answer, 0, applied);
-    bucket::count_of(applied) as u32
+    u32::from(applied.is_some())
 }

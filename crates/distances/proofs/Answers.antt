@@ -3,11 +3,11 @@ use mathlib.Core.Path.{◌≡◌, refl, sym, ap, ap₂, ◌∙◌}
 use mathlib.Core.Bool.{Bool, true, false, cond, ◌&&◌}
 use mathlib.Core.List.{List, [], ◌∷◌, ◌++◌, map, append-nil}
 use mathlib.Core.Option.{Option, none, some}
-use Prim.Native.Nat.{ℕ, zero, suc, ◌+◌, ◌-◌, ◌*◌, ◌≤◌, ◌<◌}
+use Prim.Native.Nat.{ℕ, zero, suc, ◌+◌, ◌*◌, ◌≤◌}
 use native.Mathlib.Omega.{arith}
 use lib.ListN.{length, take, length-append}
 use lib.Dec.{eqb, leb}
-use borrow.Author.Tests.{leb-true, le-leb, lt-leb, eqb-true}
+use borrow.Author.Tests.{leb-true, le-leb, eqb-true}
 use Rattle.model.specs.Base.{joined}
 use Rattle.model.specs.Bytes.{Bytes, splice}
 use Rattle.model.specs.Node.{Node}
@@ -24,7 +24,6 @@ use Rattle.model.specs.StepBytes.{all_questions, restore, unless_refused_bytes, 
 use Rattle.laws.proofs.Tests.{and_left, and_right}
 use Rattle.laws.proofs.Applied.{apply_all_queue}
 use Rattle.laws.proofs.Lists.{joined_map}
-use Rattle.laws.proofs.ReadBack.{header_fits}
 use Rattle.laws.proofs.Listing.{most_few}
 use Rattle.laws.proofs.DistanceReads.{found_reads}
 use Rattle.laws.proofs.Questions as asked
@@ -33,17 +32,15 @@ use Rattle.on_key.specs.Answers.{first_three, failed_of_three, Timely}
 use Rattle.visit.specs.Passes.{applied_in}
 use Rattle.visit.proofs.Applying.{Appliable, Applying, applying_done, applying_size, applying_header, applying_table, applying_formed}
 use Rattle.items.specs.Lists.{Lists}
+use Rattle.items.proofs.Asked.{asked_passes}
 use Rattle.distances.specs.Passes.{table_at, distance_pass, passed, Taken, Holds, listed_nodes}
 use Rattle.distances.specs.Early.{early, failed_early}
 use Rattle.distances.proofs.Passes.{pass_appliable}
 
--- n, or 1 where it is 0
-pub one_of_none : (n : ℕ) → n ≡ 0 → 1 ≡ at_least_one n
-one_of_none n e = ap at_least_one (sym e)
-
-pub itself : (n : ℕ) → (n ≡ 0 → ⊥) → n ≡ at_least_one n
-itself zero h = absurd (h refl)
-itself (suc n) h = refl
+-- one item is as few as none
+most_few_is : (n : ℕ) → leb (at_least_one n) max_count ≡ leb n max_count
+most_few_is zero = refl
+most_few_is (suc n) = refl
 
 -- the early questions, in turn
 
@@ -63,15 +60,11 @@ module _ (now n room : ℕ) (s : List ℕ) where
     unfolding failed_of_three failed_early
     after_three = front_passes (first_three now s) ((6, fits) ∷ []) e
 
-    pub early_count : max_count < n → failed_early now n room s ≡ some 6
-    early_count h = after_three ∙ rw (lt-leb n max_count h)
-
-    module _ (h : n ≤ max_count) where
-      pub early_room : room < at_least_one n * node_size → failed_early now n room s ≡ some 6
-      early_room g = after_three ∙ rw (le-leb n max_count h, lt-leb (at_least_one n * node_size) room g)
-
-      pub early_none : at_least_one n * node_size ≤ room → failed_early now n room s ≡ none
-      early_none g = after_three ∙ rw (le-leb n max_count h, le-leb (at_least_one n * node_size) room g)
+    -- question 6, as it is asked of one item where n is 0
+    pub early_last : {m : ℕ} → m ≡ at_least_one n → cond (leb m max_count && leb (m * node_size) room) none (some 6) ≡ failed_early now n room s
+    early_last f =
+        ap (λ (k : ℕ). cond (leb k max_count && leb (k * node_size) room) none (some 6)) f
+        ∙ ap (λ (b : Bool). cond (b && leb (at_least_one n * node_size) room) none (some 6)) (most_few_is n) ∙ sym after_three
 
   pub record Passed : Type 0 where
     pub size : length s ≡ storage_size
@@ -145,18 +138,15 @@ module _ (s : List ℕ) (ds : List ℕ) (n now : ℕ) (out : List ℕ) where
   unfolding queue_fits act distance_pass
   fits_are = refl
 
+  -- question 8, as it is asked of what the survey counted
+  module _ {records : ℕ} (g : records ≡ length (distance_pass now n 0 ds t).1) where
+    queue_asked : length t.queue + records ≡ length left.queue
+    queue_asked = omega (arith, queue_is)
+
+    pub queue_room : ◌≡◌ {A = Option ℕ} none (cond (leb (length t.queue + records) max_records) none (some 8)) → length left.queue ≤ max_records
+    queue_room h = omega (arith, queue_asked, leb-true (length t.queue + records) max_records (asked_passes 8 _ h))
+
   module _ (e : failed_early now n (length out) s ≡ none) where
-    pub queue_few : Bytes s → length t.queue ≤ max_records
-    queue_few b = let p = passed_early now n (length out) s e in (header_fits s b p.size p.header).queue
-
-    -- question 8, by the records that the queue holds and those that the survey counts
-    module _ (b : Bytes s) {held more : ℕ} (f : held ≡ length t.queue) (g : more ≡ length (distance_pass now n 0 ds t).1) where
-      pub queue_full : max_records - held < more → max_records < length left.queue
-      queue_full h = omega (arith, queue_is)
-
-      pub queue_room : more ≤ max_records - held → length left.queue ≤ max_records
-      queue_room h = omega (arith, queue_is, queue_few b)
-
     asked_last : first_failed (all_questions c s) ≡ cond formed_buckets (cond (queue_fits c t) none (some 8)) (some 2)
     unfolding failed_early
     asked_last = asked_are ∙ front_passes (early now n (length out) s) ((2, formed_buckets) ∷ (8, queue_fits c t) ∷ []) e
@@ -165,8 +155,9 @@ module _ (s : List ℕ) (ds : List ℕ) (n now : ℕ) (out : List ℕ) where
     refused_malformed f = refused 2 (asked_last ∙ rw f)
 
     module _ (f : formed_buckets ≡ true) where
-      pub refused_full : max_records < length left.queue → Lists (Answer.Refused 8) s out (step_bytes c s)
-      refused_full h = refused 8 (asked_last ∙ rw (f, fits_are, lt-leb (length left.queue) max_records h))
+      pub refused_full : {records : ℕ} → records ≡ length (distance_pass now n 0 ds t).1 → (m : ℕ)
+          → some m ≡ cond (leb (length t.queue + records) max_records) none (some 8) → Lists (Answer.Refused m) s out (step_bytes c s)
+      refused_full g m h = refused m (asked_last ∙ rw (f, fits_are) (ap (λ (k : ℕ). cond (leb k max_records) none (some 8)) (sym (queue_asked g)) ∙ sym h))
 
       module _ (h : length left.queue ≤ max_records) {taken records : ℕ} (k : Taken now n ds t taken records) where
         abbrev is : List ℕ

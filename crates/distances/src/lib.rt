@@ -5,13 +5,13 @@ ghost use Rattle.std.specs.Prelude.{◌≡◌};
 ghost use Rattle.model.specs.Call.{Call, Listing};
 ghost use Rattle.model.specs.Listing.{at_least_one};
 ghost use Rattle.model.specs.StepBytes.{step_bytes};
-ghost use Rattle.on_key.specs.Answers.{refusal};
+ghost use Rattle.node.specs.Refusal.{failed_of};
 ghost use Rattle.items.specs.Lists.{list_answer, Lists};
 ghost use Rattle.distances.specs.Early.{failed_early};
 
 pub mod pass;
 
-use items::ListAnswer;
+use node::Refusal;
 use storage::Layout;
 
 // n, or 1 where it is 0.
@@ -21,21 +21,12 @@ fn at_least_one(n: usize) -> usize
     n.max(1)
 }
 
-// The first failed question of 1, 2 (the settings and the queue), 5 and 6, or 0. room: the bytes of output.
-fn asked_early(s: &[u8], n: usize, time: u64, room: usize) -> u8
-    ensures { failed_early time n room s.now ≡ refusal result }
+// Questions 1, 2 (the settings and the queue), 5 and 6. room: the bytes of output.
+fn asked_early(s: &[u8], n: usize, time: u64, room: usize) -> Result<(), Refusal>
+    ensures { failed_of result ≡ failed_early time n room s.now }
 {
-    let q = on_key::asked_time(s, time);
-    if q != 0 {
-        return q;
-    }
-    if items::MAX_COUNT < n {
-        return 6;
-    }
-    if room < at_least_one(n) * Layout::NODE {
-        return 6;
-    }
-    0
+    on_key::asked_time(s, time)?;
+    items::asked_output(at_least_one(n), Layout::NODE, room)
 }
 
 // The nodes of the buckets at the distances, in the order given, up to n, or one where n is 0: each bucket in stored order, written to
@@ -47,22 +38,13 @@ pub fn nodes_by_distances(
     n: usize,
     time: u64,
     out: &mut [u8],
-) -> ListAnswer
+) -> Result<usize, Refusal>
     ensures { Lists (list_answer result) s.new out.new (step_bytes (Call.list (Listing.nodes_by_distances distances.now) n time out.old) s.old) }
 {
-    let room = out.len();
-    let q = asked_early(s, n, time, room);
-    if q != 0 {
-        return ListAnswer::Refused(q);
-    }
-    let Some(tally) = pass::survey(s, distances, n, time) else {
-        return ListAnswer::Refused(2);
-    };
-    if Layout::MAX_RECORDS - header::record_count(s) < tally.records {
-        return ListAnswer::Refused(8);
-    }
+    asked_early(s, n, time, out.len())?;
+    let tally = pass::survey(s, distances, n, time).ok_or(Refusal::Form)?;
+    items::asked_queue(s, tally.records)?;
     pass::apply_pass(s, distances, tally.taken, time, tally.records);
     let most = at_least_one(n);
-    let count = pass::put_all(s, distances, tally.taken, out, most);
-    ListAnswer::Found(count)
+    Ok(pass::put_all(s, distances, tally.taken, out, most))
 }

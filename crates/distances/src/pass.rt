@@ -22,7 +22,7 @@ use visit::Given;
 const MAX_DISTANCE: u64 = 256;
 
 // What the survey tells where every bucket of the applying pass passes question 2: how many records they give and how many distances the
-// pass takes.
+// pass takes. It is no visit::Tally, whose count is of nodes.
 #[derive(Clone, Copy)]
 pub struct Tally {
     pub records: usize,

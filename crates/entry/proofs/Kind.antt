@@ -1,6 +1,6 @@
 -- The kind of a key in its bucket, the codes of its status, and the codes of an inserted node.
 use Prim.Native.Nat.{ℕ}
-use mathlib.Core.Path.{◌≡◌, sym, ap, ◌∙◌}
+use mathlib.Core.Path.{◌≡◌, refl, sym, ap, ◌∙◌}
 use mathlib.Core.Bool.{Bool, true, false, cond, ◌&&◌}
 use mathlib.Core.List.{List}
 use mathlib.Core.Option.{Option, none, some}
@@ -12,10 +12,11 @@ use Rattle.model.specs.Bucket.{Bucket, get}
 use Rattle.model.specs.Table.{EntryKind, kind_if_pending, kind_of_node, kind_of, kind_in, index_in}
 use Rattle.model.specs.Layout.{table_of}
 use Rattle.model.specs.Call.{ValueArgument}
-use Rattle.model.specs.Question.{value_in_range, kind_of_key}
+use Rattle.model.specs.Question.{value_in_range, is_present, is_pending, is_absent, kind_of_key}
 use Rattle.laws.proofs.Tests.{and_left, and_right, and_turned}
 use Rattle.key.specs.declared.Key.{Key}
 use Rattle.key.specs.Key.{num}
+use Rattle.node.specs.declared.NodeStatus.{NodeStatus}
 use Rattle.node.specs.declared.Node as declared
 use Rattle.node.specs.Node.{node_codes}
 use Rattle.bucket.specs.declared.KBucket.{KBucket}
@@ -23,6 +24,8 @@ use Rattle.bucket.specs.Bucket.{bucket_of, Becomes}
 use Rattle.on_key.specs.Answers.{failed_of_five}
 use Rattle.on_key.specs.Start.{AtBucket}
 use Rattle.on_key.proofs.Questions.{passed_five}
+use Rattle.entry.specs.declared.EntryKind as code
+use Rattle.entry.specs.Kind.{kind_of as told}
 
 module _ (k : ℕ) (m : Bucket) where
   pub kind_held : (n : Node) → get k m ≡ some n → EntryKind.Present n.connected n.incoming ≡ kind_of k m
@@ -68,3 +71,22 @@ pub node_codes_lem : (s key : List ℕ) (v : ValueArgument) (state direction tim
     → (leb state 1 && (leb direction 1 && value_in_range v)) ≡ true
 node_codes_lem s key v state direction time e =
     and_turned (value_in_range v) (leb state 1) (leb direction 1) (passed_five s key (insert_codes v state direction) (some time) e).in_range
+
+-- a kind that is none of the entry's action
+pub not_present : (x : code.EntryKind) → ((s : NodeStatus) → x ≡ code.EntryKind.Present s → ⊥) → is_present (told x) ≡ false
+not_present (code.EntryKind.Present s) h = absurd (h s refl)
+not_present (code.EntryKind.Pending s) h = refl
+not_present code.EntryKind.Absent h = refl
+not_present code.EntryKind.SelfEntry h = refl
+
+pub not_pending : (x : code.EntryKind) → ((s : NodeStatus) → x ≡ code.EntryKind.Pending s → ⊥) → is_pending (told x) ≡ false
+not_pending (code.EntryKind.Present s) h = refl
+not_pending (code.EntryKind.Pending s) h = absurd (h s refl)
+not_pending code.EntryKind.Absent h = refl
+not_pending code.EntryKind.SelfEntry h = refl
+
+pub not_absent : (x : code.EntryKind) → (x ≡ code.EntryKind.Absent → ⊥) → is_absent (told x) ≡ false
+not_absent (code.EntryKind.Present s) h = refl
+not_absent (code.EntryKind.Pending s) h = refl
+not_absent code.EntryKind.Absent h = absurd (h refl)
+not_absent code.EntryKind.SelfEntry h = refl

@@ -1,12 +1,12 @@
 -- What the answers of the entry calls mean.
-use Rattle.std.specs.Prelude.{Bool, true, ◌&&◌, eqb, leb}
+use Rattle.std.specs.Prelude.{Result, Ok, Err, Bool, true, ◌&&◌, eqb, leb}
 use Rattle.model.specs.Table as model
 use Rattle.node.specs.declared.NodeStatus.{NodeStatus}
-use Rattle.bucket.specs.declared.InsertAnswer.{InsertAnswer}
-use Rattle.bucket.specs.declared.InsertAnswer.TheVariants as insert-answer
+use Rattle.node.specs.declared.Refusal.{Refusal}
+use Rattle.node.specs.Refusal.{answer_of}
+use Rattle.bucket.specs.declared.InsertResult.{InsertResult}
 use Rattle.bucket.specs.Calls.{insert_result_of}
 use Rattle.entry.specs.declared.EntryKind.{EntryKind}
-use Rattle.entry.specs.declared.EntryAnswer.{EntryAnswer}
 
 abbrev pub kind_of : EntryKind → model.EntryKind
 kind_of (EntryKind.Present s) = model.EntryKind.Present (eqb s.state 1) (eqb s.direction 1)
@@ -14,9 +14,8 @@ kind_of (EntryKind.Pending s) = model.EntryKind.Pending (eqb s.state 1) (eqb s.d
 kind_of EntryKind.Absent = model.EntryKind.Absent
 kind_of EntryKind.SelfEntry = model.EntryKind.SelfEntry
 
-abbrev pub entry_answer : EntryAnswer → model.Answer
-entry_answer (EntryAnswer.Refused q) = model.Answer.Refused q
-entry_answer (EntryAnswer.Answered k) = model.Answer.Entry (kind_of k)
+abbrev pub entry_answer : Result EntryKind Refusal → model.Answer
+entry_answer = answer_of (λ k. model.Answer.Entry (kind_of k))
 
 -- 01, question 4: state and direction 0 or 1
 abbrev pub status_codes : NodeStatus → Bool
@@ -28,10 +27,9 @@ kind_codes (EntryKind.Pending s) = status_codes s
 kind_codes EntryKind.Absent = true
 kind_codes EntryKind.SelfEntry = true
 
-abbrev pub entry_codes : EntryAnswer → Bool
-entry_codes (EntryAnswer.Refused q) = true
-entry_codes (EntryAnswer.Answered k) = kind_codes k
+abbrev pub entry_codes : Result EntryKind Refusal → Bool
+entry_codes (Err r) = true
+entry_codes (Ok k) = kind_codes k
 
-abbrev pub insert_answer : InsertAnswer → model.Answer
-insert_answer (insert-answer.Refused q) = model.Answer.Refused q
-insert_answer (insert-answer.Answered r) = model.Answer.Insert (insert_result_of r)
+abbrev pub insert_answer : Result InsertResult Refusal → model.Answer
+insert_answer = answer_of (λ r. model.Answer.Insert (insert_result_of r))

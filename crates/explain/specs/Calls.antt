@@ -1,5 +1,6 @@
 -- The calls that are explained, what the query answers, and what it owes.
-use Rattle.std.specs.Prelude.{ℕ, ◌≡◌, Bool, true, cond, List, [], ◌∷◌, ◌++◌}
+use Rattle.std.specs.Prelude as code
+use Rattle.std.specs.Prelude.{Result, Ok, Err, ℕ, ◌≡◌, Bool, true, cond, List, [], ◌∷◌, ◌++◌}
 use Rattle.std.proofs.Math.Option.{Option, some}
 use Rattle.model.specs.Result.{Reply}
 use Rattle.model.specs.Session.{Session}
@@ -7,12 +8,13 @@ use Rattle.model.specs.Call.{KeyCall}
 use Rattle.model.specs.Question.{first_failed}
 use Rattle.model.specs.Explain.{line_unless_refused}
 use Rattle.model.specs.StepBytes.{Replied}
+use Rattle.key.specs.declared.Key.{Key}
+use Rattle.node.specs.declared.Refusal.{Refusal}
 use Rattle.node.specs.Node.{argument_of}
-use Rattle.on_key.specs.declared.Start.{Start}
+use Rattle.node.specs.Refusal.{number_of, reply_of}
 use Rattle.on_key.specs.Answers.{Replies, first_five}
 use Rattle.on_key.specs.Start.{key_formed, Begun}
 use Rattle.explain.specs.declared.PeerCall.{PeerCall}
-use Rattle.explain.specs.declared.ExplainAnswer.{ExplainAnswer}
 
 -- with the hours of a call that is given them
 abbrev pub call_of : PeerCall → Session → KeyCall
@@ -24,11 +26,11 @@ call_of (PeerCall.PresentUpdate state direction) x = KeyCall.present_update stat
 call_of (PeerCall.PendingUpdate state direction) x = KeyCall.pending_update state direction
 call_of (PeerCall.AbsentInsert v state direction now) x = KeyCall.absent_insert (argument_of v) state direction now x
 
-abbrev pub explain_answer_of : ExplainAnswer → Reply ℕ
-explain_answer_of (ExplainAnswer.Refused q) = Reply.Refused q
-explain_answer_of (ExplainAnswer.Answered n) = Reply.Answered n
+-- what the query answers: the length of the line
+abbrev pub explain_answer_of : Result ℕ Refusal → Reply ℕ
+explain_answer_of = reply_of (λ n. n)
 
-abbrev pub Explains : ExplainAnswer → List ℕ → Replied → Type 0
+abbrev pub Explains : Result ℕ Refusal → List ℕ → Replied → Type 0
 Explains r out x = Replies (explain_answer_of r) out x
 
 -- questions 1 to 5 of the call, 6 of the output, then 2 of the key's bucket
@@ -36,11 +38,10 @@ unfoldable pub failed_at_opening : List ℕ → Bool → Option ℕ → (room : 
 failed_at_opening key codes now room s = first_failed (first_five key codes now s ++ ((6, room) ∷ (2, key_formed s key) ∷ []))
 
 -- how an explanation starts: as its call, with 6 asked in its turn
-abbrev pub Opened : List ℕ → List ℕ → Bool → Option ℕ → (room : Bool) → Start → Type 0
-Opened s key codes now room (Start.Refused q) = failed_at_opening key codes now room s ≡ some q
-Opened s key codes now room Start.Local = (room ≡ true) × Begun s key codes now Start.Local
-Opened s key codes now room (Start.At k i) = (room ≡ true) × Begun s key codes now (Start.At k i)
+abbrev pub Opened : List ℕ → List ℕ → Bool → Option ℕ → (room : Bool) → Result (code.Option (Key × ℕ)) Refusal → Type 0
+Opened s key codes now room (Err r) = failed_at_opening key codes now room s ≡ some (number_of r)
+Opened s key codes now room (Ok x) = (room ≡ true) × Begun s key codes now (Ok x)
 
--- 01, questions 7 and 8, then 02's 10 and 11 by the first of them that fails, and the line where none does
-unfoldable pub last_asked : (kind room : Bool) (hours : Option ℕ) (line output : List ℕ) → Replied
-last_asked kind room hours l out = line_unless_refused (cond kind (cond room hours (some 8)) (some 7)) l out
+-- 01, question 8, then 02's 10 and 11 by the first of them that fails, and the line where none does
+unfoldable pub last_asked : (room : Bool) (hours : Option ℕ) (line output : List ℕ) → Replied
+last_asked room hours l out = line_unless_refused (cond room hours (some 8)) l out

@@ -5,6 +5,7 @@ use mathlib.Core.List.{List, [], ◌∷◌, ◌++◌, map, map-append, append-ni
 use Prim.Native.Nat.{ℕ, ◌+◌, ◌*◌, ◌-◌, ◌≤◌, ◌<◌}
 use native.Mathlib.Numerals.{add-one}
 use native.Mathlib.Omega.{arith}
+use Rattle.std.specs.Prelude.{Option, Some}
 use lib.ListN.{length, get_or, take, length-append, length-take, length-map, take-append-drop}
 use lib.Seq.{take-nil, take-suc, take_all}
 use Rattle.model.specs.Base.{select, joined, tabulate}
@@ -127,6 +128,6 @@ filter_text limit v ns p q h =
     rw (map_take (λ (n : model.Node). n.key) limit (counted v ns)) (put_then p q (omega (arith, length_keys_text (take limit ks), length-take limit ks)))
 
 -- the table filter as the reason
-pub table_filter_why : (bs : ℕ → Bucket) (w : Why) {k : Key} → w.reason ≡ reason.TableFilter k → of_table (why_of bs w) ≡ true
+pub table_filter_why : (bs : ℕ → Bucket) (w : Why) {k : Key} → w.reason ≡ Some (reason.TableFilter k) → of_table (why_of bs w) ≡ true
 unfolding why_of
-table_filter_why bs w e = ap (λ (r : Reason). of_table (reason_of bs (bucket_of w.bucket) (value_of w.value) r)) e
+table_filter_why bs w e = ap (λ (r : Option Reason). of_table (reason_of bs (bucket_of w.bucket) (value_of w.value) r)) e

@@ -1,6 +1,8 @@
 -- How long the words and the keys of a line are at the most, and the line, piece by piece.
-use mathlib.Core.Path.{◌≡◌, refl}
+use mathlib.Core.Path.{◌≡◌, refl, ap}
 use mathlib.Core.Bool.{Bool, true, false}
+use mathlib.Core.Logic.{◌⊎◌, inl, inr}
+use Rattle.std.specs.Prelude.{Option, Some, None}
 use mathlib.Core.List.{List, [], ◌∷◌, ◌++◌, append_assoc}
 use Prim.Native.Nat.{ℕ, ◌+◌, ◌*◌, ◌≤◌}
 use native.Mathlib.Omega.{arith}
@@ -14,15 +16,17 @@ use Rattle.model.specs.Filter.{counted, max_nodes_per_subnet_table, max_nodes_pe
 use Rattle.model.specs.Result.{FailureReason}
 use Rattle.model.specs.Bucket.{Bucket, nodes, incoming_nodes}
 use Rattle.model.specs.Table.{other_nodes}
-use Rattle.model.specs.Explain.{Told, Explanation, space, line_feed, told_text, failure_text, flag_text, reason_text, reason_keys, keys_of, keys_text, filter_keys, line}
+use Rattle.model.specs.Explain.{Told, Explanation, space, line_feed, told_text, failure_text, flag_text, reason_text, reason_keys, keys_of, keys_text, filter_keys, explanation_room, line}
 use Rattle.laws.proofs.Tests.{split}
 use Rattle.key.specs.Key.{num}
 use Rattle.node.specs.Node.{value_of}
 use Rattle.bucket.specs.Bucket.{bucket_of}
 use Rattle.explanation.specs.declared.Why.{Why}
-use Rattle.explanation.specs.declared.Reason as declared
+use Rattle.explanation.specs.declared.Reason.{Reason}
+use Rattle.explanation.specs.declared.Told as declared
+use Rattle.explanation.specs.declared.Told.TheVariants as told
 use Rattle.explanation.specs.declared.Reason.TheVariants as reason
-use Rattle.explanation.specs.Explanation.{reason_of, why_of, why_text}
+use Rattle.explanation.specs.Explanation.{told_of, told_detail, reason_of, why_of, why_text}
 use Rattle.explanation.specs.Put.{Put, spaced_key_size, longest_failure, longest_flag, longest_told}
 use Rattle.explanation.proofs.Text.{put_then, length_key_text}
 use Rattle.explanation.proofs.Keys.{length_keys_text, keys_text_none, held_few}
@@ -56,6 +60,23 @@ told_short Told.Full = omega arith
 told_short Told.NodeExists = omega arith
 told_short (Told.Removed r) = omega (arith, flag_short r)
 
+-- what stands behind the answer's name, by the variant that was matched
+pub detail : {x v : declared.Told} → x ≡ v → told_detail (told_of x) ≡ told_detail (told_of v)
+detail e = ap (λ (y : declared.Told). told_detail (told_of y)) e
+
+pub flag_detail : {x : declared.Told} {p : Bool} → (x ≡ told.StatusUpdated p) ⊎ ((x ≡ told.UpdatedBoth p) ⊎ (x ≡ told.Removed p)) → told_detail (told_of x) ≡ flag_text p
+flag_detail (inl e) = detail e
+flag_detail (inr (inl e)) = detail e
+flag_detail (inr (inr e)) = detail e
+
+-- the answer's name, and what stands behind it
+module _ (x : declared.Told) (a d : List ℕ) (e : told_text (told_of x) ≡ a ++ told_detail (told_of x)) (f : told_detail (told_of x) ≡ d) where
+  pub told_room : length a + length d ≤ longest_told
+  told_room = omega (arith, told_short (told_of x), ap length e, ap length f, length-append a (told_detail (told_of x)))
+
+  pub told_put : {o t u : List ℕ} {n m : ℕ} → Put a o 0 t n → Put d t n u m → explanation_room ≤ length o → Put (told_text (told_of x)) o 0 u m
+  told_put p q h = rw (e, f) (put_then p q (omega (arith, told_room)))
+
 -- keys behind a reason
 
 filter_few : (limit : ℕ) (v : Value) (ns : List Node) → length (filter_keys limit v ns) ≤ limit
@@ -77,17 +98,17 @@ incoming_text b h p q l =
     let f = incoming_few b h in
     put_then p (rw (take_all 16 ks f) at q) (omega (arith, length_keys_text ks))
 
-reason_short : (bs : ℕ → Bucket) (b : Bucket) (v : Value) (r : declared.Reason) → length (nodes b) ≤ 16 → length (why_text (reason_of bs b v r)) ≤ 1054
+reason_short : (bs : ℕ → Bucket) (b : Bucket) (v : Value) (r : Option Reason) → length (nodes b) ≤ 16 → length (why_text (reason_of bs b v r)) ≤ 1054
 unfolding why_text
-reason_short bs b v reason.None h = rw keys_text_none (omega arith)
-reason_short bs b v (reason.TableFilter k) h = let ks : List ℕ = filter_keys max_nodes_per_subnet_table v (other_nodes (num k) bs) in omega (arith, length_keys_text ks, filter_few max_nodes_per_subnet_table v (other_nodes (num k) bs))
-reason_short bs b v reason.BucketFilter h = let ks : List ℕ = filter_keys max_nodes_per_subnet_bucket v (nodes b) in omega (arith, length_keys_text ks, filter_few max_nodes_per_subnet_bucket v (nodes b))
-reason_short bs b v reason.IncomingLimit h = let ks : List ℕ = keys_of (incoming_nodes (nodes b)) in omega (arith, length_keys_text ks, incoming_few b h)
-reason_short bs b v reason.NewcomerDisconnected h = rw keys_text_none (omega arith)
-reason_short bs b v reason.AllConnected h = rw keys_text_none (omega arith)
-reason_short bs b v (reason.Pending k) h = omega (arith, length_keys_text (num k ∷ []))
-reason_short bs b v reason.NoSuchKey h = rw keys_text_none (omega arith)
-reason_short bs b v reason.LocalKey h = rw keys_text_none (omega arith)
+reason_short bs b v None h = rw keys_text_none (omega arith)
+reason_short bs b v (Some (reason.TableFilter k)) h = let ks : List ℕ = filter_keys max_nodes_per_subnet_table v (other_nodes (num k) bs) in omega (arith, length_keys_text ks, filter_few max_nodes_per_subnet_table v (other_nodes (num k) bs))
+reason_short bs b v (Some reason.BucketFilter) h = let ks : List ℕ = filter_keys max_nodes_per_subnet_bucket v (nodes b) in omega (arith, length_keys_text ks, filter_few max_nodes_per_subnet_bucket v (nodes b))
+reason_short bs b v (Some reason.IncomingLimit) h = let ks : List ℕ = keys_of (incoming_nodes (nodes b)) in omega (arith, length_keys_text ks, incoming_few b h)
+reason_short bs b v (Some reason.NewcomerDisconnected) h = rw keys_text_none (omega arith)
+reason_short bs b v (Some reason.AllConnected) h = rw keys_text_none (omega arith)
+reason_short bs b v (Some (reason.Pending k)) h = omega (arith, length_keys_text (num k ∷ []))
+reason_short bs b v (Some reason.NoSuchKey) h = rw keys_text_none (omega arith)
+reason_short bs b v (Some reason.LocalKey) h = rw keys_text_none (omega arith)
 
 pub why_short : (bs : ℕ → Bucket) (w : Why) → w.bucket.count ≤ 16 → length (why_text (why_of bs w)) ≤ 1054
 unfolding why_of

@@ -1,21 +1,21 @@
 -- Text put into the output piece by piece, and the digits of a key.
-use mathlib.Core.Path.{◌≡◌, refl, sym, ◌∙◌}
-use mathlib.Core.List.{List, [], ◌++◌}
-use Prim.Native.Nat.{ℕ, ◌+◌, ◌*◌, ◌≤◌, ◌<◌}
-use native.Mathlib.Numerals.{add-one}
+use Prim.Native.Nat.{ℕ, suc, ◌+◌, ◌*◌, ◌/◌, ◌%◌, ◌≤◌, ◌<◌}
 use native.Mathlib.Omega.{arith}
-use borrow.Rule.Slice.PartMut.{put_mid}
-use Rattle.std.proofs.lemmas.List.{drop-drop}
-use lib.ListN.{length, get_or, take, length-append}
-use lib.Seq.{take-suc, take_all, length-take-le}
-use Rattle.model.specs.Base.{joined}
-use Rattle.model.specs.Bytes.{bytes, splice}
+use mathlib.Core.Path.{◌≡◌, refl, sym, ◌∙◌}
+use mathlib.Core.List.{List, [], ◌∷◌, ◌++◌}
+use lib.ListN.{length, length-append}
+use lib.Dec.{eqb}
+use borrow.Author.Tests.{eqb-true}
+use Rattle.std.specs.List.{slice_index}
+use Rattle.hex.specs.Hex.{lower_digits, encode_lower, encode_with}
+use Rattle.model.specs.Base.{joined, all_below}
+use Rattle.model.specs.Bytes.{Bytes, bytes}
 use Rattle.model.specs.Sizes.{key_size}
-use Rattle.model.specs.Explain.{digits, key_text}
+use Rattle.model.specs.Explain.{digit, digits, key_text}
 use Rattle.laws.proofs.All.{all_any}
-use Rattle.laws.proofs.Lists.{joined_snoc, length_joined}
-use Rattle.laws.proofs.Parts.{splice_nil, splice_append, splice_next}
-use Rattle.laws.proofs.Bytes.{length_bytes}
+use Rattle.laws.proofs.Lists.{length_joined, all_gives}
+use Rattle.laws.proofs.Parts.{splice_nil, splice_append}
+use Rattle.laws.proofs.Bytes.{length_bytes, Bytes_bytes}
 use Rattle.explanation.specs.Put.{Put, key_text_size}
 
 -- pieces
@@ -40,17 +40,18 @@ pub length_key_text : (k : ℕ) → length (key_text k) ≡ key_text_size
 unfolding key_text
 length_key_text k = length_digits (bytes key_size k) ∙ rw length_bytes
 
--- one byte more of a key
-pub key_next : {t u : List ℕ} (o : List ℕ) (at : ℕ) (bs : List ℕ) (i : ℕ) → i < length bs → at + length bs * 2 ≤ length o
-    → t ≡ splice o at (joined digits (take i bs)) → u ≡ splice t (at + 2 * i) (digits (get_or bs i 0)) → u ≡ splice o at (joined digits (take (i + 1) bs))
-key_next o at bs i h l e f =
-    let n : length (joined digits (take i bs)) ≡ 2 * i = length_digits (take i bs) ∙ rw (length-take-le i bs (omega arith)) (omega arith) in
-    f ∙ rw (e, add-one, take-suc bs i 0, joined_snoc) (splice_next o at (2 * i) (joined digits (take i bs)) (digits (get_or bs i 0)) n (omega arith))
+-- the digits that `hex` gives are 02's
+hex_digit : (n : ℕ) → n < 16 → slice_index lower_digits n ≡ digit n
+unfolding all_below
+hex_digit n h = eqb-true _ _ (all_gives 16 (λ i. eqb (slice_index lower_digits i) (digit i)) n h refl)
 
-pub key_whole : {u : List ℕ} (o : List ℕ) (at k : ℕ) {bs : List ℕ} → bs ≡ bytes key_size k → u ≡ splice o at (joined digits (take 32 bs)) → Put (key_text k) o at u (at + key_text_size)
+hex_digits : (bs : List ℕ) → Bytes bs → encode_lower bs ≡ joined digits bs
+unfolding encode_with joined
+hex_digits [] h = refl
+hex_digits (b ∷ bs) h =
+    let l : b < 256 = h 0 in
+    rw (hex_digit (b / 16) (omega arith), hex_digit (b % 16) (omega arith), hex_digits bs (λ i. h (suc i)))
+
+pub hex_text : (k : ℕ) {bs : List ℕ} → bs ≡ bytes key_size k → encode_lower bs ≡ key_text k
 unfolding key_text
-key_whole o at k e f =
-    record {
-      output = f ∙ rw (e, take_all 32 (bytes key_size k) (rw length_bytes (omega arith)));
-      next = rw length_key_text;
-    }
+hex_text k e = rw e (hex_digits (bytes key_size k) (Bytes_bytes key_size k))

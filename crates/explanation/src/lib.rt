@@ -1,7 +1,7 @@
 // Internal: what is told of a call before it runs (document 02, slip 1): the answer, the reason, and the line that says both.
 #![tactic(auto)]
 
-ghost use Rattle.std.specs.Prelude.{◌≡◌, true, [], ◌∷◌, map, ◌+◌, ◌*◌, ◌≤◌, ◌<◌, length, get_or, take};
+ghost use Rattle.std.specs.Prelude.{◌≡◌, true, [], ◌∷◌, ◌++◌, map, ◌+◌, ◌*◌, ◌≤◌, length, get_or, take};
 ghost use Rattle.model.specs.Base.{select};
 ghost use Rattle.model.specs.Bytes.{part, splice};
 ghost use Rattle.model.specs.Bucket.{max_nodes_per_bucket, nodes};
@@ -9,15 +9,15 @@ ghost use Rattle.model.specs.Table.{num_buckets, held_nodes};
 ghost use Rattle.model.specs.Sizes.{bucket_size, storage_size};
 ghost use Rattle.model.specs.Layout.{bucket_in, table_of};
 ghost use Rattle.model.specs.Formed.{formed};
-ghost use Rattle.model.specs.Explain.{told_update, told_insert, told_insert_or_update, digit, digits, key_text, failure_text, flag_text, told_text, keys_of, table_filter_reason, bucket_filter_reason, incoming_limit_reason, explanation_room, line};
+ghost use Rattle.model.specs.Explain.{told_update, told_insert, told_insert_or_update, key_text, failure_text, flag_text, told_text, keys_of, table_filter_reason, bucket_filter_reason, incoming_limit_reason, explanation_room, line};
 ghost use Rattle.model.specs.Explain as explain;
 ghost use Rattle.key.specs.Key.{num};
 ghost use Rattle.node.specs.Node.{value_of, node_of};
 ghost use Rattle.bucket.specs.Bucket.{bucket_of, Sound};
 ghost use Rattle.bucket.specs.Calls.{failure_reason_of, update_result_of, insert_result_of};
 ghost use Rattle.bucket_update.specs.Results.{table_insert_result_of};
-ghost use Rattle.explanation.specs.Explanation.{told_of, why_of, TableRead, why_text};
-ghost use Rattle.explanation.specs.Put.{Put, PutKeys, passes, key_text_size, spaced_key_size, longest_told, longest_failure, longest_flag};
+ghost use Rattle.explanation.specs.Explanation.{told_of, told_detail, why_of, TableRead, why_text};
+ghost use Rattle.explanation.specs.Put.{Put, PutKeys, passes, key_text_size, spaced_key_size, longest_told};
 
 use bucket::{FailureReason, KBucket};
 use key::Key;
@@ -47,10 +47,10 @@ pub enum Told {
     Removed(bool),
 }
 
-// The reason, without the keys behind it but for the pending's. The table filter's key is the call's: its own node is not counted.
+// The reason of a call that fails, without the keys behind it but for the pending's. The table filter's key is the call's: its own node is not
+// counted.
 #[derive(Clone, Copy)]
 pub enum Reason {
-    None,
     TableFilter(Key),
     BucketFilter,
     IncomingLimit,
@@ -61,16 +61,16 @@ pub enum Reason {
     LocalKey,
 }
 
-// A reason, the bucket that the failing test looked at, and the value that a filter counted against.
+// A reason, or none of a call that does not fail; the bucket that the failing test looked at, and the value that a filter counted against.
 #[derive(Clone, Copy)]
 pub struct Why {
-    pub reason: Reason,
+    pub reason: Option<Reason>,
     pub bucket: KBucket,
     pub value: Value,
 }
 
 // The nodes that a reason names: those that count against a value, the same but for a key's own, or those connected incoming.
-// An enum and not a closure: the contracts name by it the nodes that pass.
+// An enum and not a closure: the contracts name by it the nodes that pass, and of a closure each function would be told that as well.
 #[derive(Clone, Copy)]
 enum Test {
     Counts(Value),
@@ -78,7 +78,7 @@ enum Test {
     Incoming,
 }
 
-// Where the next key is put in the output, and how many more may be put.
+// Where the next key is put in the output, and how many more may be put. A cursor of its own: the two numbers of a pass's Tally mean other things.
 #[derive(Clone, Copy)]
 struct Room {
     at: usize,
@@ -133,28 +133,8 @@ impl From<bucket_update::InsertResult> for Told {
     }
 }
 
-// Internal: what is told of an update.
-pub fn told_update(x: bucket::UpdateResult) -> Told
-    ensures { told_of result ≡ told_update (update_result_of x) }
-{
-    Told::from(x)
-}
-
-// Internal: what is told of a bucket's insert.
-pub fn told_insert(x: bucket::InsertResult) -> Told
-    ensures { told_of result ≡ told_insert (insert_result_of x) }
-{
-    Told::from(x)
-}
-
-// Internal: what is told of insert_or_update.
-pub fn told_insert_or_update(x: bucket_update::InsertResult) -> Told
-    ensures { told_of result ≡ told_insert_or_update (table_insert_result_of x) }
-{
-    Told::from(x)
-}
-
-// The bytes of the word, put at `at`. It answers the place behind them, as all that put text do.
+// The bytes of the word, put at `at`. It answers the place behind them, as all that put text do. No Display and `write!`: the bytes that these
+// write are ensured of a String alone, and that needs a heap.
 fn put_word(out: &mut [u8], at: usize, word: &[u8]) -> usize
     requires { at + length word.now ≤ length out.old }
     ensures { Put word.now out.old at out.new result }
@@ -164,62 +144,59 @@ fn put_word(out: &mut [u8], at: usize, word: &[u8]) -> usize
     end
 }
 
-// A small hexadecimal digit.
-fn digit(n: u8) -> u8
-    requires { n < 16 }
-    ensures { result ≡ digit n }
-{
-    if n < 10 {
-        return b'0' + n;
-    }
-    b'a' + (n - 10)
-}
-
-// The two digits of a byte, put at `at`.
-fn put_digits(out: &mut [u8], at: usize, b: u8)
-    requires { at + 2 ≤ length out.old }
-    ensures { out.new ≡ splice out.old at (digits b) }
-{
-    out[at] = digit(b / 16);
-    out[at + 1] = digit(b % 16);
-}
-
 // The 64 digits of the key, put at `at`.
 fn put_key(out: &mut [u8], at: usize, key: Key) -> usize
     requires { at + key_text_size ≤ length out.old }
     ensures { Put (key_text (num key)) out.old at out.new result }
 {
-    let bytes = key.to_bytes();
-    for (i, b) in bytes.iter().enumerate() {
-        put_digits(out, at + 2 * i, *b);
-    }
-    at + 2 * Key::BYTES
+    let end = at + 2 * Key::BYTES;
+    hex::encode_to_slice(key.to_bytes(), &mut out[at..end]).unwrap();
+    end
 }
 
-// The failure's name, put at `at`.
-fn put_failure(out: &mut [u8], at: usize, failure: FailureReason) -> usize
-    requires { at + longest_failure ≤ length out.old }
-    ensures { Put (failure_text (failure_reason_of failure)) out.old at out.new result }
+// The failure's name. A table of its own: other tables of this shape are of codes.
+fn failure_word(failure: FailureReason) -> &'static [u8]
+    ensures { result.now ≡ failure_text (failure_reason_of failure) }
 {
     match failure {
-        FailureReason::TooManyIncoming => put_word(out, at, b"TooManyIncoming"),
-        FailureReason::BucketFilter => put_word(out, at, b"BucketFilter"),
-        FailureReason::TableFilter => put_word(out, at, b"TableFilter"),
-        FailureReason::KeyNonExistent => put_word(out, at, b"KeyNonExistent"),
-        FailureReason::BucketFull => put_word(out, at, b"BucketFull"),
-        FailureReason::InvalidSelfUpdate => put_word(out, at, b"InvalidSelfUpdate"),
+        FailureReason::TooManyIncoming => b"TooManyIncoming",
+        FailureReason::BucketFilter => b"BucketFilter",
+        FailureReason::TableFilter => b"TableFilter",
+        FailureReason::KeyNonExistent => b"KeyNonExistent",
+        FailureReason::BucketFull => b"BucketFull",
+        FailureReason::InvalidSelfUpdate => b"InvalidSelfUpdate",
     }
 }
 
-// true or false, put at `at`.
-fn put_flag(out: &mut [u8], at: usize, flag: bool) -> usize
-    requires { at + longest_flag ≤ length out.old }
-    ensures { Put (flag_text flag) out.old at out.new result }
+fn flag_word(flag: bool) -> &'static [u8]
+    ensures { result.now ≡ flag_text flag }
 {
-    if flag {
-        return put_word(out, at, b"true");
+    if flag { b"true" } else { b"false" }
+}
+
+impl Told {
+    // The answer's name, with a space where a key, a flag or a failure follows. What remove answers is its flag alone.
+    fn name(self) -> &'static [u8]
+        ensures { told_text (told_of self) ≡ result.now ++ told_detail (told_of self) }
+    {
+        match self {
+            Told::Inserted => b"Inserted",
+            Told::Pending(_) => b"Pending ",
+            Told::StatusUpdated(_) => b"StatusUpdated ",
+            Told::ValueUpdated => b"ValueUpdated",
+            Told::UpdatedBoth(_) => b"Updated ",
+            Told::Updated => b"Updated",
+            Told::UpdatedAndPromoted => b"UpdatedAndPromoted",
+            Told::UpdatedPending => b"UpdatedPending",
+            Told::NotModified => b"NotModified",
+            Told::Failed(_) => b"Failed ",
+            Told::FailedFilter => b"FailedFilter",
+            Told::TooManyIncoming => b"TooManyIncoming",
+            Told::Full => b"Full",
+            Told::NodeExists => b"NodeExists",
+            Told::Removed(_) => b"",
+        }
     }
-    put_word(out, at, b"false")
 }
 
 // What is told of the answer, put at the front.
@@ -227,113 +204,90 @@ fn put_told(out: &mut [u8], told: Told) -> usize
     requires { explanation_room ≤ length out.old }
     ensures { Put (told_text (told_of told)) out.old 0 out.new result }
 {
+    let next = put_word(out, 0, told.name());
     match told {
-        Told::Inserted => put_word(out, 0, b"Inserted"),
-        Told::Pending(k) => {
-            let next = put_word(out, 0, b"Pending ");
-            put_key(out, next, k)
+        Told::Pending(key) => put_key(out, next, key),
+        Told::StatusUpdated(flag) | Told::UpdatedBoth(flag) | Told::Removed(flag) => {
+            put_word(out, next, flag_word(flag))
         }
-        Told::StatusUpdated(p) => {
-            let next = put_word(out, 0, b"StatusUpdated ");
-            put_flag(out, next, p)
-        }
-        Told::ValueUpdated => put_word(out, 0, b"ValueUpdated"),
-        Told::UpdatedBoth(p) => {
-            let next = put_word(out, 0, b"Updated ");
-            put_flag(out, next, p)
-        }
-        Told::Updated => put_word(out, 0, b"Updated"),
-        Told::UpdatedAndPromoted => put_word(out, 0, b"UpdatedAndPromoted"),
-        Told::UpdatedPending => put_word(out, 0, b"UpdatedPending"),
-        Told::NotModified => put_word(out, 0, b"NotModified"),
-        Told::Failed(r) => {
-            let next = put_word(out, 0, b"Failed ");
-            put_failure(out, next, r)
-        }
-        Told::FailedFilter => put_word(out, 0, b"FailedFilter"),
-        Told::TooManyIncoming => put_word(out, 0, b"TooManyIncoming"),
-        Told::Full => put_word(out, 0, b"Full"),
-        Told::NodeExists => put_word(out, 0, b"NodeExists"),
-        Told::Removed(r) => put_flag(out, 0, r),
+        Told::Failed(failure) => put_word(out, next, failure_word(failure)),
+        _ => next,
     }
 }
 
-// The reason names the node.
-fn passes(test: Test, node: Node) -> bool
-    ensures { result ≡ passes test (node_of node) }
-{
-    match test {
-        Test::Counts(value) => node::filter::counts(value, node.value),
-        Test::CountsOther(key, value) => {
-            node::filter::counts(value, node.value) & !node.key.eq(key)
+impl Test {
+    // The reason names the node.
+    fn passes(self, node: Node) -> bool
+        ensures { result ≡ passes self (node_of node) }
+    {
+        match self {
+            Test::Counts(value) => node::filter::counts(value, node.value),
+            Test::CountsOther(key, value) => {
+                node::filter::counts(value, node.value) & !node.key.eq(key)
+            }
+            Test::Incoming => node.is_connected_incoming(),
         }
-        Test::Incoming => node.is_connected_incoming(),
     }
 }
 
-// A space and the key of the node, where it passes the test and there is room.
-fn put_node(out: &mut [u8], room: Room, test: Test, node: Node) -> Room
-    requires { room.at + room.left * spaced_key_size ≤ length out.old }
-    ensures { PutKeys (keys_of (select (passes test) (node_of node ∷ []))) out.old room out.new result }
-{
-    let at = room.at;
-    let left = room.left;
-    if left == 0 {
-        return room;
+impl Room {
+    // A space and the key of the node, where it passes the test and there is room.
+    fn put_node(self, out: &mut [u8], test: Test, node: Node) -> Room
+        requires { self.at + self.left * spaced_key_size ≤ length out.old }
+        ensures { PutKeys (keys_of (select (passes test) (node_of node ∷ []))) out.old self out.new result }
+    {
+        if self.left == 0 || !test.passes(node) {
+            return self;
+        }
+        words::put_byte(out, self.at, b' ');
+        Room {
+            at: put_key(out, self.at + 1, node.key),
+            left: self.left - 1,
+        }
     }
-    if passes(test, node) {
-        words::put_byte(out, at, b' ');
-        let next = put_key(out, at + 1, node.key);
-        return Room {
-            at: next,
-            left: left - 1,
-        };
-    }
-    room
-}
 
-// The keys of those in the first count places that pass the test.
-fn put_held(out: &mut [u8], room: Room, nodes: [Node; 16], count: usize, test: Test) -> Room
-    requires count_le_max_nodes_per_bucket { count ≤ max_nodes_per_bucket }
-    requires spaced_key_size_in_bounds { room.at + room.left * spaced_key_size ≤ length out.old }
-    ensures { PutKeys (keys_of (select (passes test) (map node_of (take count nodes)))) out.old room out.new result }
-{
-    let mut next = room;
-    for node in &nodes[..count] {
-        next = put_node(out, next, test, *node);
+    // The keys of those in the first count places that pass the test.
+    fn put_held(self, out: &mut [u8], nodes: [Node; 16], count: usize, test: Test) -> Room
+        requires count_le_max_nodes_per_bucket { count ≤ max_nodes_per_bucket }
+        requires spaced_key_size_in_bounds { self.at + self.left * spaced_key_size ≤ length out.old }
+        ensures { PutKeys (keys_of (select (passes test) (map node_of (take count nodes)))) out.old self out.new result }
+    {
+        let mut next = self;
+        for node in &nodes[..count] {
+            next = next.put_node(out, test, *node);
+        }
+        next
     }
-    next
-}
 
-// The same of the bucket whose bytes stand at `at` in the storage.
-fn put_stored(s: &[u8], at: usize, out: &mut [u8], room: Room, test: Test) -> Room
-    requires bucket_size_in_bounds { (at + bucket_size ≤ length s.now) × (get_or s.now at 0 ≤ max_nodes_per_bucket) }
-    requires spaced_key_size_in_bounds { room.at + room.left * spaced_key_size ≤ length out.old }
-    ensures { PutKeys (keys_of (select (passes test) (nodes (bucket_in (part s.now at bucket_size))))) out.old room out.new result }
-{
-    if room.left == 0 {
-        return room;
+    // The same of the bucket whose bytes stand at `at` in the storage.
+    fn put_stored(self, s: &[u8], at: usize, out: &mut [u8], test: Test) -> Room
+        requires bucket_size_in_bounds { (at + bucket_size ≤ length s.now) × (get_or s.now at 0 ≤ max_nodes_per_bucket) }
+        requires spaced_key_size_in_bounds { self.at + self.left * spaced_key_size ≤ length out.old }
+        ensures { PutKeys (keys_of (select (passes test) (nodes (bucket_in (part s.now at bucket_size))))) out.old self out.new result }
+    {
+        if self.left == 0 {
+            return self;
+        }
+        let mut next = self;
+        for j in 0..usize::from(s[at]) {
+            let stored = storage::load_node(s, at + (Layout::PLACES_AT + j * Layout::NODE));
+            next = next.put_node(out, test, stored);
+        }
+        next
     }
-    let count = usize::from(s[at]);
-    let mut next = room;
-    for j in 0..count {
-        let stored = storage::load_node(s, at + (Layout::PLACES_AT + j * Layout::NODE));
-        next = put_node(out, next, test, stored);
-    }
-    next
-}
 
-// The keys of all nodes of the table that pass the test, in bucket and place order.
-fn put_table(s: &[u8], out: &mut [u8], room: Room, test: Test) -> Room
-    requires s_len { (length s.now ≡ storage_size) × (formed s.now ≡ true) }
-    requires spaced_key_size_in_bounds { room.at + room.left * spaced_key_size ≤ length out.old }
-    ensures { PutKeys (keys_of (select (passes test) (held_nodes num_buckets (table_of s.now).buckets))) out.old room out.new result }
-{
-    let mut next = room;
-    for i in 0..model::NUM_BUCKETS {
-        next = put_stored(s, Layout::HEADER + i * Layout::BUCKET, out, next, test);
+    // The keys of all nodes of the table that pass the test, in bucket and place order.
+    fn put_table(self, s: &[u8], out: &mut [u8], test: Test) -> Room
+        requires s_len { (length s.now ≡ storage_size) × (formed s.now ≡ true) }
+        requires spaced_key_size_in_bounds { self.at + self.left * spaced_key_size ≤ length out.old }
+        ensures { PutKeys (keys_of (select (passes test) (held_nodes num_buckets (table_of s.now).buckets))) out.old self out.new result }
+    {
+        let mut next = self;
+        for i in 0..model::NUM_BUCKETS {
+            next = next.put_stored(s, Layout::HEADER + i * Layout::BUCKET, out, test);
+        }
+        next
     }
-    next
 }
 
 // The table filter as a reason, put at `at`: the nodes that it counts for the value of the key.
@@ -347,8 +301,7 @@ fn put_table_filter(s: &[u8], out: &mut [u8], at: usize, key: Key, value: Value)
         at: next,
         left: node::filter::MAX_NODES_PER_SUBNET_TABLE,
     };
-    let end = put_table(s, out, room, Test::CountsOther(key, value));
-    end.at
+    room.put_table(s, out, Test::CountsOther(key, value)).at
 }
 
 // The bucket filter as a reason, put at `at`.
@@ -362,9 +315,8 @@ fn put_bucket_filter(out: &mut [u8], at: usize, bucket: KBucket, value: Value) -
         at: next,
         left: node::filter::MAX_NODES_PER_SUBNET_BUCKET,
     };
-    let nodes = bucket.nodes;
-    let end = put_held(out, room, nodes, bucket.count, Test::Counts(value));
-    end.at
+    room.put_held(out, bucket.nodes, bucket.count, Test::Counts(value))
+        .at
 }
 
 // The incoming limit as a reason, put at `at`.
@@ -378,9 +330,8 @@ fn put_incoming_limit(out: &mut [u8], at: usize, bucket: KBucket) -> usize
         at: next,
         left: KBucket::MAX_NODES_PER_BUCKET,
     };
-    let nodes = bucket.nodes;
-    let end = put_held(out, room, nodes, bucket.count, Test::Incoming);
-    end.at
+    room.put_held(out, bucket.nodes, bucket.count, Test::Incoming)
+        .at
 }
 
 // The pending as a reason, put at `at`.
@@ -399,14 +350,13 @@ fn put_why(s: &[u8], out: &mut [u8], at: usize, why: Why) -> usize
     requires at_bound { (at ≤ longest_told + 1) × (explanation_room ≤ length out.old) }
     ensures { Put (why_text (why_of (table_of s.now).buckets why)) out.old at out.new result }
 {
-    let reason = why.reason;
-    let bucket = why.bucket;
-    let value = why.value;
+    let Some(reason) = why.reason else {
+        return put_word(out, at, b"none");
+    };
     match reason {
-        Reason::None => put_word(out, at, b"none"),
-        Reason::TableFilter(key) => put_table_filter(s, out, at, key, value),
-        Reason::BucketFilter => put_bucket_filter(out, at, bucket, value),
-        Reason::IncomingLimit => put_incoming_limit(out, at, bucket),
+        Reason::TableFilter(key) => put_table_filter(s, out, at, key, why.value),
+        Reason::BucketFilter => put_bucket_filter(out, at, why.bucket, why.value),
+        Reason::IncomingLimit => put_incoming_limit(out, at, why.bucket),
         Reason::NewcomerDisconnected => put_word(out, at, b"newcomer disconnected"),
         Reason::AllConnected => put_word(out, at, b"all connected"),
         Reason::Pending(key) => put_pending(out, at, key),

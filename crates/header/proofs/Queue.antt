@@ -1,27 +1,27 @@
 -- What pushing a record and dropping the oldest do to the header's bytes, and a record as it is read.
 use mathlib.Core.Path.{◌≡◌, refl, sym, ap, ◌∙◌}
-use mathlib.Core.Bool.{true, ◌&&◌}
+use mathlib.Core.Bool.{true, false}
 use mathlib.Core.List.{List, [], ◌∷◌, ◌++◌, append_assoc, append-nil}
-use mathlib.Core.Option.{none, some}
+use mathlib.Core.Option.{some}
 use Prim.Native.Nat.{ℕ, ◌+◌, ◌*◌, ◌-◌, ◌≤◌, ◌<◌}
 use native.Mathlib.Omega.{arith}
-use lib.Dec.{leb}
-use borrow.Author.Tests.{leb-true, ne_eqb}
+use borrow.Author.Tests.{ne_eqb}
+use Rattle.std.specs.Prelude.{Option, Some, None, is_some}
 use lib.ListN.{length, take, drop, get_or, length-append, length-take, length-drop, take-append-drop}
 use lib.Seq.{take-suc}
 use Rattle.model.specs.Base.{joined, tabulate}
 use Rattle.model.specs.Bytes.{number, bytes, part, splice, zeros, Bytes}
-use Rattle.model.specs.Node.{Ending, EndedPending}
+use Rattle.model.specs.Node.{Ending, EndedPending, evicted_in}
 use Rattle.model.specs.Table.{Settings, with_queue, max_records}
 use Rattle.model.specs.Sizes.{key_size, node_size, record_size, record_count_at, padding_size, records_at, record_at, header_size, storage_size}
-use Rattle.model.specs.Layout.{node_bytes, evicting_kind, ending_kind, last_kind, record_bytes, header_bytes, ending_of, record_in, record_part, table_of}
-use Rattle.model.specs.Formed.{are_zero, record_formed, header_formed}
+use Rattle.model.specs.Layout.{evicting_kind, ending_kind, evicted_bytes, record_bytes, header_bytes, ending_of, ending_in, record_in, record_part, table_of}
+use Rattle.model.specs.Formed.{record_formed, header_formed}
 use Rattle.laws.proofs.Lists.{joined_snoc, length_tabulate, get_d_tabulate}
 use Rattle.laws.proofs.Parts.{length_part, length_splice, splice_part, splice_nil, splice_next, part_part, part_zero, part_between, get_d_part}
 use Rattle.laws.proofs.Shifts.{splice_between}
-use Rattle.laws.proofs.Tests.{and_left}
+use Rattle.laws.proofs.Tests.{clash}
 use Rattle.laws.proofs.Bytes.{length_bytes}
-use Rattle.laws.proofs.NodeBytes.{length_record}
+use Rattle.laws.proofs.NodeBytes.{length_evicted, length_record}
 use Rattle.laws.proofs.HeaderBytes.{length_records, length_header}
 use Rattle.laws.proofs.HeaderBack.{checked_header, header_back, queue_fits_lem, length_queue}
 use Rattle.key.specs.declared.Key.{Key}
@@ -30,7 +30,7 @@ use Rattle.node.specs.declared.Node as stored
 use Rattle.node.specs.Node.{node_of, node_codes}
 use Rattle.bucket.specs.declared.Ending as code
 use Rattle.bucket.specs.declared.Ending.TheVariants as ending
-use Rattle.bucket.specs.declared.EndedPending.TheVariants as ended
+use Rattle.bucket.specs.declared.EndedPending as ended
 use Rattle.bucket.specs.Calls as calls
 use Rattle.bucket.specs.Calls.{records_of}
 use Rattle.storage.specs.Read.{read_node}
@@ -94,65 +94,61 @@ parts_dropped s (r ∷ q) n m l z o =
     rw (o, ← blank_add record_size ((max_records - length (r ∷ q)) * record_size)) (ap blank (omega arith)) in
     rw (u, first, second, splice_between f k (g ++ (j ++ (z ++ b))) (n ∷ []) record_count_at (length_front s) refl, last, c)
 
--- the bytes of a record: key, kind x, and what follows
-pub record_put : (s : List ℕ) (at k x : ℕ) (w : List ℕ) → length w ≡ node_size → at + record_size ≤ length s
-    → splice (splice (splice s at (bytes key_size k)) (at + key_size) (x ∷ [])) (at + (key_size + 1)) w ≡ splice s at (bytes key_size k ++ (x ∷ w))
-record_put s at k x w e l =
-    let b : List ℕ = bytes key_size k in
-    rw (
-      splice_next s at key_size b (x ∷ []) (length_bytes key_size k) (omega arith),
-      splice_next s at (key_size + 1) (b ++ (x ∷ [])) w (simp (length-append, length_bytes)) (omega arith),
-    )
-    (simp append_assoc)
-
-pub none_put : (s : List ℕ) (at : ℕ) → s ≡ splice s at (joined record_bytes [])
-unfolding joined
-none_put s at = sym (splice_nil s at)
-
 one_joined : (r : EndedPending) → joined record_bytes (r ∷ []) ≡ record_bytes r
 unfolding joined
 one_joined r = append-nil (record_bytes r)
 
-pub placed_bytes : (k : Key) → bytes key_size (num k) ++ (0 ∷ zeros node_size) ≡ joined record_bytes (records_of (ended.Placed k))
+-- the record of an ended pending, as it is put: key, kind, and then the evicted node or zero bytes
+pub record_put : (s : List ℕ) (at : ℕ) (e : ended.EndedPending) (w : List ℕ) → w ≡ evicted_bytes (evicted_in (calls.ending_of e.ending)) → at + record_size ≤ length s
+    → splice (splice (splice s at (bytes key_size (num e.key))) (at + key_size) (ending_kind (calls.ending_of e.ending) ∷ [])) (at + (key_size + 1)) w
+    ≡ splice s at (joined record_bytes (records_of (Some e)))
 unfolding record_bytes
-placed_bytes k = sym (one_joined (record { key = num k; ending = Ending.Placed none }))
+record_put s at e w h l =
+    let b : List ℕ = bytes key_size (num e.key) in
+    let x : ℕ = ending_kind (calls.ending_of e.ending) in
+    let n : length w ≡ node_size = ap length h ∙ length_evicted (evicted_in (calls.ending_of e.ending)) in
+    rw (
+      splice_next s at key_size b (x ∷ []) (length_bytes key_size (num e.key)) (omega arith),
+      splice_next s at (key_size + 1) (b ++ (x ∷ [])) w (simp (length-append, length_bytes)) (omega arith),
+      h,
+      one_joined (record { key = num e.key; ending = calls.ending_of e.ending }),
+    )
+    (simp append_assoc)
 
-pub replaced_bytes : (k : Key) (n : stored.Node)
-    → bytes key_size (num k) ++ (evicting_kind ∷ node_bytes (node_of n)) ≡ joined record_bytes (records_of (ended.Replaced k n))
-unfolding record_bytes
-replaced_bytes k n = sym (one_joined (record { key = num k; ending = Ending.Placed (some (node_of n)) }))
+pub none_put : (s : List ℕ) (at : ℕ) (o : Option ended.EndedPending) → ((e : ended.EndedPending) → o ≡ Some e → ⊥) → s ≡ splice s at (joined record_bytes (records_of o))
+unfolding joined
+none_put s at None n = sym (splice_nil s at)
+none_put s at (Some e) n = absurd (n e refl)
 
-pub dropped_bytes : (k : Key) (e : code.Ending) → bytes key_size (num k) ++ (ending_kind (calls.ending_of e) ∷ zeros node_size) ≡ joined record_bytes (records_of (ended.Dropped k e))
-unfolding record_bytes
-dropped_bytes k ending.FirstConnected = sym (one_joined (record { key = num k; ending = Ending.FirstConnected }))
-dropped_bytes k ending.BucketFilter = sym (one_joined (record { key = num k; ending = Ending.BucketFilter }))
-dropped_bytes k ending.TooManyIncoming = sym (one_joined (record { key = num k; ending = Ending.TooManyIncoming }))
-dropped_bytes k ending.Inserted = sym (one_joined (record { key = num k; ending = Ending.Inserted }))
-dropped_bytes k ending.FirstConfirmed = sym (one_joined (record { key = num k; ending = Ending.FirstConfirmed }))
+-- an ending that names no node
+pub no_evicted : (e : code.Ending) → ((n : stored.Node) → e ≡ ending.Placed (Some n) → ⊥) → zeros node_size ≡ evicted_bytes (evicted_in (calls.ending_of e))
+no_evicted (ending.Placed None) h = refl
+no_evicted (ending.Placed (Some n)) h = absurd (h n refl)
+no_evicted ending.FirstConnected h = refl
+no_evicted ending.BucketFilter h = refl
+no_evicted ending.TooManyIncoming h = refl
+no_evicted ending.Inserted h = refl
+no_evicted ending.FirstConfirmed h = refl
 
 -- a record as it is read
-module _ (s : List ℕ) (at : ℕ) (k : Key) (e : num k ≡ number (part s at key_size)) where
-  pub loaded_plain : (get_or s (at + key_size) 0 ≡ evicting_kind → ⊥) → (x : Ending) → x ≡ ending_of (get_or s (at + key_size) 0)
+module _ (s : List ℕ) (at : ℕ) where
+  pub loaded : (k : Key) → num k ≡ number (part s at key_size) → (x : Ending) → x ≡ ending_in (part s at record_size)
       → ◌≡◌ {A = List EndedPending} (record { key = num k; ending = x } ∷ []) (record_in (part s at record_size) ∷ [])
   unfolding record_in
-  loaded_plain n x o = rw (part_zero s at record_size key_size (omega arith), get_d_part s at record_size key_size (omega arith), ne_eqb (get_or s (at + key_size) 0) evicting_kind n, e, o)
+  loaded k e x o = rw (part_zero s at record_size key_size (omega arith), e, o)
 
-  -- a kind of question 2
-  pub kind_within : (get_or s (at + key_size) 0 ≡ evicting_kind → ⊥) → record_formed (part s at record_size) ≡ true → get_or s (at + key_size) 0 ≤ last_kind
+  -- of a kind without an evicted node
+  pub loaded_plain : (get_or s (at + key_size) 0 ≡ evicting_kind → ⊥) → ending_of (get_or s (at + key_size) 0) ≡ ending_in (part s at record_size)
+  loaded_plain n = rw (get_d_part s at record_size key_size (omega arith), ne_eqb (get_or s (at + key_size) 0) evicting_kind n)
+
+  -- of the kind with one
+  pub loaded_evicted : (v : stored.Node) → v ≡ read_node (part s (at + (key_size + 1)) node_size) → get_or s (at + key_size) 0 ≡ evicting_kind → record_formed (part s at record_size) ≡ true
+      → (Ending.Placed (some (node_of v)) ≡ ending_in (part s at record_size)) × (node_codes v ≡ true)
   unfolding record_formed
-  kind_within n h =
-      let g : (leb (get_or s (at + key_size) 0) last_kind && are_zero (part s at record_size) (key_size + 1) node_size) ≡ true =
-      rw (get_d_part s at record_size key_size (omega arith), ne_eqb (get_or s (at + key_size) 0) evicting_kind n) at h in
-      leb-true _ _ (and_left (leb (get_or s (at + key_size) 0) last_kind) (are_zero (part s at record_size) (key_size + 1) node_size) g)
-
-  pub loaded_replaced : (v : stored.Node) → v ≡ read_node (part s (at + (key_size + 1)) node_size) → get_or s (at + key_size) 0 ≡ evicting_kind → record_formed (part s at record_size) ≡ true
-      → (◌≡◌ {A = List EndedPending} (record { key = num k; ending = Ending.Placed (some (node_of v)) } ∷ []) (record_in (part s at record_size) ∷ []))
-      × (node_codes v ≡ true)
-  unfolding record_in record_formed
-  loaded_replaced v o n h =
+  loaded_evicted v o n h =
       let g : get_or (part s at record_size) key_size 0 ≡ evicting_kind = get_d_part s at record_size key_size (omega arith) ∙ n in
       let p : part (part s at record_size) (key_size + 1) node_size ≡ part s (at + (key_size + 1)) node_size = part_part s at record_size (key_size + 1) node_size (omega arith) in
-      (rw (part_zero s at record_size key_size (omega arith), g, p, e, o, node_of_read (part s (at + (key_size + 1)) node_size)), rw (o, codes_read (part s (at + (key_size + 1)) node_size)) (rw (g, p) at h))
+      (rw (g, p, o, node_of_read (part s (at + (key_size + 1)) node_size)), rw (o, codes_read (part s (at + (key_size + 1)) node_size)) (rw (g, p) at h))
 
 -- on formed storage
 module _ (s : List ℕ) (l : length s ≡ storage_size) (h : Bytes s) (f : header_formed s ≡ true) where
@@ -174,9 +170,6 @@ module _ (s : List ℕ) (l : length s ≡ storage_size) (h : Bytes s) (f : heade
   front_back : splice s 0 header ≡ s
   front_back = rw header_is (splice_part s 0 header_size (omega arith))
 
-  pushed_none : s ≡ requeued ((table_of s).queue ++ []) s
-  pushed_none = sym front_back ∙ ap (λ (q : List EndedPending). requeued q s) (sym (append-nil (table_of s).queue))
-
   pushed : (r : EndedPending) (v : List ℕ) (rest : ℕ) → record_bytes r ≡ v ++ blank rest → (n : ℕ) → n ≡ length (table_of s).queue → n < max_records
       → splice (splice s (record_at n) v) record_count_at ((n + 1) ∷ []) ≡ requeued ((table_of s).queue ++ (r ∷ [])) s
   pushed r v rest e n m i =
@@ -190,24 +183,18 @@ module _ (s : List ℕ) (l : length s ≡ storage_size) (h : Bytes s) (f : heade
       ∙ parts_pushed (table_of s).settings (table_of s).queue r v rest e n m i ∙ sym (header_parts (with_queue ((table_of s).queue ++ (r ∷ [])) (table_of s))))
 
   -- one record, or none
-  pub pushed_records : (rs : List EndedPending) (n : ℕ) → n ≡ length (table_of s).queue → n + length rs ≤ max_records → length rs ≤ 1 → (length rs ≡ 0 → ⊥)
-      → splice (splice s (record_at n) (joined record_bytes rs)) record_count_at ((n + 1) ∷ []) ≡ requeued ((table_of s).queue ++ rs) s
+  pub pushed_record : (o : Option ended.EndedPending) → is_some o ≡ true → (n : ℕ) → n ≡ length (table_of s).queue → n + length (records_of o) ≤ max_records
+      → splice (splice s (record_at n) (joined record_bytes (records_of o))) record_count_at ((n + 1) ∷ []) ≡ requeued ((table_of s).queue ++ records_of o) s
   unfolding blank
-  pushed_records [] n m i f o = absurd (o refl)
-  pushed_records (r ∷ []) n m i f o =
+  pushed_record None i n m f = clash i refl
+  pushed_record (Some e) i n m f =
+      let r : EndedPending = record { key = num e.key; ending = calls.ending_of e.ending } in
       ap (λ (x : List ℕ). splice (splice s (record_at n) x) record_count_at ((n + 1) ∷ [])) (one_joined r)
       ∙ pushed r (record_bytes r) 0 (sym (append-nil (record_bytes r))) n m (omega arith)
-  pushed_records (r ∷ r' ∷ rs) n m i f o = absurd (never f)
-    where
-      never : length (r ∷ r' ∷ rs) ≤ 1 → ⊥
-      never z = omega arith
 
-  pub pushed_nothing : (rs : List EndedPending) → length rs ≡ 0 → s ≡ requeued ((table_of s).queue ++ rs) s
-  pushed_nothing [] e = pushed_none
-  pushed_nothing (r ∷ rs) e = absurd (never e)
-    where
-      never : length (r ∷ rs) ≡ 0 → ⊥
-      never z = omega arith
+  pub pushed_nothing : (o : Option ended.EndedPending) → is_some o ≡ false → s ≡ requeued ((table_of s).queue ++ records_of o) s
+  pushed_nothing None i = sym front_back ∙ ap (λ (q : List EndedPending). requeued q s) (sym (append-nil (table_of s).queue))
+  pushed_nothing (Some e) i = clash refl i
 
   pub dropped : (n : ℕ) → n + 1 ≡ length (table_of s).queue → n < max_records
       → splice (splice (splice s records_at (part s (records_at + record_size) (n * record_size))) (record_at n) (zeros record_size)) record_count_at (n ∷ [])

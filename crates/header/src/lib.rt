@@ -1,23 +1,22 @@
 // Internal: the front of the lent storage: the settings, and the queue of 64 records, oldest first.
 #![tactic(auto)]
 
-ghost use Rattle.std.specs.Prelude.{◌≡◌, true, [], ◌∷◌, ◌++◌, ◌+◌, ◌≤◌, ◌<◌, leb, length, take, drop};
+ghost use Rattle.std.specs.Prelude.{◌≡◌, Some, true, [], ◌∷◌, ◌++◌, ◌+◌, ◌≤◌, ◌<◌, leb, length, take, drop};
 ghost use Rattle.model.specs.Base.{joined};
-ghost use Rattle.model.specs.Bytes.{bytes, part, splice, zeros};
+ghost use Rattle.model.specs.Bytes.{part, splice};
 ghost use Rattle.model.specs.Table.{empty_table, max_records};
-ghost use Rattle.model.specs.Sizes.{key_size, node_size, record_size, storage_size};
-ghost use Rattle.model.specs.Layout.{node_bytes, evicting_kind, last_kind, record_bytes, bytes_of, ending_of, record_in, table_of};
+ghost use Rattle.model.specs.Sizes.{record_size, storage_size};
+ghost use Rattle.model.specs.Layout.{record_bytes, bytes_of, ending_of, record_in, table_of};
 ghost use Rattle.model.specs.Formed.{record_formed, header_formed};
 ghost use Rattle.key.specs.Key.{num};
 ghost use Rattle.model.specs.Step.{settings_of};
-ghost use Rattle.node.specs.Node.{node_of, node_codes};
 ghost use Rattle.bucket.specs.Calls as code;
-ghost use Rattle.bucket.specs.Calls.{records_of, applied_codes};
+ghost use Rattle.bucket.specs.Calls.{records_of, ending_codes, applied_codes};
 ghost use Rattle.header.specs.Queue.{requeued};
 
 use bucket::{EndedPending, Ending};
 use key::Key;
-use node::Node;
+use node::Code;
 use storage::Layout;
 
 // Internal: the table's own key.
@@ -44,52 +43,32 @@ pub fn record_count(s: &[u8]) -> usize
     usize::from(s[Layout::RECORD_COUNT_AT])
 }
 
-// The bytes of a record of this kind without an evicted node, put at `at`.
-fn store_plain(s: &mut [u8], at: usize, key: Key, kind: u8)
-    requires { at + record_size ≤ length s.old }
-    ensures { s.new ≡ splice s.old at (bytes key_size (num key) ++ (kind ∷ zeros node_size)) }
-{
-    key.store(s, at);
-    words::put_byte(s, at + Layout::KEY, kind);
-    words::put_zeros(s, at + (Layout::KEY + 1), Layout::NODE);
-}
-
-// The bytes of a record with an evicted node, put at `at`.
-fn store_replaced(s: &mut [u8], at: usize, key: Key, node: Node)
-    requires record_size_in_bounds { at + record_size ≤ length s.old }
-    requires node_value { node_codes node ≡ true }
-    ensures { s.new ≡ splice s.old at (bytes key_size (num key) ++ (evicting_kind ∷ node_bytes (node_of node))) }
-{
-    key.store(s, at);
-    words::put_byte(s, at + Layout::KEY, Layout::EVICTING_KIND);
-    storage::store_node(s, at + (Layout::KEY + 1), node);
-}
-
 // Internal: the bytes of the record of an ended pending, if there is one, put at `at`.
-pub fn store_record(s: &mut [u8], at: usize, ended: EndedPending)
+pub fn store_record(s: &mut [u8], at: usize, ended: Option<EndedPending>)
     requires record_size_in_bounds { at + record_size ≤ length s.old }
     requires ended_value { applied_codes ended ≡ true }
     ensures { s.new ≡ splice s.old at (joined record_bytes (records_of ended)) }
 {
-    match ended {
-        EndedPending::Nothing => {}
-        EndedPending::Placed(key) => store_plain(s, at, key, 0),
-        EndedPending::Replaced(key, node) => store_replaced(s, at, key, node),
-        EndedPending::Dropped(key, ending) => {
-            store_plain(s, at, key, bucket::ending_code(ending))
-        }
+    let Some(record) = ended else {
+        return;
+    };
+    record.key.store(s, at);
+    words::put_byte(s, at + Layout::KEY, record.ending.kind());
+    match record.ending {
+        Ending::Placed(Some(evicted)) => storage::store_node(s, at + (Layout::KEY + 1), evicted),
+        _ => words::put_zeros(s, at + (Layout::KEY + 1), Layout::NODE),
     }
 }
 
 // Internal: the record of an ended pending, if there is one, behind the others.
-pub fn push_record(s: &mut [u8], ended: EndedPending)
+pub fn push_record(s: &mut [u8], ended: Option<EndedPending>)
     requires s_len { length s.old ≡ storage_size }
     requires s_value { header_formed s.old ≡ true }
     requires ended_len_bound { length (table_of s.old).queue + length (records_of ended) ≤ max_records }
     requires ended_value { applied_codes ended ≡ true }
     ensures { s.new ≡ requeued ((table_of s.old).queue ++ records_of ended) s.old }
 {
-    if bucket::count_of(ended) == 0 {
+    if ended.is_none() {
         return;
     }
     let count = record_count(s);
@@ -97,17 +76,18 @@ pub fn push_record(s: &mut [u8], ended: EndedPending)
     words::put_byte(s, Layout::RECORD_COUNT_AT, (count + 1) as u8);
 }
 
-// The ending of a kind that is none of a placed pending.
+// The ending of a kind. No `From<u8>`: the kind of a record with an evicted node is not among them, since the ending names that node.
 fn ending_of(kind: u8) -> Ending
-    requires { (2 ≤ kind) × (kind ≤ last_kind) }
-    ensures { code.ending_of result ≡ ending_of kind }
+    ensures value { code.ending_of result ≡ ending_of kind }
+    ensures codes { ending_codes result ≡ true }
 {
     match kind {
         2 => Ending::FirstConnected,
         3 => Ending::BucketFilter,
         4 => Ending::TooManyIncoming,
         5 => Ending::Inserted,
-        _ => Ending::FirstConfirmed,
+        6 => Ending::FirstConfirmed,
+        _ => Ending::Placed(None),
     }
 }
 
@@ -115,18 +95,19 @@ fn ending_of(kind: u8) -> Ending
 fn load_record(s: &[u8], at: usize) -> EndedPending
     requires record_size_in_bounds { at + record_size ≤ length s.now }
     requires record_size_value { record_formed (part s.now at record_size) ≡ true }
-    ensures result_value { records_of result ≡ record_in (part s.now at record_size) ∷ [] }
-    ensures result_value_2 { applied_codes result ≡ true }
+    ensures result_value { records_of (Some result) ≡ record_in (part s.now at record_size) ∷ [] }
+    ensures result_value_2 { applied_codes (Some result) ≡ true }
 {
-    let key = Key::load(s, at);
     let kind = s[at + Layout::KEY];
-    if kind == Layout::EVICTING_KIND {
-        return EndedPending::Replaced(key, storage::load_node(s, at + (Layout::KEY + 1)));
+    let ending = if kind == Layout::EVICTING_KIND {
+        Ending::Placed(Some(storage::load_node(s, at + (Layout::KEY + 1))))
+    } else {
+        ending_of(kind)
+    };
+    EndedPending {
+        key: Key::load(s, at),
+        ending,
     }
-    if kind == 0 {
-        return EndedPending::Placed(key);
-    }
-    EndedPending::Dropped(key, ending_of(kind))
 }
 
 // The queue without its oldest record: the others move down, and the place that they leave is zero.
@@ -143,8 +124,8 @@ fn drop_record(s: &mut [u8], n: usize)
     words::put_byte(s, Layout::RECORD_COUNT_AT, n as u8);
 }
 
-// Internal: the oldest record, taken out of the queue; Nothing where the queue is empty.
-pub fn take_record(s: &mut [u8]) -> EndedPending
+// Internal: the oldest record, taken out of the queue; none where the queue is empty.
+pub fn take_record(s: &mut [u8]) -> Option<EndedPending>
     requires s_len { length s.old ≡ storage_size }
     requires s_value { header_formed s.old ≡ true }
     ensures result_value { records_of result ≡ take 1 (table_of s.old).queue }
@@ -153,11 +134,11 @@ pub fn take_record(s: &mut [u8]) -> EndedPending
 {
     let n = record_count(s);
     if n == 0 {
-        return EndedPending::Nothing;
+        return None;
     }
     let oldest = load_record(s, Layout::RECORDS_AT);
     drop_record(s, n - 1);
-    oldest
+    Some(oldest)
 }
 
 // Internal: the storage of a new table, whatever it held before.
@@ -166,8 +147,8 @@ pub fn clear(
     local: Key,
     pending_timeout: u64,
     max_incoming: u8,
-    table_filter: u8,
-    bucket_filter: u8,
+    table_filter: Code,
+    bucket_filter: Code,
 )
     requires s_len { length s.old ≡ storage_size }
     requires table_filter_value { leb table_filter 1 ≡ true }

@@ -4,64 +4,29 @@ use mathlib.Core.Bool.{Bool, true, false, not, ◌&&◌, and-true, and-false}
 use mathlib.Core.List.{List, [], ◌∷◌, ◌++◌, append-nil, append_assoc}
 use mathlib.Core.Logic.{⊎_elim}
 use Prim.Native.Nat.{ℕ, zero, suc, ◌+◌, ◌*◌, ◌≤◌, ◌<◌}
-use native.Mathlib.Nat.{not-suc-le-zero, le_of_suc-le-suc}
 use native.Mathlib.Omega.{arith}
 use lib.Dec.{eqb}
-use lib.ListN.{length, get_or, length-append, drop_of_length-le}
+use lib.ListN.{length, length-append, drop_of_length-le}
 use mir.Val.{bool_byte}
 use lib.Seq.{take_all, take-append-le, drop-append-le}
-use borrow.Author.Tests.{not-true, eqb-true, eqb-false}
-use Rattle.model.specs.Base.{same, select, tabulate}
+use borrow.Author.Tests.{eqb-true, eqb-false}
+use Rattle.model.specs.Base.{select, tabulate}
 use Rattle.model.specs.Bytes.{part}
 use Rattle.model.specs.Node.{Node}
 use Rattle.model.specs.Sizes.{key_size, value_size, node_size, bucket_size}
 use Rattle.model.specs.Bucket.{max_nodes_per_bucket}
-use Rattle.model.specs.Layout.{node_in, place_in}
-use Rattle.model.specs.Formed.{key_in, not_held}
+use Rattle.model.specs.Layout.{node_in}
 use Rattle.laws.proofs.Tests.{split}
-use Rattle.laws.proofs.Lists.{lt_or_le, length_tabulate, tabulate_one_more, get_d_tabulate, all_gives}
+use Rattle.laws.proofs.Lists.{lt_or_le, length_tabulate, tabulate_one_more}
 use Rattle.laws.proofs.Parts.{part_part}
 use Rattle.laws.proofs.KeepLists.{more, length_select_insert}
-use Rattle.places.specs.Places.{before, remove_at}
+use Rattle.places.specs.Places.{remove_at}
 use Rattle.node.specs.Node.{value_of}
 use Rattle.storage.specs.Read.{read_value}
 use Rattle.storage.proofs.Nodes.{value_of_read}
-use Rattle.well_formed.specs.Tests.{node_at}
+use Rattle.well_formed.specs.Tests.{node_at, nodes_here}
 use Rattle.well_formed.proofs.Places.{place_part}
-use Rattle.held.specs.Held.{nodes_here, others, place}
-
--- the first that passes
-
-pub before_is : {A : Type 0} (p : A → Bool) (xs : List A) (d : A) (i : ℕ) → i < length xs → ((j : ℕ) → j < i → p (get_or xs j d) ≡ false) → p (get_or xs i d) ≡ true → before p xs ≡ i
-before_is p [] d i l m e = absurd (not-suc-le-zero l)
-before_is p (x ∷ xs) d zero l m e = rw e
-before_is p (x ∷ xs) d (suc i) l m e = rw (m 0 (omega arith)) (ap suc (before_is p xs d i (le_of_suc-le-suc l) (λ j k. m (suc j) (omega arith)) e))
-
-pub before_none : {A : Type 0} (p : A → Bool) (xs : List A) (d : A) → ((j : ℕ) → j < length xs → p (get_or xs j d) ≡ false) → before p xs ≡ length xs
-before_none p [] d m = refl
-before_none p (x ∷ xs) d m = rw (m 0 (omega arith)) (ap suc (before_none p xs d (λ j k. m (suc j) (omega arith))))
-
-module _ (s : List ℕ) (at count k : ℕ) where
-  abbrev bs : List ℕ
-  bs = part s at bucket_size
-
-  misses : (i : ℕ) → i ≤ count → not_held bs i k ≡ true → (j : ℕ) → j < i → same (get_or (tabulate count (node_at bs)) j (node_in [])).key k ≡ false
-  unfolding not_held node_at node_in
-  misses i l h j m =
-      ap (λ (n : Node). same n.key k) (get_d_tabulate count (node_at bs) j (node_in []) (omega arith))
-      ∙ not-true (same (key_in (place_in bs j)) k) (all_gives i (λ x. not (same (key_in (place_in bs x)) k)) j m h)
-
-  pub found_here : (i : ℕ) → i < count → not_held bs i k ≡ true → same (key_in (place_in bs i)) k ≡ true → place k (nodes_here s at count) ≡ i
-  unfolding nodes_here node_at node_in
-  found_here i l h e =
-      before_is (λ (n : Node). same n.key k) (tabulate count (node_at bs)) (node_in []) i (rw length_tabulate l) (misses i (omega arith) h)
-      (ap (λ (n : Node). same n.key k) (get_d_tabulate count (node_at bs) i (node_in []) l) ∙ e)
-
-  pub absent_here : not_held bs count k ≡ true → place k (nodes_here s at count) ≡ count
-  unfolding nodes_here
-  absent_here h =
-      before_none (λ (n : Node). same n.key k) (tabulate count (node_at bs)) (node_in []) (λ j l. misses count (omega arith) h j (rw length_tabulate at l))
-      ∙ length_tabulate count (node_at bs)
+use Rattle.held.specs.Held.{others}
 
 -- one place left out
 

@@ -18,8 +18,8 @@ use Rattle.model.specs.Formed.{bucket_formed}
 use Rattle.laws.proofs.Parts.{get_d_part, length_part}
 use Rattle.laws.proofs.Bytes.{Bytes_part}
 use Rattle.laws.proofs.BucketBack.{nodes_in_lem, count_in, pending_of_lem, bucket_back, bucket_good}
-use Rattle.well_formed.specs.Tests.{node_at}
-use Rattle.held.specs.Held.{Quiet, bucket_here, nodes_here}
+use Rattle.well_formed.specs.Tests.{node_at, nodes_here}
+use Rattle.held.specs.Held.{Quiet, bucket_here}
 
 -- question 2 of a bucket's bytes, and a pending flag of 0
 pub quiet_if : (p : ℕ → Bool) (m : ℕ) (bs : List ℕ) → length bs ≡ bucket_size → Bytes bs → bucket_formed p m bs ≡ true → get_or bs pending_at 0 ≡ 0 → Quiet bs

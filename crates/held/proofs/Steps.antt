@@ -38,25 +38,19 @@ use Rattle.node.specs.Node as node
 use Rattle.node.proofs.Stored.{node_of_restated, stored_restated, codes_stored}
 use Rattle.storage.specs.Read.{read_value, read_node}
 use Rattle.storage.proofs.Nodes.{node_of_read}
-use Rattle.well_formed.specs.Tests.{node_at}
+use Rattle.well_formed.specs.Tests.{node_at, nodes_here, place}
 use Rattle.well_formed.proofs.Places.{place_part, place_node, place_key}
 use Rattle.buckets.proofs.Loaded.{stored_read}
 use Rattle.places.specs.Places.{remove_at}
 use Rattle.places.proofs.Laws.{before_le}
 use Rattle.places.proofs.Model.{held_is, find_held, find_absent, found_key, revalue_at, own_place}
 use Rattle.bucket.proofs.Rules.{remove_held, remove_absent, reinsert_filter, reinsert_many, reinsert_placed, status_held, status_absent, value_absent, value_same, value_fails, value_changes, insert_exists, insert_filter, insert_many, insert_placed, insert_full_lem, full_disconnected, full_connected, full_becomes_pending}
-use Rattle.held.specs.Held.{Quiet, Does, bucket_here, nodes_here, others, place, settings_here, restated, inserted_full}
-use Rattle.held.proofs.Quiet.{count_is, first_is, nodes_are}
+use Rattle.held.specs.Held.{Quiet, Does, bucket_here, others, settings_here, restated, inserted_full}
+use Rattle.held.proofs.Quiet.{count_is, count_few, first_is, nodes_are}
 use Rattle.held.proofs.Places.{remove_at_past, place_value}
 use Rattle.held.proofs.Moves.{out_nodes}
 
 -- the tests, as the code runs them
-
-pub maximum_of : (t : Bool) (x n : ℕ) {x' n' : ℕ} → t ≡ true → x ≡ x' → n ≡ n' → leb x n ≡ (t && leb x' n')
-maximum_of t x n e f g = rw (e, f, g)
-
-pub not_connected : (t b : Bool) → t ≡ false → false ≡ (t && b)
-not_connected t b e = rw e
 
 module _ (x : ℕ) (v : Value) (ns : List Node) where
   pub filter_counts : x ≡ 1 → v.flag ≡ 1 → (n : ℕ) → n ≡ length (counted (value_of v) ns)
@@ -127,6 +121,9 @@ module _ (s : List ℕ) (at : ℕ) (q : Quiet (part s at bucket_size)) (l : at +
     many : length (nodes b) ≡ count
     many = length_nodes b ∙ sym (count_is s at) ∙ sym ec
 
+    pub count_low : count ≤ max_nodes_per_bucket
+    count_low = omega (arith, count_few s at q, ec)
+
     pub here : (k : ℕ) {pos : ℕ} → place k (nodes b) ≡ pos → pos ≡ place k (nodes_here s at count)
     here k e = sym (ap (place k) (nodes_are s at count ec) ∙ e)
 
@@ -141,6 +138,23 @@ module _ (s : List ℕ) (at : ℕ) (q : Quiet (part s at bucket_size)) (l : at +
       pub own_key : place (node_of old).key (nodes b) ≡ pos
       own_key = ap (λ (n : Node). place n.key (nodes b)) old_is ∙ own_place (nodes b) pos (node_in []) q.different (omega (arith, many))
 
+      codes_old : formed.node_codes (part s (at + (2 + pos * node_size)) node_size) ≡ true
+      codes_old =
+          ap formed.node_codes (sym (place_part s at pos (omega arith)) ∙ ap (λ (x : List ℕ). place_in x pos) q.exact ∙ place_there b pos (node_in []) (omega (arith, many, length_nodes b)))
+          ∙ node_codes_lem (get_or (nodes b) pos (node_in []))
+
+      pub own_stored : old ≡ stored_node (node_of old)
+      own_stored =
+          eo ∙ sym (stored_read (part s (at + (2 + pos * node_size)) node_size) codes_old)
+          ∙ ap stored_node (sym (ap node_of eo ∙ node_of_read (part s (at + (2 + pos * node_size)) node_size)))
+
+      module _ (state direction : ℕ) (ls : state ≤ 1) (ld : direction ≤ 2) (new : declared.Node) (en : new ≡ node.restated state direction old) where
+        pub new_codes : node_codes new ≡ true
+        new_codes = ap node_codes (en ∙ stored_restated state direction old own_stored ls ld) ∙ codes_stored (with_status (is_one state) (optional direction) (node_of old))
+
+        pub new_place : place (num new.key) (nodes b) ≡ pos
+        new_place = ap (λ (n : declared.Node). place (num n.key) (nodes b)) en ∙ own_key
+
     module _ (k pos : ℕ) (ep : pos ≡ place k (nodes_here s at count)) where
       pub at_place : place k (nodes b) ≡ pos
       at_place = sym (ep ∙ ap (place k) (nodes_are s at count ec))
@@ -154,6 +168,12 @@ module _ (s : List ℕ) (at : ℕ) (q : Quiet (part s at bucket_size)) (l : at +
       pub absent_get : count ≤ pos → get k b ≡ none
       absent_get h = get_nodes k b ∙ find_absent k (nodes b) (omega (arith, at_place, many))
 
+      pub absent_holds : count ≤ pos → holds k b ≡ false
+      absent_holds h = ap is_some (absent_get h)
+
+      pub absent_place : count ≤ pos → place k (nodes b) ≡ count
+      absent_place h = omega (arith, at_place, at_most)
+
       -- remove
       pub removes : (time : ℕ) (d : BucketSettings) (t : List ℕ) → pos < count → t ≡ splice s at (bucket_bytes (take_out k b)) → Does (remove d time k b) at s true t
       unfolding apply_pending
@@ -162,7 +182,7 @@ module _ (s : List ℕ) (at : ℕ) (q : Quiet (part s at bucket_size)) (l : at +
           does (remove d time k b) at s true (take_out k b) t (remove_held d time k b (held_holds h) ∙ ap (λ (m : Bucket). (true, m)) a) e
 
       pub removes_none : (time : ℕ) (d : BucketSettings) → count ≤ pos → Does (remove d time k b) at s false s
-      removes_none time d h = does (remove d time k b) at s false b s (remove_absent d time k b (ap is_some (absent_get h))) untouched
+      removes_none time d h = does (remove d time k b) at s false b s (remove_absent d time k b (absent_holds h)) untouched
 
       -- update_status of a key that is not held
       pub status_none : (u : Bool) (d : Option Bool) → count ≤ pos → Does (update_status c k u d b) at s (UpdateResult.Failed FailureReason.KeyNonExistent) s
@@ -187,28 +207,15 @@ module _ (s : List ℕ) (at : ℕ) (q : Quiet (part s at bucket_size)) (l : at +
             ap (λ (n : Node). n.key) (old_is pos h few old eo) ∙ ap (λ (i : ℕ). (get_or (nodes b) i (node_in [])).key) (sym at_place)
             ∙ found_key k (nodes b) (node_in []) (omega (arith, at_place, many))
 
-        codes_old : formed.node_codes (part s (at + (2 + pos * node_size)) node_size) ≡ true
-        codes_old =
-            ap formed.node_codes (sym (place_part s at pos (omega arith)) ∙ ap (λ (x : List ℕ). place_in x pos) q.exact ∙ place_there b pos (node_in []) (omega (arith, many, length_nodes b)))
-            ∙ node_codes_lem (get_or (nodes b) pos (node_in []))
-
         pub stored_old : old ≡ stored_node (node_of old)
-        stored_old =
-            eo ∙ sym (stored_read (part s (at + (2 + pos * node_size)) node_size) codes_old)
-            ∙ ap stored_node (sym (ap node_of eo ∙ node_of_read (part s (at + (2 + pos * node_size)) node_size)))
+        stored_old = own_stored pos h few old eo
 
         module _ (state direction : ℕ) (ls : state ≤ 1) (ld : direction ≤ 2) (new : declared.Node) (en : new ≡ node.restated state direction old) where
-          pub new_codes : node_codes new ≡ true
-          new_codes = ap node_codes (en ∙ stored_restated state direction old stored_old ls ld) ∙ codes_stored (with_status (is_one state) (optional direction) (node_of old))
-
           new_is : node_of new ≡ with_status (is_one state) (optional direction) (node_of old)
           new_is = ap node_of en ∙ node_of_restated state direction old
 
           new_key : num new.key ≡ k
           new_key = ap (λ (n : Node). n.key) new_is ∙ key_old
-
-          pub new_place : place (num new.key) (nodes b) ≡ pos
-          new_place = ap (λ (i : ℕ). place i (nodes b)) new_key ∙ at_place
 
           status_is : update_status c k (is_one state) (optional direction) b ≡ restated c (node_of old) (node_of new) b
           status_is =

@@ -1,7 +1,6 @@
 -- A bucket without a pending in the storage's bytes, and the nodes of its places.
 use Rattle.std.specs.Prelude.{ℕ, ◌≤◌, ◌≡◌, List, length}
 use Rattle.std.proofs.Math.Option.{none}
-use Rattle.model.specs.Base.{same, tabulate}
 use Rattle.model.specs.Bytes.{part, splice}
 use Rattle.model.specs.Node.{Node}
 use Rattle.model.specs.Result.{BucketInsertResult, UpdateResult}
@@ -9,8 +8,8 @@ use Rattle.model.specs.Bucket.{Bucket, BucketSettings, max_nodes_per_bucket, nod
 use Rattle.model.specs.Sizes.{bucket_size}
 use Rattle.model.specs.Layout.{bucket_bytes, bucket_in, settings_in}
 use Rattle.model.specs.Fits.{Different}
-use Rattle.places.specs.Places.{before, insert_at, remove_at}
-use Rattle.well_formed.specs.Tests.{node_at}
+use Rattle.places.specs.Places.{insert_at, remove_at}
+pub use Rattle.well_formed.specs.Tests.{nodes_here, place}
 
 -- the bucket whose bytes stand at `at`
 abbrev pub bucket_here : List ℕ → ℕ → Bucket
@@ -23,17 +22,9 @@ pub record Quiet (bs : List ℕ) : Type 0 where
   pub different : Different (nodes (bucket_in bs))
   pub pending : (bucket_in bs).pending ≡ none
 
--- the nodes of the first count places of the bucket at `at`
-unfoldable pub nodes_here : List ℕ → ℕ → ℕ → List Node
-nodes_here s at count = tabulate count (node_at (part s at bucket_size))
-
--- the same with one place left out; a place past the count leaves out none
+-- the nodes of the first count places of the bucket at `at` with one place left out; a place past the count leaves out none
 unfoldable pub others : List ℕ → ℕ → ℕ → ℕ → List Node
 others s at count skip = remove_at skip (nodes_here s at count)
-
--- the place of a key, or the number of nodes where none has it
-abbrev pub place : ℕ → List Node → ℕ
-place k ns = before (λ (n : Node). same n.key k) ns
 
 -- n goes to place `to` of the bucket b, and the first connected place is `first` then
 pub record Goes (n : Node) (to first : ℕ) (b : Bucket) : Type 0 where

@@ -14,14 +14,15 @@ ghost use Rattle.model.specs.Layout.{node_bytes, bucket_bytes};
 ghost use Rattle.model.specs.Formed.{bucket_formed};
 ghost use Rattle.key.specs.Key.{num};
 ghost use Rattle.node.specs.Node.{value_of, node_of, value_codes, node_codes};
-ghost use Rattle.well_formed.specs.Tests.{node_at};
+ghost use Rattle.well_formed.specs.Tests.{node_at, nodes_here, place};
 ghost use Rattle.bucket.specs.Calls.{insert_result_of, update_result_of};
-ghost use Rattle.held.specs.Held.{bucket_here, Quiet, nodes_here, others, place, Goes, Does, settings_here, restated, inserted_full};
+ghost use Rattle.held.specs.Held.{bucket_here, Quiet, others, Goes, Does, settings_here, restated, inserted_full};
 
-use bucket::{FailureReason, InsertResult, Pending, UpdateResult};
+use bucket::{FailureReason, InsertResult, PendingNode, UpdateResult};
 use key::Key;
-use node::{Node, Value};
+use node::{Code, Node, Value};
 use storage::Layout;
+pub use well_formed::position;
 
 // Internal: the bucket at `at` has no pending. Where its bytes pass question 2 too, the calls of this crate may be made on it.
 pub fn is_quiet(s: &[u8], at: usize) -> bool
@@ -30,19 +31,6 @@ pub fn is_quiet(s: &[u8], at: usize) -> bool
         → Quiet (part s.now at bucket_size) }
 {
     s[at + Layout::PENDING_AT] == 0
-}
-
-// Internal: the place of the key among the first count of the bucket at `at`, or count.
-pub fn position(s: &[u8], at: usize, count: usize, key: Key) -> usize
-    requires { (at + bucket_size ≤ length s.now) × (count ≤ max_nodes_per_bucket) }
-    ensures { result ≡ place (num key) (nodes_here s.now at count) }
-{
-    for j in 0..count {
-        if well_formed::has_key(s, at + (Layout::PLACES_AT + j * Layout::NODE), key) {
-            return j;
-        }
-    }
-    count
 }
 
 // The n bytes behind the node at `at` go down over it, and zero bytes stand behind them. This and the two that follow make two calls each:
@@ -119,14 +107,6 @@ pub fn place(s: &mut [u8], at: usize, count: usize, node: Node)
     }
 }
 
-// The place among `count` nodes that a node goes to, where `first` of the others are disconnected.
-fn place_of(connected: bool, count: usize, first: usize) -> usize
-    requires { 1 ≤ count }
-    ensures { result ≡ cond connected (count - 1) first }
-{
-    if connected { count - 1 } else { first }
-}
-
 // The node at place pos goes, and one of its key is put at place `to` of the others; `first` is the first connected place then.
 fn replace_at(
     s: &mut [u8],
@@ -140,8 +120,8 @@ fn replace_at(
     requires bucket_size_in_bounds { (at + bucket_size ≤ length s.old) × (count ≤ max_nodes_per_bucket) × (pos < count) × (to < count) × (first ≤ count) }
     requires count_value { (count ≡ get_or s.old at 0) × Quiet (part s.old at bucket_size) }
     requires node_value { (node_codes node ≡ true) × (place (num node.key) (nodes (bucket_here s.old at)) ≡ pos) }
-    requires goes { Goes (node_of node) to first (take_out (num node.key) (bucket_here s.old at)) }
-    ensures { s.new ≡ splice s.old at (bucket_bytes (put (node_of node) (take_out (num node.key) (bucket_here s.old at)))) }
+    ensures { Goes (node_of node) to first (take_out (num node.key) (bucket_here s.old at))
+        → s.new ≡ splice s.old at (bucket_bytes (put (node_of node) (take_out (num node.key) (bucket_here s.old at)))) }
 {
     if pos < to {
         put_behind(
@@ -170,9 +150,11 @@ pub fn replace(s: &mut [u8], at: usize, count: usize, pos: usize, node: Node)
 {
     let first = usize::from(s[at + 1]);
     let rest = first - usize::from(pos < first);
-    let connected = node.is_connected();
-    let to = place_of(connected, count, rest);
-    replace_at(s, at, count, pos, to, rest + usize::from(!connected), node);
+    if node.is_connected() {
+        replace_at(s, at, count, pos, count - 1, rest, node);
+    } else {
+        replace_at(s, at, count, pos, rest, rest + 1, node);
+    }
 }
 
 // Of the first count places of the bucket at `at` but `skip`, those that pass the test, which takes where a place stands.
@@ -245,16 +227,22 @@ pub fn remove(s: &mut [u8], at: usize, key: Key) -> bool
     false
 }
 
-// The status step on the node at place pos: it was `old` and becomes `node`, of the same key.
-fn step(s: &mut [u8], at: usize, count: usize, pos: usize, old: Node, node: Node) -> UpdateResult
+// Internal: the status step on the node at place pos: it was `old` and becomes `node`, of the same key.
+pub fn step(
+    s: &mut [u8],
+    at: usize,
+    count: usize,
+    pos: usize,
+    old: Node,
+    node: Node,
+) -> UpdateResult
     requires bucket_size_in_bounds { (at + bucket_size ≤ length s.old) × (count ≤ max_nodes_per_bucket) × (pos < count) }
     requires count_value { (count ≡ get_or s.old at 0) × Quiet (part s.old at bucket_size) }
     requires node_value { (node_codes node ≡ true) × (place (num node.key) (nodes (bucket_here s.old at)) ≡ pos) }
     ensures { Does (restated (settings_here s.old) (node_of old) (node_of node) (bucket_here s.old at)) at s.old
         (update_result_of result) s.new }
 {
-    let value = node.value;
-    if fails_filter(s, at, count, pos, value) {
+    if fails_filter(s, at, count, pos, node.value) {
         take_out(s, at, count, pos);
         return UpdateResult::Failed(FailureReason::BucketFilter);
     }
@@ -272,8 +260,8 @@ pub fn update_status_at(
     at: usize,
     count: usize,
     pos: usize,
-    state: u8,
-    direction: u8,
+    state: Code,
+    direction: Code,
 ) -> UpdateResult
     requires bucket_size_in_bounds { (at + bucket_size ≤ length s.old) × (count ≤ max_nodes_per_bucket) × (pos < count) }
     requires count_value { (count ≡ get_or s.old at 0) × Quiet (part s.old at bucket_size) }
@@ -288,7 +276,13 @@ pub fn update_status_at(
 }
 
 // Internal: update_status, on a bucket without a pending.
-pub fn update_status(s: &mut [u8], at: usize, key: Key, state: u8, direction: u8) -> UpdateResult
+pub fn update_status(
+    s: &mut [u8],
+    at: usize,
+    key: Key,
+    state: Code,
+    direction: Code,
+) -> UpdateResult
     requires bucket_size_in_bounds { (at + bucket_size ≤ length s.old) × Quiet (part s.old at bucket_size) }
     requires state_bound { (state ≤ 1) × (direction ≤ 2) }
     ensures { Does (update_status (settings_here s.old) (num key) (is_one state) (optional direction) (bucket_here s.old at))
@@ -354,7 +348,8 @@ fn insert_full(s: &mut [u8], at: usize, node: Node, time: u64) -> InsertResult
     if node.is_connected() && 0 < s[at + 1] {
         let deadline = time + words::get_u64(s, Layout::TIMEOUT_AT);
         let key = Key::load(s, at + Layout::PLACES_AT);
-        buckets::store_pending(s, at + Layout::PENDING_AT, Pending::Waiting(node, deadline));
+        let pending = Some(PendingNode { node, deadline });
+        buckets::store_pending(s, at + Layout::PENDING_AT, pending);
         return InsertResult::Pending(key);
     }
     InsertResult::Full
@@ -368,8 +363,7 @@ pub fn insert_new(s: &mut [u8], at: usize, count: usize, node: Node, time: u64) 
     ensures { Does (insert (settings_here s.old) time (node_of node) (bucket_here s.old at)) at s.old
         (insert_result_of result) s.new }
 {
-    let value = node.value;
-    if fails_filter(s, at, count, count, value) {
+    if fails_filter(s, at, count, count, node.value) {
         return InsertResult::FailedFilter;
     }
     if is_max_incoming(s, at, count, count, node) {
@@ -390,8 +384,7 @@ pub fn insert(s: &mut [u8], at: usize, node: Node, time: u64) -> InsertResult
         (insert_result_of result) s.new }
 {
     let count = usize::from(s[at]);
-    let key = node.key;
-    let pos = position(s, at, count, key);
+    let pos = position(s, at, count, node.key);
     if pos < count {
         return InsertResult::NodeExists;
     }

@@ -17,18 +17,18 @@ ghost use Rattle.held.specs.Held.{bucket_here, settings_here, Quiet, nodes_here,
 use bucket::{FailureReason, UpdateResult};
 use bucket_update::InsertResult;
 use key::Key;
-use node::{Node, Value};
+use node::{Code, Node, Value};
 use storage::Layout;
 
-// Internal: update_node; `fails` is the table filter's answer, state 2 is none given. No pending can be applied, so the answer is the same
-// at any time.
+// Internal: update_node; state 2 is none given. `fails` is the table filter's answer, a bool as in bucket_update::update_node_in. No pending can
+// be applied, so the answer is the same at any time.
 pub fn update_node(
     s: &mut [u8],
     at: usize,
     fails: bool,
     key: Key,
     value: Value,
-    state: u8,
+    state: Code,
 ) -> UpdateResult
     requires bucket_size_in_bounds { (at + bucket_size ≤ length s.old) × Quiet (part s.old at bucket_size) }
     requires value_value { (value_codes value ≡ true) × (state ≤ 2) }
@@ -47,15 +47,15 @@ pub fn update_node(
     update_at(s, at, count, pos, value, state)
 }
 
-// The value's step and then the status's, of the node at place pos: it is moved once. A value that the bucket filter refuses fails in
-// either step.
+// The value's step and then the status's, of the node at place pos: it is moved once. A value that the bucket filter refuses fails in either
+// step, so the status's step answers for both.
 fn update_at(
     s: &mut [u8],
     at: usize,
     count: usize,
     pos: usize,
     value: Value,
-    state: u8,
+    state: Code,
 ) -> UpdateResult
     requires bucket_size_in_bounds { (at + bucket_size ≤ length s.old) × (count ≤ max_nodes_per_bucket) × (pos < count) }
     requires count_value { (count ≡ get_or s.old at 0) × Quiet (part s.old at bucket_size) }
@@ -68,19 +68,9 @@ fn update_at(
         return held::value_at(s, at, count, pos, value);
     }
     let old = storage::load_node(s, at + (Layout::PLACES_AT + pos * Layout::NODE));
-    let valued = old.with_value(value);
-    let node = valued.with_status(state, 2);
-    if held::fails_filter(s, at, count, pos, value) {
-        held::take_out(s, at, count, pos);
-        return UpdateResult::Failed(FailureReason::BucketFilter);
-    }
-    if held::is_max_incoming(s, at, count, pos, node) {
-        held::take_out(s, at, count, pos);
-        return UpdateResult::Failed(FailureReason::TooManyIncoming);
-    }
-    held::replace(s, at, count, pos, node);
+    let node = old.with_value(value).with_status(state, 2);
+    let of_status = held::step(s, at, count, pos, old, node);
     let of_value = bucket_update::value_result(old.value, value);
-    let of_status = bucket::status_result(old, node);
     bucket_update::both_updates(of_value, of_status)
 }
 
@@ -94,28 +84,24 @@ fn update_held(s: &mut [u8], at: usize, count: usize, pos: usize, node: Node) ->
         (Answer.InsertOrUpdate (table_insert_result_of result)) s.new }
 {
     let old = storage::load_node(s, at + (Layout::PLACES_AT + pos * Layout::NODE));
-    let was = old.value;
-    let value = node.value;
-    if held::fails_filter(s, at, count, pos, was) {
+    if held::fails_filter(s, at, count, pos, old.value)
+        || held::is_max_incoming(s, at, count, pos, node)
+    {
         held::take_out(s, at, count, pos);
         return InsertResult::Failed(FailureReason::TooManyIncoming);
     }
-    if held::is_max_incoming(s, at, count, pos, node) {
-        held::take_out(s, at, count, pos);
-        return InsertResult::Failed(FailureReason::TooManyIncoming);
-    }
-    if held::fails_filter(s, at, count, pos, value) {
+    if held::fails_filter(s, at, count, pos, node.value) {
         held::take_out(s, at, count, pos);
         return InsertResult::Failed(FailureReason::BucketFilter);
     }
     held::replace(s, at, count, pos, node);
-    let of_value = bucket_update::value_result(was, value);
+    let of_value = bucket_update::value_result(old.value, node.value);
     let of_status = bucket::status_result(old, node);
     bucket_update::insert_updates(of_value, of_status)
 }
 
-// Internal: insert_or_update, where the key was looked for: it stands at place pos of the first count, or nowhere where pos is count.
-// `fails` is the table filter's answer.
+// Internal: insert_or_update, where the key was looked for: it stands at place pos of the first count, or nowhere where pos is count. `fails` as
+// in update_node.
 pub fn insert_or_update(
     s: &mut [u8],
     at: usize,
@@ -132,13 +118,11 @@ pub fn insert_or_update(
         (Answer.InsertOrUpdate (table_insert_result_of result)) s.new }
 {
     if fails {
-        let key = node.key;
-        held::remove(s, at, key);
+        held::remove(s, at, node.key);
         return InsertResult::Failed(FailureReason::TableFilter);
     }
     if pos < count {
         return update_held(s, at, count, pos, node);
     }
-    let r = held::insert_new(s, at, count, node, time);
-    bucket_update::inserts(r)
+    bucket_update::inserts(held::insert_new(s, at, count, node, time))
 }

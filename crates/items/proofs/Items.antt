@@ -9,7 +9,6 @@ use native.Mathlib.Omega.{arith}
 use lib.Dec.{eqb}
 use lib.ListN.{length, take, drop, length-append}
 use borrow.Rule.Slice.PartMut.{put_mid}
-use Rattle.std.proofs.lemmas.List.{drop-drop}
 use borrow.Author.Tests.{ne_eqb}
 use Rattle.model.specs.Base.{same, joined}
 use Rattle.model.specs.Bytes.{bytes, part, splice, Bytes}
@@ -25,6 +24,7 @@ use Rattle.laws.proofs.Parts.{length_part, part_part, part_zero, splice_next, sl
 use Rattle.laws.proofs.Bytes.{length_bytes, number_back, Bytes_part}
 use Rattle.laws.proofs.NodeBytes.{length_value, length_node, node_value}
 use Rattle.laws.proofs.NodeFormed.{node_back}
+use Rattle.words.proofs.Words.{put_mid_splice}
 use Rattle.node.specs.declared.Value.{Value}
 use Rattle.node.specs.Node.{value_of}
 use Rattle.storage.specs.Read.{read_value}
@@ -36,9 +36,12 @@ use Rattle.items.specs.Shape.{predicate_of, closest_item, closest_size, item_by,
 
 -- bytes copied
 
-pub part_is : (s : List ℕ) (at k : ℕ) → take (at + k - at) (drop at s) ≡ part s at k
+-- n bytes of s, from `at` up to f, put over those of out from `to` up to e
+pub copied : (s out : List ℕ) {v : List ℕ} (at f to e n : ℕ) → f ≡ at + n → e ≡ to + n → f ≤ length s → v ≡ take (f - at) (drop at s) → put_mid to (e - to) out v ≡ splice out to (part s at n)
 unfolding part
-part_is s at k = let e : at + k - at ≡ k = omega arith in rw e
+copied s out at f to e n k l h g =
+    let d : f - at ≡ n = omega arith in
+    put_mid_splice out to (e - to) (g ∙ ap (λ (i : ℕ). take i (drop at s)) d) (omega (arith, length_part s at n (omega arith)))
 
 -- the predicate
 
@@ -50,28 +53,9 @@ pub in_net_is : (x : Predicate) (v : Value) → (eqb v.flag 1 && (eqb v.a x.a &&
 unfolding model.same_net same
 in_net_is x v = in_net_of (eqb v.flag 1) x (record { a = v.a; b = v.b; c = v.c; d = v.d })
 
-has_address_of : (t : Bool) (y : model.Address) → t ≡ model.has_address (record { address = cond t (some y) none; slot = 0 })
-has_address_of true y = refl
-has_address_of false y = refl
-
-has_address_is : (v : Value) → eqb v.flag 1 ≡ model.has_address (value_of v)
-has_address_is v = has_address_of (eqb v.flag 1) (record { a = v.a; b = v.b; c = v.c; d = v.d })
-
 module _ (x : Predicate) (v : Value) where
   abbrev met : Bool
   met = matches (predicate_of x) (value_of v)
-
-  pub match_always : x.predicate ≡ 0 → true ≡ met
-  match_always e = rw e
-
-  pub match_address : x.predicate ≡ 1 → eqb v.flag 1 ≡ met
-  match_address e = rw e (has_address_is v)
-
-  pub match_net : {r : Bool} → x.predicate ≡ 2 → r ≡ in_net (predicate_of x) (value_of v).address → r ≡ met
-  match_net {r} e f = f ∙ sym (by e)
-    where
-      by : x.predicate ≡ 2 → met ≡ in_net (predicate_of x) (value_of v).address
-      by e = ap (λ (p : ℕ). cond (eqb p 0) true (cond (eqb p 1) (model.has_address (value_of v)) (cond (eqb p 2) (in_net (predicate_of x) (value_of v).address) (same v.slot x.slot)))) e
 
   pub match_slot : (x.predicate ≡ 0 → ⊥) → (x.predicate ≡ 1 → ⊥) → (x.predicate ≡ 2 → ⊥) → eqb v.slot x.slot ≡ met
   unfolding same

@@ -3,3 +3,4 @@ pub mod Items
 pub mod Run
 pub mod Packed
 pub mod Shown
+pub mod Asked

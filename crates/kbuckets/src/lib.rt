@@ -1,5 +1,5 @@
 // Every entry point under its C name, on numbers and lent bytes: a library. crates/kbuckets_c exports each by the same name.
-#![tactic(auto)]
+#![tactic(auto, unfolding(codes::specs::Exported::exported))]
 
 ghost use Rattle.std.specs.Prelude.{◌≡◌, []};
 ghost use Rattle.model.specs.Call.{Listing, Call, KeyCall};
@@ -11,7 +11,8 @@ ghost use Rattle.codes.specs.Exported.{Leaves, Writes, exported, exported_with, 
 ghost use Rattle.bucket_calls.specs.Calls.{BucketCall, bucket_step, bucket_new};
 ghost use Rattle.kbuckets.specs.Version.{version};
 
-use codes::Answer;
+use codes::answers::{count, kind_code, put_insert, short_node, short_storage};
+use codes::{Answer, put_applied, put_bucket_insert, refused, update_code};
 use node::{NodeStatus, Slot, Value};
 use session::Moment;
 
@@ -34,15 +35,15 @@ pub fn kbuckets_new(
 ) -> u32
     ensures { Leaves result storage.new (exported (Call.new local_key.now pending_timeout max_incoming table_filter bucket_filter) storage.old) }
 {
-    let answer = table::new(
+    table::new(
         storage,
         local_key,
         pending_timeout,
         max_incoming,
         table_filter,
         bucket_filter,
-    );
-    codes::answers::new_code(answer)
+    )
+    .map_or_else(refused, |()| 0)
 }
 
 pub fn kbuckets_update_node_status(
@@ -54,8 +55,10 @@ pub fn kbuckets_update_node_status(
 ) -> u32
     ensures { Leaves result storage.new (exported (Call.on_key key.now (KeyCall.update_node_status state direction time)) storage.old) }
 {
-    let answer = table::update_node_status(storage, key, state, direction, time);
-    codes::answers::update_code(answer)
+    table::update_node_status(storage, key, state, direction, time).map_or_else(
+        refused,
+        update_code,
+    )
 }
 
 pub fn kbuckets_update_node(
@@ -80,10 +83,10 @@ pub fn kbuckets_update_node(
         d,
         slot,
     };
-    let answer = update::update_node(storage, key, value, state, time);
-    codes::answers::update_code(answer)
+    update::update_node(storage, key, value, state, time).map_or_else(refused, update_code)
 }
 
+// Of one form with kbuckets_absent_insert: C has a name for each call.
 pub fn kbuckets_insert_or_update(
     storage: &mut [u8],
     key: &[u8],
@@ -115,7 +118,7 @@ pub fn kbuckets_insert_or_update(
         slot,
     };
     if answer.len() < Answer::BYTES {
-        return codes::answers::short_node(storage, key, value, state, direction, time);
+        return short_node(storage, key, value, state, direction, time);
     }
     let moment = Moment {
         year,
@@ -123,40 +126,39 @@ pub fn kbuckets_insert_or_update(
         day,
         minute,
     };
-    let updated = update::insert_or_update(
+    match update::insert_or_update(
         storage, key, value, state, direction, time, windows, closed, moment,
-    );
-    codes::answers::put_updated(answer, updated)
+    ) {
+        Ok(result) => put_insert(answer, result),
+        Err(refusal) => refused(refusal),
+    }
 }
 
 pub fn kbuckets_remove(storage: &mut [u8], key: &[u8], time: u64) -> u32
     ensures { Leaves result storage.new (exported (Call.on_key key.now (KeyCall.remove time)) storage.old) }
 {
-    let answer = table::remove(storage, key, time);
-    codes::answers::remove_code(answer)
+    table::remove(storage, key, time).map_or_else(refused, u32::from)
 }
 
 pub fn kbuckets_entry(storage: &mut [u8], key: &[u8], time: u64) -> u32
     ensures { Leaves result storage.new (exported (Call.on_key key.now (KeyCall.entry time)) storage.old) }
 {
-    let answer = entry::entry(storage, key, time);
-    codes::answers::entry_code(answer)
+    entry::entry(storage, key, time).map_or_else(refused, kind_code)
 }
 
 pub fn kbuckets_present_update(storage: &mut [u8], key: &[u8], state: u8, direction: u8) -> u32
     ensures { Leaves result storage.new (exported (Call.on_key key.now (KeyCall.present_update state direction)) storage.old) }
 {
-    let answer = entry::present_update(storage, key, state, direction);
-    codes::answers::update_code(answer)
+    entry::present_update(storage, key, state, direction).map_or_else(refused, update_code)
 }
 
 pub fn kbuckets_pending_update(storage: &mut [u8], key: &[u8], state: u8, direction: u8) -> u32
     ensures { Leaves result storage.new (exported (Call.on_key key.now (KeyCall.pending_update state direction)) storage.old) }
 {
-    let answer = entry::pending_update(storage, key, state, direction);
-    codes::answers::update_code(answer)
+    entry::pending_update(storage, key, state, direction).map_or_else(refused, update_code)
 }
 
+// Of one form with kbuckets_insert_or_update, as above.
 pub fn kbuckets_absent_insert(
     storage: &mut [u8],
     key: &[u8],
@@ -188,7 +190,7 @@ pub fn kbuckets_absent_insert(
         slot,
     };
     if answer.len() < Answer::BYTES {
-        return codes::answers::short_node(storage, key, value, state, direction, time);
+        return short_node(storage, key, value, state, direction, time);
     }
     let moment = Moment {
         year,
@@ -196,17 +198,18 @@ pub fn kbuckets_absent_insert(
         day,
         minute,
     };
-    let inserted = entry::absent_insert(
+    match entry::absent_insert(
         storage, key, value, state, direction, time, windows, closed, moment,
-    );
-    codes::answers::put_inserted(answer, inserted)
+    ) {
+        Ok(result) => put_bucket_insert(answer, result),
+        Err(refusal) => refused(refusal),
+    }
 }
 
 pub fn kbuckets_iter(storage: &mut [u8], n: usize, time: u64, output: &mut [u8]) -> u32
     ensures { Writes result storage.new output.new (exported (Call.list Listing.iter n time output.old) storage.old) }
 {
-    let answer = listing::iter(storage, n, time, output);
-    codes::answers::list_code(answer)
+    listing::iter(storage, n, time, output).map_or_else(refused, count)
 }
 
 pub fn kbuckets_nodes_by_distances(
@@ -218,8 +221,7 @@ pub fn kbuckets_nodes_by_distances(
 ) -> u32
     ensures { Writes result storage.new output.new (exported (Call.list (Listing.nodes_by_distances distances.now) n time output.old) storage.old) }
 {
-    let answer = distances::nodes_by_distances(storage, distances, n, time, output);
-    codes::answers::list_code(answer)
+    distances::nodes_by_distances(storage, distances, n, time, output).map_or_else(refused, count)
 }
 
 pub fn kbuckets_closest_keys(
@@ -231,8 +233,7 @@ pub fn kbuckets_closest_keys(
 ) -> u32
     ensures { Writes result storage.new output.new (exported (Call.list (Listing.closest_keys target.now) n time output.old) storage.old) }
 {
-    let answer = listing::closest_keys(storage, target, n, time, output);
-    codes::answers::list_code(answer)
+    listing::closest_keys(storage, target, n, time, output).map_or_else(refused, count)
 }
 
 pub fn kbuckets_closest_values(
@@ -244,8 +245,7 @@ pub fn kbuckets_closest_values(
 ) -> u32
     ensures { Writes result storage.new output.new (exported (Call.list (Listing.closest_values target.now) n time output.old) storage.old) }
 {
-    let answer = listing::closest_values(storage, target, n, time, output);
-    codes::answers::list_code(answer)
+    listing::closest_values(storage, target, n, time, output).map_or_else(refused, count)
 }
 
 pub fn kbuckets_closest_values_predicate(
@@ -262,20 +262,21 @@ pub fn kbuckets_closest_values_predicate(
 ) -> u32
     ensures { Writes result storage.new output.new (exported (Call.list (Listing.closest_values_predicate target.now (record { predicate = predicate; a = a; b = b; c = c; slot = slot })) n time output.old) storage.old) }
 {
-    let answer = listing::closest_values_predicate(
+    listing::closest_values_predicate(
         storage, target, predicate, a, b, c, slot, n, time, output,
-    );
-    codes::answers::list_code(answer)
+    ).map_or_else(refused, count)
 }
 
 pub fn kbuckets_take_applied_pending(storage: &mut [u8], answer: &mut [u8]) -> u32
     ensures { Writes result storage.new answer.new (exported_with (Call.take_applied_pending) answer.old storage.old) }
 {
     if answer.len() < Answer::BYTES {
-        return codes::answers::short_storage(storage);
+        return short_storage(storage);
     }
-    let taken = table::take_applied_pending(storage);
-    codes::answers::put_taken(answer, taken)
+    match table::take_applied_pending(storage) {
+        Ok(applied) => put_applied(answer, applied),
+        Err(refusal) => refused(refusal),
+    }
 }
 
 // Why the peer is missing: the line of a call that was not made.
@@ -290,8 +291,9 @@ pub fn kbuckets_explain_update_node_status(
 ) -> u32
     ensures { Tells result output.new (explain_bytes key.now (KeyCall.update_node_status state direction time) output.old storage.now) }
 {
-    let answer = explain::explain_update_node_status(storage, key, state, direction, time, output);
-    codes::answers::explain_code(answer)
+    explain::explain_update_node_status(storage, key, state, direction, time, output).map_or_else(
+        refused, count,
+    )
 }
 
 pub fn kbuckets_explain_update_node(
@@ -317,10 +319,12 @@ pub fn kbuckets_explain_update_node(
         d,
         slot,
     };
-    let answer = explain::explain_update_node(storage, key, value, state, time, output);
-    codes::answers::explain_code(answer)
+    explain::explain_update_node(storage, key, value, state, time, output).map_or_else(
+        refused, count,
+    )
 }
 
+// Of one form with kbuckets_explain_absent_insert: C has a name for each call.
 pub fn kbuckets_explain_insert_or_update(
     storage: &[u8],
     key: &[u8],
@@ -357,17 +361,16 @@ pub fn kbuckets_explain_insert_or_update(
         day,
         minute,
     };
-    let answer = explain::explain_insert_or_update(
+    explain::explain_insert_or_update(
         storage, key, value, state, direction, time, windows, closed, moment, output,
-    );
-    codes::answers::explain_code(answer)
+    )
+    .map_or_else(refused, count)
 }
 
 pub fn kbuckets_explain_remove(storage: &[u8], key: &[u8], time: u64, output: &mut [u8]) -> u32
     ensures { Tells result output.new (explain_bytes key.now (KeyCall.remove time) output.old storage.now) }
 {
-    let answer = explain::explain_remove(storage, key, time, output);
-    codes::answers::explain_code(answer)
+    explain::explain_remove(storage, key, time, output).map_or_else(refused, count)
 }
 
 pub fn kbuckets_explain_present_update(
@@ -379,8 +382,9 @@ pub fn kbuckets_explain_present_update(
 ) -> u32
     ensures { Tells result output.new (explain_bytes key.now (KeyCall.present_update state direction) output.old storage.now) }
 {
-    let answer = explain::explain_present_update(storage, key, state, direction, output);
-    codes::answers::explain_code(answer)
+    explain::explain_present_update(storage, key, state, direction, output).map_or_else(
+        refused, count,
+    )
 }
 
 pub fn kbuckets_explain_pending_update(
@@ -392,10 +396,12 @@ pub fn kbuckets_explain_pending_update(
 ) -> u32
     ensures { Tells result output.new (explain_bytes key.now (KeyCall.pending_update state direction) output.old storage.now) }
 {
-    let answer = explain::explain_pending_update(storage, key, state, direction, output);
-    codes::answers::explain_code(answer)
+    explain::explain_pending_update(storage, key, state, direction, output).map_or_else(
+        refused, count,
+    )
 }
 
+// Of one form with kbuckets_explain_insert_or_update, as above.
 pub fn kbuckets_explain_absent_insert(
     storage: &[u8],
     key: &[u8],
@@ -432,10 +438,10 @@ pub fn kbuckets_explain_absent_insert(
         day,
         minute,
     };
-    let answer = explain::explain_absent_insert(
+    explain::explain_absent_insert(
         storage, key, value, state, direction, time, windows, closed, moment, output,
-    );
-    codes::answers::explain_code(answer)
+    )
+    .map_or_else(refused, count)
 }
 
 // A table that survives a box swap: its held nodes as bytes, and a new table loaded with them.
@@ -443,15 +449,13 @@ pub fn kbuckets_explain_absent_insert(
 pub fn kbuckets_write(storage: &[u8], output: &mut [u8]) -> u32
     ensures { Tells result output.new (write_bytes output.old storage.now) }
 {
-    let answer = saved::write(storage, output);
-    codes::answers::write_code(answer)
+    saved::write(storage, output).map_or_else(refused, count)
 }
 
 pub fn kbuckets_read(storage: &mut [u8], bytes: &[u8]) -> u32
     ensures { Leaves result storage.new (exported (Call.read bytes.now) storage.old) }
 {
-    let answer = loaded::read(storage, bytes);
-    codes::answers::read_code(answer)
+    loaded::read(storage, bytes).map_or_else(refused, count)
 }
 
 // A bucket by itself.
@@ -459,7 +463,7 @@ pub fn kbuckets_read(storage: &mut [u8], bytes: &[u8]) -> u32
 pub fn kbuckets_b_new(bucket: &mut [u8], pending_timeout: u64, max_incoming: u8, filter: u8) -> u32
     ensures { Leaves result bucket.new (bucket_new pending_timeout max_incoming filter bucket.old) }
 {
-    bucket_calls::new(bucket, pending_timeout, max_incoming, filter)
+    bucket_calls::new(bucket, pending_timeout, max_incoming, filter).unwrap_or_else(refused)
 }
 
 pub fn kbuckets_b_insert(
@@ -487,19 +491,19 @@ pub fn kbuckets_b_insert(
         slot,
     };
     let status = NodeStatus { state, direction };
-    bucket_calls::insert(bucket, key, value, status, time, answer)
+    bucket_calls::insert(bucket, key, value, status, time, answer).unwrap_or_else(refused)
 }
 
 pub fn kbuckets_b_apply_pending(bucket: &mut [u8], time: u64, answer: &mut [u8]) -> u32
     ensures { Writes result bucket.new answer.new (bucket_step (BucketCall.apply_pending time) answer.old bucket.old) }
 {
-    bucket_calls::apply_pending(bucket, time, answer)
+    bucket_calls::apply_pending(bucket, time, answer).unwrap_or_else(refused)
 }
 
 pub fn kbuckets_b_update_status(bucket: &mut [u8], key: &[u8], state: u8, direction: u8) -> u32
     ensures { Leaves result bucket.new (bucket_step (BucketCall.update_status key.now state direction) [] bucket.old) }
 {
-    bucket_calls::update_status(bucket, key, state, direction)
+    bucket_calls::update_status(bucket, key, state, direction).unwrap_or_else(refused)
 }
 
 pub fn kbuckets_b_update_value(
@@ -522,17 +526,17 @@ pub fn kbuckets_b_update_value(
         d,
         slot,
     };
-    bucket_calls::update_value(bucket, key, value)
+    bucket_calls::update_value(bucket, key, value).unwrap_or_else(refused)
 }
 
 pub fn kbuckets_b_update_pending(bucket: &mut [u8], state: u8, direction: u8) -> u32
     ensures { Leaves result bucket.new (bucket_step (BucketCall.update_pending state direction) [] bucket.old) }
 {
-    bucket_calls::update_pending(bucket, state, direction)
+    bucket_calls::update_pending(bucket, state, direction).unwrap_or_else(refused)
 }
 
 pub fn kbuckets_b_remove(bucket: &mut [u8], key: &[u8], time: u64) -> u32
     ensures { Leaves result bucket.new (bucket_step (BucketCall.remove key.now time) [] bucket.old) }
 {
-    bucket_calls::remove(bucket, key, time)
+    bucket_calls::remove(bucket, key, time).unwrap_or_else(refused)
 }

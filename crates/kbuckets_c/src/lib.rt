@@ -1,4 +1,5 @@
-// The static library: every function of crates/kbuckets under its C name. include/kbuckets.h declares them.
+// The static library: every function of crates/kbuckets under its C name. include/kbuckets.h declares them. Each calls the library's function
+// of its name: claims and replay use those, and no crate can use a static library.
 #![tactic(auto)]
 
 ghost use Rattle.std.specs.Prelude.{◌≡◌, []};
@@ -75,6 +76,7 @@ pub extern "C" fn kbuckets_update_node(
     kbuckets::kbuckets_update_node(storage, key, flag, a, b, c, d, slot, state, time)
 }
 
+// Of one form with kbuckets_absent_insert: C has a name for each call.
 #[unsafe(no_mangle)]
 pub extern "C" fn kbuckets_insert_or_update(
     storage: &mut [u8],
@@ -142,6 +144,7 @@ pub extern "C" fn kbuckets_pending_update(
     kbuckets::kbuckets_pending_update(storage, key, state, direction)
 }
 
+// Of one form with kbuckets_insert_or_update, as above.
 #[unsafe(no_mangle)]
 pub extern "C" fn kbuckets_absent_insert(
     storage: &mut [u8],
@@ -281,6 +284,7 @@ pub extern "C" fn kbuckets_explain_update_node(
     )
 }
 
+// Of one form with kbuckets_explain_absent_insert: C has a name for each call.
 #[unsafe(no_mangle)]
 pub extern "C" fn kbuckets_explain_insert_or_update(
     storage: &[u8],
@@ -348,6 +352,7 @@ pub extern "C" fn kbuckets_explain_pending_update(
     kbuckets::kbuckets_explain_pending_update(storage, key, state, direction, output)
 }
 
+// Of one form with kbuckets_explain_insert_or_update, as above.
 #[unsafe(no_mangle)]
 pub extern "C" fn kbuckets_explain_absent_insert(
     storage: &[u8],

@@ -1,51 +1,54 @@
-// A bucket that the host lends: the call updates it in place. Each function calls the by-value method and stores the bucket of its reply.
+// A bucket that the host lends: the call updates it in place. Each function calls the by-value method and stores the bucket that it leaves.
 #![tactic(auto)]
 
 ghost use Rattle.std.specs.Prelude.{◌≡◌};
-ghost use Rattle.bucket.specs.Calls.{insert_answer_of, update_answer_of, insert_call, update_status_call};
+ghost use Rattle.node.specs.Refusal.{reply_of};
+ghost use Rattle.bucket.specs.Calls.{insert_result_of, update_result_of, insert_call, update_status_call};
 
-use bucket::{InsertAnswer, InsertReply, KBucket, UpdateAnswer, UpdateReply};
+use bucket::{InsertResult, KBucket, Step, UpdateResult};
 use key::Key;
-use node::Node;
+use node::{Code, Node, Refusal};
 
 // Inserts a node: the first match of 01, Insert.
-pub fn insert(b: &mut KBucket, node: Node, time: u64) -> InsertAnswer
-    ensures { insert_call b.old node time ≡ (insert_answer_of result, b.new) }
+pub fn insert(b: &mut KBucket, node: Node, time: u64) -> Result<InsertResult, Refusal>
+    ensures { insert_call b.old node time ≡ (reply_of insert_result_of result, b.new) }
 {
-    let reply = (*b).insert(node, time);
-    *b = reply.bucket;
-    reply.answer
+    let step = b.insert(node, time);
+    *b = step.bucket;
+    step.result
 }
 
 // Takes the node of the key out, changes its status and inserts it; direction 2 is none given.
-pub fn update_status(b: &mut KBucket, key: Key, state: u8, direction: u8) -> UpdateAnswer
-    ensures { update_status_call b.old key state direction ≡ (update_answer_of result, b.new) }
+pub fn update_status(
+    b: &mut KBucket,
+    key: Key,
+    state: Code,
+    direction: Code,
+) -> Result<UpdateResult, Refusal>
+    ensures { update_status_call b.old key state direction ≡ (reply_of update_result_of result, b.new) }
 {
-    let reply = (*b).update_status(key, state, direction);
-    *b = reply.bucket;
-    reply.answer
+    let step = b.update_status(key, state, direction);
+    *b = step.bucket;
+    step.result
 }
 
 // `insert` on a bucket of the function's own, for callers with plain parameters.
-pub fn insert_by(b: KBucket, node: Node, time: u64) -> InsertReply
-    ensures { insert_call b node time ≡ (insert_answer_of result.answer, result.bucket) }
+pub fn insert_by(mut b: KBucket, node: Node, time: u64) -> Step<Result<InsertResult, Refusal>>
+    ensures { insert_call b node time ≡ (reply_of insert_result_of result.result, result.bucket) }
 {
-    let mut c = b;
-    let answer = insert(&mut c, node, time);
-    InsertReply {
-        bucket: c,
-        answer: answer,
-    }
+    let result = insert(&mut b, node, time);
+    Step { bucket: b, result }
 }
 
 // `update_status` on a bucket of the function's own.
-pub fn update_status_by(b: KBucket, key: Key, state: u8, direction: u8) -> UpdateReply
-    ensures { update_status_call b key state direction ≡ (update_answer_of result.answer, result.bucket) }
+pub fn update_status_by(
+    mut b: KBucket,
+    key: Key,
+    state: Code,
+    direction: Code,
+) -> Step<Result<UpdateResult, Refusal>>
+    ensures { update_status_call b key state direction ≡ (reply_of update_result_of result.result, result.bucket) }
 {
-    let mut c = b;
-    let answer = update_status(&mut c, key, state, direction);
-    UpdateReply {
-        bucket: c,
-        answer: answer,
-    }
+    let result = update_status(&mut b, key, state, direction);
+    Step { bucket: b, result }
 }

@@ -1,4 +1,5 @@
 -- What the calls on the program's buckets give: on equal arguments the same, and at the program's by computing.
+use Rattle.std.proofs.Common.{Bool, false, true≢false, ℕ, arith, eq-eqb, Result, Ok, Err}
 use mathlib.Core.Path.{◌≡◌, refl, sym, ap, ◌∙◌}
 use mathlib.Core.List.{List, ◌++◌}
 use lib.ListN.{take, drop, set, replicate}
@@ -11,6 +12,8 @@ use Rattle.model.specs.Result.{BucketInsertResult, UpdateResult, Reply}
 use Rattle.key.specs.declared.Key.{Key}
 use Rattle.key.specs.Key.{num, key_of}
 use Rattle.node.specs.declared.Node.{Node}
+use Rattle.node.specs.declared.Refusal.{Refusal}
+use Rattle.node.specs.Refusal.{number_of, reply_of}
 use Rattle.order.specs.declared.FoundNode.{FoundNode}
 use Rattle.order.specs.Found.{far}
 use Rattle.bucket.specs.declared.KBucket.{KBucket}
@@ -24,6 +27,33 @@ inserts {c = c} {n = n} e f g = sym g ∙ ap (λ (k : KBucket). insert_call k n 
 
 pub steps : {b c : KBucket} {k l : Key} {x : Reply UpdateResult × KBucket} → b ≡ c → k ≡ l → update_status_call b k 1 2 ≡ x → x ≡ update_status_call c l 1 2
 steps {c = c} {k = k} e f g = sym g ∙ ap (λ (b : KBucket). update_status_call b k 1 2) e ∙ ap (λ (y : Key). update_status_call c y 1 2) f
+
+-- a call that is refused with question 2 answers Form
+form : (r : Refusal) → number_of r ≡ 2 → r ≡ Refusal.Form
+form Refusal.Size e = absurd (omega arith)
+form Refusal.Form e = refl
+form Refusal.Key e = absurd (omega arith)
+form Refusal.Code e = absurd (omega arith)
+form Refusal.Time e = absurd (omega arith)
+form Refusal.Output e = absurd (omega arith)
+form Refusal.Kind e = absurd (omega arith)
+form Refusal.Queue e = absurd (omega arith)
+form Refusal.Load e = absurd (omega arith)
+form Refusal.Hours e = absurd (omega arith)
+form Refusal.Closed e = absurd (omega arith)
+
+pub is_form : {A B : Type 0} (f : A → B) (r : Result A Refusal) → reply_of f r ≡ Reply.Refused 2 → r ≡ Err Refusal.Form
+is_form f (Ok x) e = cc
+is_form f (Err r) e = let n : number_of r ≡ 2 = cc in ap Err (form r n)
+
+-- a key whose number is n is equal to the key of n
+pub is_key : (n : ℕ) {m : ℕ} {k : Key} {b : Bool} → m ≡ n → k ≡ key_from n → b ≡ same m (num k) → b ≡ false → ⊥
+unfolding same num
+is_key n {m} {k} {b} e f g h =
+    let z : n ≡ num (key_from n) = omega arith in
+    true≢false (sym (g ∙ eq-eqb m (num k) (e ∙ z ∙ ap num (sym f))) ∙ h)
+
+-- the calls on the program's buckets
 
 pub insert_refused : insert_call (malformed emptied) (node_from 32) 0 ≡ (Reply.Refused 2, malformed emptied)
 unfolding same num key_of sound new_call insert_call

@@ -1,10 +1,9 @@
--- The nodes, buckets and found nodes that the program lends, and the number that a refused answer has.
+-- The nodes, buckets and found nodes that the program lends.
 use Rattle.std.specs.Prelude.{ℕ, List, ◌∷◌, replicate}
 use Rattle.key.specs.declared.Key.{Key}
 use Rattle.order.specs.declared.FoundNode.{FoundNode}
 use Rattle.node.specs.declared.Node.{Node}
 use Rattle.bucket.specs.declared.KBucket.{KBucket}
-use Rattle.model.specs.Result.{Reply}
 use Rattle.bucket.specs.Calls.{insert_call, new_call}
 
 -- the key of a number below 2 ^ 64
@@ -38,11 +37,6 @@ malformed b = record {
   max_incoming = b.max_incoming;
   filter = b.filter;
 }
-
--- the question that failed, or 0
-abbrev pub question : {A : Type 0} → Reply A → ℕ
-question (Reply.Refused q) = q
-question (Reply.Answered r) = 0
 
 -- a node found at distance d, in place j
 abbrev pub found_at : ℕ → ℕ → FoundNode

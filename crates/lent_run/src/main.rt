@@ -2,93 +2,63 @@
 // array by value, checks what they answer and leave, and writes it. Every check is proved.
 #![tactic(auto)]
 
-use bucket::KBucket;
+ghost use Rattle.std.specs.Prelude.{◌≡◌};
+ghost use Rattle.lent_run.specs.Lends.{emptied, malformed};
+
+use bucket::{InsertResult, Step, UpdateResult};
+use node::Refusal;
 use std::io;
-use std::io::Write;
 
 mod lends;
 
-// Writes the keys at places 0 and 1, each below 2^64.
-fn say_keys(rt: &impl Print, b: KBucket) -> io::Result<()> {
-    let first = b.nodes[0];
-    let second = b.nodes[1];
-    let x = first.key;
-    let y = second.key;
-    rt.print(x.w3)?;
-    print!(rt; ", ")?;
-    rt.println(y.w3)
-}
-
-fn refused_insert(rt: &impl Print) -> io::Result<()> {
-    let r = lends::refused_insert();
-    let b = r.bucket;
-    let answer = r.answer;
-    let question = lends::insert_question(answer);
-    prove!(question == 2);
-    prove!(b.count == 0);
-    prove!(b.first_connected_pos == 1);
-    print!(rt; "none held, first connected place 1; insert: refused with ")?;
-    println!(rt; "{question}")
-}
-
-fn refused_status(rt: &impl Print) -> io::Result<()> {
-    let r = lends::refused_status();
-    let c = r.bucket;
-    let answer = r.answer;
-    let question = lends::update_question(answer);
-    prove!(question == 2);
-    prove!(c.count == 0);
-    prove!(c.first_connected_pos == 1);
-    print!(rt; "none held, first connected place 1; update_status: refused with ")?;
-    println!(rt; "{question}")
+// What a call on the malformed bucket answers, and that the bucket is as it was.
+fn refused<T: Copy>(rt: &impl Print, call: &str, step: Step<Result<T, Refusal>>) -> io::Result<()>
+    requires answer_value { step.result ≡ Err Refusal.Form }
+    requires bucket_value { step.bucket ≡ malformed emptied }
+{
+    let refusal = step.result.unwrap_err();
+    prove!(refusal == Refusal::Form);
+    prove!(step.bucket.count == 0);
+    prove!(step.bucket.first_connected_pos == 1);
+    let question = refusal.number();
+    println!(rt; "none held, first connected place 1; {call}: refused with {question}")
 }
 
 fn inserted(rt: &impl Print) -> io::Result<()> {
-    let r = lends::inserted();
-    let b = r.bucket;
-    let answer = r.answer;
-    prove!(lends::insert_question(answer) == 0);
-    prove!(b.count == 2);
-    print!(rt; "32 and 33 inserted, connected: ")?;
-    say_keys(rt, b)
+    let step = lends::inserted();
+    prove!(matches!(&step.result, Ok(InsertResult::Inserted)));
+    prove!(step.bucket.count == 2);
+    let nodes = step.bucket.nodes;
+    println!(rt;
+        "32 and 33 inserted, connected: {}, {}",
+        nodes[0].key.w3, nodes[1].key.w3
+    )
 }
 
 fn moved(rt: &impl Print) -> io::Result<()> {
-    let r = lends::moved();
-    let b = r.bucket;
-    let first = b.nodes[0];
-    let second = b.nodes[1];
-    let x = first.key;
-    let y = second.key;
-    prove!(x.eq(lends::key_from(33)));
-    prove!(y.eq(lends::key_from(32)));
-    print!(rt; "32 set connected: ")?;
-    say_keys(rt, b)
-}
-
-// Writes a place, and what stands behind it.
-fn say_place(rt: &impl Print, place: usize, end: &[u8]) -> io::Result<()> {
-    rt.print(place)?;
-    io::writer(rt).write_all(end)
+    let step = lends::moved();
+    let first = step.bucket.nodes[0].key;
+    let second = step.bucket.nodes[1].key;
+    prove!(first.eq(lends::key_from(33)));
+    prove!(second.eq(lends::key_from(32)));
+    prove!(matches!(&step.result, Ok(UpdateResult::NotModified)));
+    println!(rt; "32 set connected: {}, {}", first.w3, second.w3)
 }
 
 fn ordered(rt: &impl Print) -> io::Result<()> {
     let run = lends::ordered();
-    let first = run[0];
-    let second = run[1];
-    let third = run[2];
-    prove!(first.place == 1);
-    prove!(second.place == 2);
-    prove!(third.place == 0);
-    print!(rt; "distances 3, 1, 2 at places 0, 1, 2, put in order: places ")?;
-    say_place(rt, first.place, b", ")?;
-    say_place(rt, second.place, b", ")?;
-    say_place(rt, third.place, b"\n")
+    prove!(run[0].place == 1);
+    prove!(run[1].place == 2);
+    prove!(run[2].place == 0);
+    println!(rt;
+        "distances 3, 1, 2 at places 0, 1, 2, put in order: places {}, {}, {}",
+        run[0].place, run[1].place, run[2].place
+    )
 }
 
 fn main(rt: HostRuntime) -> io::Result<()> {
-    refused_insert(&rt)?;
-    refused_status(&rt)?;
+    refused(&rt, "insert", lends::refused_insert())?;
+    refused(&rt, "update_status", lends::refused_status())?;
     inserted(&rt)?;
     moved(&rt)?;
     ordered(&rt)

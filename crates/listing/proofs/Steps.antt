@@ -3,14 +3,13 @@ use mathlib.Core.Path.{◌≡◌, refl, sym, ap, ap₂, ◌∙◌, fun_ext, subs
 use mathlib.Core.Bool.{Bool, true, false, cond, ◌&&◌}
 use mathlib.Core.List.{List, [], ◌∷◌, ◌++◌, map, append-nil}
 use mathlib.Core.Option.{Option, none, some}
-use Prim.Native.Nat.{ℕ, zero, suc, ◌+◌, ◌-◌, ◌*◌, ◌≤◌, ◌<◌, min}
+use Prim.Native.Nat.{ℕ, zero, suc, ◌+◌, ◌-◌, ◌*◌, ◌≤◌, min}
 use native.Mathlib.Nat.{mul-le-mul_right, le_trans}
 use native.Mathlib.Omega.{arith}
 use lib.Dec.{leb}
 use lib.ListN.{length, take, length-append}
-use borrow.Author.Tests.{leb-true, le-leb, lt-leb}
+use borrow.Author.Tests.{leb-true, le-leb}
 use Rattle.model.specs.Base.{joined}
-use Rattle.model.specs.Bytes.{Bytes}
 use Rattle.model.specs.Node.{Node, EndedPending}
 use Rattle.model.specs.Bucket.{num_entries}
 use Rattle.model.specs.Table.{Table, Answer, max_records}
@@ -27,7 +26,6 @@ use Rattle.laws.proofs.Tests.{split, and_left, and_right}
 use Rattle.laws.proofs.All.{all_map}
 use Rattle.laws.proofs.Join.{take_append, take_least, joined_same}
 use Rattle.laws.proofs.Applied.{apply_all_queue}
-use Rattle.laws.proofs.ReadBack.{header_fits}
 use Rattle.laws.proofs.DistanceReads.{visited_applied}
 use Rattle.on_key.specs.Answers.{first_three, first_five, failed_of_three, failed_of_five}
 use Rattle.laws.proofs.Questions.{front_fails, front_passes}
@@ -39,6 +37,7 @@ use Rattle.items.specs.declared.Form.{Form}
 use Rattle.items.specs.declared.Shape.{Shape}
 use Rattle.items.specs.Shape.{form_codes, item_by, size_by, shown_by}
 use Rattle.items.specs.Lists.{Lists}
+use Rattle.items.proofs.Asked.{asked_fails, asked_passes}
 use Rattle.listing.specs.Listed.{closest_listing, visit_order_by, room_by, count_in, first_nodes, Put, visit_outcome, list_outcome}
 use Rattle.listing.proofs.Shapes.{Gives, closest_keys, closest_codes, length_shown}
 
@@ -101,23 +100,27 @@ module _ (x : Shape) (n now : ℕ) (is out s : List ℕ) where
   abbrev js : List ℕ
   js = visited_by now n is (table_of s)
 
-  pub queue_few : Bytes s → length s ≡ storage_size → header_formed s ≡ true → length (table_of s).queue ≤ max_records
-  queue_few h l f = (header_fits s h l f).queue
+  -- question 8, as it is asked of what the survey counted
+  module _ {records : ℕ} (r : records ≡ length (visit_all now n is (table_of s)).1) where
+    queue_asked : length (table_of s).queue + records ≡ length left.queue
+    queue_asked = omega (arith, queue_length)
 
-  -- question 8, as the code asks it
-  pub room_left : Bytes s → length s ≡ storage_size → header_formed s ≡ true → (queued records : ℕ) → queued ≡ length (table_of s).queue
-      → records ≡ length (visit_all now n is (table_of s)).1 → records ≤ max_records - queued → length left.queue ≤ max_records
-  room_left h l f queued records p q r = omega (arith, queue_length, queue_few h l f)
+    pub room_left : ◌≡◌ {A = Option ℕ} none (cond (leb (length (table_of s).queue + records) max_records) none (some 8)) → length left.queue ≤ max_records
+    room_left e = omega (arith, queue_asked, leb-true (length (table_of s).queue + records) max_records (asked_passes 8 _ e))
+
+    pub listed_full : buckets_formed s js ≡ true → (m : ℕ) → some m ≡ cond (leb (length (table_of s).queue + records) max_records) none (some 8)
+        → Lists (Answer.Refused m) s out (visit_outcome x n now is out s)
+    unfolding visit_outcome
+    listed_full f m e =
+        let p = asked_fails 8 m _ e in
+        let q : leb (length left.queue) max_records ≡ false = ap (λ (k : ℕ). leb k max_records) (sym queue_asked) ∙ p.0 in
+        record { answer = ap Answer.Refused p.1 ∙ rw (f, q); storage = rw (f, q); output = rw (f, q) }
 
   pub listed_malformed : buckets_formed s js ≡ false → Lists (Answer.Refused 2) s out (visit_outcome x n now is out s)
   unfolding visit_outcome
   listed_malformed f = record { answer = rw f; storage = rw f; output = rw f }
 
   module _ (f : buckets_formed s js ≡ true) where
-    pub listed_refused : max_records < length left.queue → Lists (Answer.Refused 8) s out (visit_outcome x n now is out s)
-    unfolding visit_outcome
-    listed_refused h = let q = lt-leb (length left.queue) max_records h in record { answer = rw (f, q); storage = rw (f, q); output = rw (f, q) }
-
     -- the storage with the due pendings applied
     module _ (p : Appliable s now js) {s' : List ℕ} (e : s' ≡ applied_in s now js) where
       w : Applying s now js s' []
@@ -179,13 +182,21 @@ module _ (x : Shape) (n now : ℕ) (is out s : List ℕ) where
 
 -- the listing from question 6 on
 
-pub room_is : (x : Shape) (n len : ℕ) {size : ℕ} {r : Bool} → size ≡ size_by x → r ≡ (leb n max_count && leb (n * size) len) → room_by x n len ≡ r
-room_is x n len e f = ap (λ (w : ℕ). leb n max_count && leb (n * w) len) (sym e) ∙ sym f
-
 module _ (x : Shape) (n now : ℕ) (out s : List ℕ) where
-  pub list_refused : room_by x n (length out) ≡ false → Lists (Answer.Refused 6) s out (list_outcome x n now out s)
-  unfolding list_outcome
-  list_refused e = record { answer = rw e; storage = rw e; output = rw e }
+  -- question 6, as it is asked of the items' size
+  module _ {size : ℕ} (z : size ≡ size_by x) where
+    room_is : (leb n max_count && leb (n * size) (length out)) ≡ room_by x n (length out)
+    room_is = ap (λ (w : ℕ). leb n max_count && leb (n * w) (length out)) z
+
+    pub room_passes : ◌≡◌ {A = Option ℕ} none (cond (leb n max_count && leb (n * size) (length out)) none (some 6)) → room_by x n (length out) ≡ true
+    room_passes e = sym room_is ∙ asked_passes 6 _ e
+
+    pub list_refused : (m : ℕ) → some m ≡ cond (leb n max_count && leb (n * size) (length out)) none (some 6) → Lists (Answer.Refused m) s out (list_outcome x n now out s)
+    unfolding list_outcome
+    list_refused m e =
+        let p = asked_fails 6 m _ e in
+        let r : room_by x n (length out) ≡ false = sym room_is ∙ p.0 in
+        record { answer = ap Answer.Refused p.1 ∙ rw r; storage = rw r; output = rw r }
 
   -- the visit of its buckets
   pub list_visited : room_by x n (length out) ≡ true → {a : Answer} {s' out' : List ℕ} (is : List ℕ) → is ≡ visit_order_by x (table_of s)

@@ -1,7 +1,7 @@
 // The listings (kbucket.rs): `iter` and the three closest calls. Each writes its items to a lent output and answers how many it found.
 #![tactic(auto)]
 
-ghost use Rattle.std.specs.Prelude.{◌≡◌, true, ◌&&◌, ◌*◌, ◌≤◌, leb, length};
+ghost use Rattle.std.specs.Prelude.{◌≡◌, true, ◌*◌, ◌≤◌, length};
 ghost use Rattle.model.specs.Base.{tabulate};
 ghost use Rattle.model.specs.Table.{num_buckets};
 ghost use Rattle.model.specs.Sizes.{storage_size};
@@ -18,19 +18,10 @@ ghost use Rattle.items.specs.Shape.{size_by};
 ghost use Rattle.items.specs.Lists.{Lists, list_answer};
 ghost use Rattle.listing.specs.Listed.{closest_listing, visit_order_by, count_in, first_nodes, Put, visit_outcome, list_outcome};
 
-use items::{Form, ListAnswer, Predicate, Shape};
+use items::{Form, Predicate, Shape};
 use key::ClosestBucketsIter;
-use node::Slot;
-use storage::Layout;
+use node::{Code, Refusal, Slot};
 use visit::Visit;
-
-// Question 6, for entries of size bytes and an output of len bytes.
-fn has_output(n: usize, size: usize, len: usize) -> bool
-    requires { size ≤ 64 }
-    ensures { result ≡ (leb n max_count && leb (n * size) len) }
-{
-    n <= items::MAX_COUNT && n * size <= len
-}
 
 // The buckets in the order of the listing.
 fn visit_of(s: &[u8], shape: Shape) -> Visit
@@ -40,8 +31,8 @@ fn visit_of(s: &[u8], shape: Shape) -> Visit
     match shape {
         Shape::Nodes => Visit::InTurn(0),
         Shape::Closest(target, _) => {
-            let local = header::local_key(s);
-            Visit::Nearest(ClosestBucketsIter::new(local.distance(target)))
+            let distance = header::local_key(s).distance(target);
+            Visit::Nearest(ClosestBucketsIter::new(distance))
         }
     }
 }
@@ -73,37 +64,27 @@ fn list_visited(
     n: usize,
     time: u64,
     out: &mut [u8],
-) -> ListAnswer
+) -> Result<usize, Refusal>
     requires s_len { (length s.old ≡ storage_size) × (header_formed s.old ≡ true) }
     requires timely { Timely s.old time }
     requires visitable { Visitable (order visit) }
     requires n_le_max_count { (n ≤ max_count) × (n * size_by shape ≤ length out.old) }
     ensures { Lists (list_answer result) s.new out.new (visit_outcome shape n time (order visit) out.old s.old) }
 {
-    let queued = header::record_count(s);
-    let Some(tally) = visit::survey(s, visit, n, time) else {
-        return ListAnswer::Refused(2);
-    };
-    if Layout::MAX_RECORDS - queued < tally.records {
-        return ListAnswer::Refused(8);
-    }
+    let tally = visit::survey(s, visit, n, time).ok_or(Refusal::Form)?;
+    items::asked_queue(s, tally.records)?;
     visit::apply_all(s, visit, n, time, tally.records);
-    let found = put_all(s, visit, shape, out, tally.count);
-    ListAnswer::Found(found)
+    Ok(put_all(s, visit, shape, out, tally.count))
 }
 
 // The listing of a shape, from question 6 on.
-fn list(s: &mut [u8], shape: Shape, n: usize, time: u64, out: &mut [u8]) -> ListAnswer
+fn list(s: &mut [u8], shape: Shape, n: usize, time: u64, out: &mut [u8]) -> Result<usize, Refusal>
     requires s_len { (length s.old ≡ storage_size) × (header_formed s.old ≡ true) }
     requires timely { Timely s.old time }
     ensures { Lists (list_answer result) s.new out.new (list_outcome shape n time out.old s.old) }
 {
-    let size = items::item_size(shape);
-    if !has_output(n, size, out.len()) {
-        return ListAnswer::Refused(6);
-    }
-    let visit = visit_of(s, shape);
-    list_visited(s, visit, shape, n, time, out)
+    items::asked_output(n, shape.item_size(), out.len())?;
+    list_visited(s, visit_of(s, shape), shape, n, time, out)
 }
 
 // The closest listing of a form.
@@ -114,31 +95,30 @@ fn closest(
     n: usize,
     time: u64,
     out: &mut [u8],
-) -> ListAnswer
+) -> Result<usize, Refusal>
     ensures { Lists (list_answer result) s.new out.new (step_bytes (Call.list (closest_listing form target.now) n time out.old) s.old) }
 {
-    let codes = items::in_range(form);
-    let q = on_key::asked_at(s, target, codes, time);
-    if q != 0 {
-        return ListAnswer::Refused(q);
-    }
+    on_key::asked(s, target, form.in_range(), Some(time))?;
     let key = on_key::key_of(target);
     list(s, Shape::Closest(key, form), n, time, out)
 }
 
 // All nodes, bucket by bucket.
-pub fn iter(s: &mut [u8], n: usize, time: u64, out: &mut [u8]) -> ListAnswer
+pub fn iter(s: &mut [u8], n: usize, time: u64, out: &mut [u8]) -> Result<usize, Refusal>
     ensures { Lists (list_answer result) s.new out.new (step_bytes (Call.list Listing.iter n time out.old) s.old) }
 {
-    let q = on_key::asked_time(s, time);
-    if q != 0 {
-        return ListAnswer::Refused(q);
-    }
+    on_key::asked_time(s, time)?;
     list(s, Shape::Nodes, n, time, out)
 }
 
 // The keys of the nodes closest to the target.
-pub fn closest_keys(s: &mut [u8], target: &[u8], n: usize, time: u64, out: &mut [u8]) -> ListAnswer
+pub fn closest_keys(
+    s: &mut [u8],
+    target: &[u8],
+    n: usize,
+    time: u64,
+    out: &mut [u8],
+) -> Result<usize, Refusal>
     ensures { Lists (list_answer result) s.new out.new (step_bytes (Call.list (Listing.closest_keys target.now) n time out.old) s.old) }
 {
     closest(s, target, Form::Key, n, time, out)
@@ -151,7 +131,7 @@ pub fn closest_values(
     n: usize,
     time: u64,
     out: &mut [u8],
-) -> ListAnswer
+) -> Result<usize, Refusal>
     ensures { Lists (list_answer result) s.new out.new (step_bytes (Call.list (Listing.closest_values target.now) n time out.old) s.old) }
 {
     closest(s, target, Form::ClosestValue, n, time, out)
@@ -161,7 +141,7 @@ pub fn closest_values(
 pub fn closest_values_predicate(
     s: &mut [u8],
     target: &[u8],
-    predicate: u8,
+    predicate: Code,
     a: u8,
     b: u8,
     c: u8,
@@ -169,7 +149,7 @@ pub fn closest_values_predicate(
     n: usize,
     time: u64,
     out: &mut [u8],
-) -> ListAnswer
+) -> Result<usize, Refusal>
     ensures { Lists (list_answer result) s.new out.new (step_bytes (Call.list (Listing.closest_values_predicate target.now (record { predicate = predicate; a = a; b = b; c = c; slot = slot })) n time out.old) s.old) }
 {
     let p = Predicate {

@@ -21,15 +21,8 @@ ghost use Rattle.loaded.specs.Answer.{read_answer};
 ghost use Rattle.loaded.specs.Load.{Sized, Bucketed, Held, NoThree, octet_at, third_of, two_beside, bucket_fits, Blank, LoadedFrom};
 
 use key::Key;
-use node::Value;
+use node::{Code, Refusal, Value};
 use storage::Layout;
-
-// What the reader answers: the number of the first question that failed, or how many nodes it loaded.
-#[derive(Clone, Copy)]
-pub enum ReadAnswer {
-    Refused(u8),
-    Answered(usize),
-}
 
 // An entry of the bytes: state, direction, value.
 const ENTRY: usize = Layout::NODE - Layout::KEY;
@@ -72,7 +65,7 @@ fn build(bytes: &[u8], nodes: usize, from: usize, i: usize, s: &mut [u8], at: us
     ensures { s.new ≡ splice s.old at (loaded_bytes bytes.now i) }
 {
     let size = bytes[i];
-    let count = well_formed::size(size);
+    let count = usize::from(size);
     let first = disconnected(bytes, nodes, from, count);
     words::put_byte(s, at, size);
     words::put_byte(s, at + 1, first as u8);
@@ -106,7 +99,7 @@ fn is_crowded(s: &[u8], at: usize, count: usize) -> bool
     let mut seen = [0u8; 256];
     for j in 0..count {
         let place = at + (Layout::PLACES_AT + j * Layout::NODE);
-        let octet = well_formed::size(s[place + Layout::VALUE_AT + 3]);
+        let octet = usize::from(s[place + Layout::VALUE_AT + 3]);
         if 1 < seen[octet] {
             return true;
         }
@@ -156,7 +149,7 @@ fn built_fits(
     i: usize,
     local: Key,
     max_incoming: usize,
-    filter: u8,
+    filter: Code,
     b: &mut [u8],
 ) -> bool
     requires bucketed { Bucketed bytes.now nodes from i }
@@ -172,7 +165,7 @@ fn built_fits(
     if filter != 1 {
         return true;
     }
-    !three_of_a_net(b, 0, well_formed::size(bytes[i]))
+    !three_of_a_net(b, 0, usize::from(bytes[i]))
 }
 
 // Question 9 of bucket i of the bytes. One without nodes passes.
@@ -183,12 +176,12 @@ fn bucket_fits(
     i: usize,
     local: Key,
     max_incoming: usize,
-    filter: u8,
+    filter: Code,
 ) -> bool
     requires { Bucketed bytes.now nodes from i }
     ensures { result ≡ bucket_fits (num local) max_incoming filter bytes.now i }
 {
-    let count = well_formed::size(bytes[i]);
+    let count = usize::from(bytes[i]);
     if count == 0 {
         return true;
     }
@@ -200,7 +193,7 @@ fn bucket_fits(
 }
 
 // Question 9 of every bucket of the bytes.
-fn buckets_fit(bytes: &[u8], nodes: usize, local: Key, max_incoming: usize, filter: u8) -> bool
+fn buckets_fit(bytes: &[u8], nodes: usize, local: Key, max_incoming: usize, filter: Code) -> bool
     requires { Sized bytes.now nodes }
     ensures { result ≡ all_below num_buckets (bucket_fits (num local) max_incoming filter bytes.now) }
 {
@@ -209,7 +202,7 @@ fn buckets_fit(bytes: &[u8], nodes: usize, local: Key, max_incoming: usize, filt
         if !bucket_fits(bytes, nodes, from, i, local, max_incoming, filter) {
             return false;
         }
-        from += well_formed::size(bytes[i]);
+        from += usize::from(bytes[i]);
     }
     true
 }
@@ -259,7 +252,7 @@ fn load_fits(s: &[u8], bytes: &[u8]) -> bool
         return false;
     }
     let local = header::local_key(s);
-    let max_incoming = well_formed::size(s[Layout::MAX_INCOMING_AT]);
+    let max_incoming = usize::from(s[Layout::MAX_INCOMING_AT]);
     buckets_fit(
         bytes,
         nodes,
@@ -286,22 +279,19 @@ fn load_all(bytes: &[u8], nodes: usize, s: &mut [u8])
             s,
             Layout::HEADER + i * Layout::BUCKET,
         );
-        from += well_formed::size(bytes[i]);
+        from += usize::from(bytes[i]);
     }
 }
 
 // Loads the bytes into storage of a table that holds nothing. It answers the number of nodes loaded.
-pub fn read(s: &mut [u8], bytes: &[u8]) -> ReadAnswer
+pub fn read(s: &mut [u8], bytes: &[u8]) -> Result<usize, Refusal>
     ensures { Answers (read_answer result) s.new (step_bytes (Call.read bytes.now) s.old) }
 {
-    let q = on_key::asked_table(s);
-    if q != 0 {
-        return ReadAnswer::Refused(q);
-    }
+    on_key::asked_table(s)?;
     if !load_fits(s, bytes) {
-        return ReadAnswer::Refused(9);
+        return Err(Refusal::Load);
     }
     let nodes = saved_nodes(bytes);
     load_all(bytes, nodes, s);
-    ReadAnswer::Answered(nodes)
+    Ok(nodes)
 }

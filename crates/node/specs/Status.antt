@@ -1,5 +1,6 @@
 -- The codes of states and directions.
 use Rattle.std.specs.Prelude.{ℕ, Result, Ok, Err, cond, eqb}
+use Rattle.node.specs.declared.Refusal.{Refusal}
 use Rattle.node.specs.declared.ConnectionState.{ConnectionState}
 use Rattle.node.specs.declared.ConnectionDirection.{ConnectionDirection}
 use Rattle.node.specs.declared.ConnectionState.TheVariants.{Connected, Disconnected}
@@ -16,8 +17,8 @@ direction_code Incoming = 1
 direction_code Outgoing = 0
 
 -- the state of a code; no code but those two is in range
-abbrev pub state_of : ℕ → Result ConnectionState ℕ
-state_of x = cond (eqb x 1) (Ok Connected) (cond (eqb x 0) (Ok Disconnected) (Err 4))
+abbrev pub state_of : ℕ → Result ConnectionState Refusal
+state_of x = cond (eqb x 1) (Ok Connected) (cond (eqb x 0) (Ok Disconnected) (Err Refusal.Code))
 
-abbrev pub direction_of : ℕ → Result ConnectionDirection ℕ
-direction_of x = cond (eqb x 1) (Ok Incoming) (cond (eqb x 0) (Ok Outgoing) (Err 4))
+abbrev pub direction_of : ℕ → Result ConnectionDirection Refusal
+direction_of x = cond (eqb x 1) (Ok Incoming) (cond (eqb x 0) (Ok Outgoing) (Err Refusal.Code))

@@ -7,10 +7,51 @@ ghost use Rattle.model.specs.Node.{connected_incoming};
 ghost use Rattle.model.specs.Call.{is_one};
 ghost use Rattle.node.specs.Node.{value_of, node_of, value_codes, node_codes, zero_node, is_zero, restated, revalued};
 ghost use Rattle.node.specs.Status.{state_code, direction_code, state_of, direction_of};
+ghost use Rattle.node.specs.Refusal.{number_of};
 
 use key::Key;
 
 pub mod filter;
+
+// Why a call is refused: the first question that fails, by the names of include/kbuckets.h (01, "The gatekeeper's questions"; 02).
+#[derive(Clone, Copy, PartialEq, Eq)]
+pub enum Refusal {
+    // The storage has another length.
+    Size = 1,
+    // What the call reads of it is malformed.
+    Form = 2,
+    // A key is not 32 bytes.
+    Key = 3,
+    // A code is out of range.
+    Code = 4,
+    // The time and the pending timeout do not fit.
+    Time = 5,
+    // The count is too large, or the output too short.
+    Output = 6,
+    // The key's entry is of another kind.
+    Kind = 7,
+    // The queue has no room.
+    Queue = 8,
+    // The bytes cannot be loaded.
+    Load = 9,
+    // The windows, the closed dates or the moment are none.
+    Hours = 10,
+    // The key is new, and it is outside all windows.
+    Closed = 11,
+}
+
+impl Refusal {
+    // The number of the question.
+    pub fn number(self) -> u8
+        ensures { result ≡ number_of self }
+    {
+        self as u8
+    }
+}
+
+// A code: 0 or 1, of a direction or a state that need not be given also 2. A number and no enum, since question 4 is asked of it: a call takes any code and
+// refuses a wrong one, and behind the question the code is the byte that is stored (docs/DECISIONS.md).
+pub type Code = u8;
 
 // The number of a slot of the host's record store: 64 bits (02, slip 2).
 pub type Slot = u64;
@@ -18,7 +59,7 @@ pub type Slot = u64;
 // An optional IPv4 address and a slot of the host's record store. An absent address has flag 0 and zero octets.
 #[derive(Clone, Copy, Default)]
 pub struct Value {
-    pub flag: u8,
+    pub flag: Code,
     pub a: u8,
     pub b: u8,
     pub c: u8,
@@ -26,7 +67,7 @@ pub struct Value {
     pub slot: Slot,
 }
 
-// The connection state of a node.
+// The connection state of a node. It and the direction are the Rust's two enums; a trait for their codes would be longer than both `from_code`.
 #[derive(Clone, Copy)]
 pub enum ConnectionState {
     Connected,
@@ -44,9 +85,9 @@ pub enum ConnectionDirection {
 #[derive(Clone, Copy, PartialEq, Eq, Default)]
 pub struct NodeStatus {
     // 0 disconnected, 1 connected.
-    pub state: u8,
+    pub state: Code,
     // 0 outgoing, 1 incoming.
-    pub direction: u8,
+    pub direction: Code,
 }
 
 // A node in a bucket: a peer's key, the value that goes with it, and its status.
@@ -58,14 +99,14 @@ pub struct Node {
 }
 
 impl ConnectionState {
-    // The state of a code. Refuses a code over 1 with 4.
-    pub fn from_code(code: u8) -> Result<ConnectionState, u8>
+    // The state of a code, which is refused over 1.
+    pub fn from_code(code: Code) -> Result<ConnectionState, Refusal>
         ensures { result ≡ state_of code }
     {
         match code {
             0 => Ok(ConnectionState::Disconnected),
             1 => Ok(ConnectionState::Connected),
-            _ => Err(4),
+            _ => Err(Refusal::Code),
         }
     }
 
@@ -80,14 +121,14 @@ impl ConnectionState {
 }
 
 impl ConnectionDirection {
-    // The direction of a code. Refuses a code over 1 with 4.
-    pub fn from_code(code: u8) -> Result<ConnectionDirection, u8>
+    // The direction of a code, which is refused over 1.
+    pub fn from_code(code: Code) -> Result<ConnectionDirection, Refusal>
         ensures { result ≡ direction_of code }
     {
         match code {
             0 => Ok(ConnectionDirection::Outgoing),
             1 => Ok(ConnectionDirection::Incoming),
-            _ => Err(4),
+            _ => Err(Refusal::Code),
         }
     }
 
@@ -173,7 +214,7 @@ impl Node {
         (self.status.state <= 1) & ((self.status.direction <= 1) & value)
     }
 
-    // What an unused place holds.
+    // What an unused place holds. By a name of its own, which the contracts cite, and not `default` alone.
     pub fn zero() -> Node
         ensures { result ≡ zero_node }
     {
@@ -191,7 +232,7 @@ impl Node {
     }
 
     // The node with another status; direction 2 is none given, and the old one stays.
-    pub fn with_status(self, state: u8, direction: u8) -> Node
+    pub fn with_status(self, state: Code, direction: Code) -> Node
         ensures { result ≡ restated state direction self }
     {
         let direction = if direction == 2 {

@@ -20,15 +20,10 @@ use Rattle.laws.proofs.Tests.{cases, clash, split, same_not}
 use Rattle.laws.proofs.KeepLists.{get_nodes, get_key}
 use Rattle.laws.proofs.KeepFormed.{update_value_formed}
 use Rattle.laws.proofs.Applied.{apply_ends, apply_again}
-use Rattle.key.specs.Key.{num}
-use Rattle.node.specs.declared.Node as stored
-use Rattle.node.specs.Node.{node_of}
-use Rattle.bucket.specs.declared.Pending.{Pending}
-use Rattle.bucket.specs.declared.Pending.TheVariants.{Waiting}
 use Rattle.bucket.specs.declared.KBucket.{KBucket}
 use Rattle.bucket.specs.Bucket.{pending_of, bucket_of, Becomes}
 use Rattle.bucket.proofs.Sound.{formed_of}
-use Rattle.on_key.specs.Answers.{is_due, either_of, cleared_as, gone}
+use Rattle.on_key.specs.Answers.{is_due, either_of, gone}
 use Rattle.on_key.proofs.Due.{not_due}
 
 -- what is gone
@@ -37,14 +32,10 @@ gone_same : (k : ℕ) (p : Option PendingNode) → gone k p p ≡ []
 gone_same k none = refl
 gone_same k (some p) = refl
 
-pub gone_waits : (k : ℕ) (p q : Option PendingNode) → is_some q ≡ true → gone k p q ≡ []
+gone_waits : (k : ℕ) (p q : Option PendingNode) → is_some q ≡ true → gone k p q ≡ []
 gone_waits k none q h = refl
 gone_waits k (some p) none h = clash h refl
 gone_waits k (some p) (some q) h = refl
-
-gone_left : (k : ℕ) (p : PendingNode) (q : Option PendingNode) → is_some q ≡ false → gone k (some p) q ≡ ended p.node (cleared_as k p)
-gone_left k p none h = refl
-gone_left k p (some q) h = clash refl h
 
 -- the pending is not of key k
 abbrev Apart : ℕ → Option PendingNode → Type 0
@@ -57,17 +48,6 @@ gone_if k (some p) a true = rw a
 gone_if k (some p) a false = refl
 
 -- the record of the pending that was applied, or of the one that the step ended: not both
-pub either_first : (xs ys : List EndedPending) → (length xs ≡ 0 → ⊥) → xs ≡ either_of xs ys
-either_first [] ys h = absurd (h refl)
-either_first (x ∷ xs) ys h = refl
-
-pub either_second : (xs ys : List EndedPending) → length xs ≡ 0 → ys ≡ either_of xs ys
-either_second [] ys h = refl
-either_second (x ∷ xs) ys h = absurd (never h)
-  where
-    never : length (x ∷ xs) ≡ 0 → ⊥
-    never z = omega arith
-
 either_nothing : (xs : List EndedPending) → either_of xs [] ≡ xs ++ []
 either_nothing [] = refl
 either_nothing (x ∷ xs) = ap (λ (l : List EndedPending). x ∷ l) (sym (append-nil xs))
@@ -80,13 +60,6 @@ with_own : (s : BucketSettings) (now : ℕ) (b : Bucket) (k : ℕ) (q : Option P
     → either_of (apply_pending s now b).1 (gone k (apply_pending s now b).0.pending q) ≡ (apply_pending s now b).1 ++ gone k (apply_pending s now b).0.pending q
 with_own s now b k q =
     apply_ends s now (λ (rs : List EndedPending) (o : Option PendingNode). either_of rs (gone k o q) ≡ rs ++ gone k o q) (λ o. refl) either_nothing b
-
--- what the code tells of a pending that waited
-pub waited : (k : ℕ) (b : Pending) (n : stored.Node) (d : ℕ) → b ≡ Waiting n d → (q : Option PendingNode) → is_some q ≡ false → (t : Bool) → same (num n.key) k ≡ t
-    → ◌≡◌ {A = List EndedPending} (record { key = num n.key; ending = cond t Ending.Inserted Ending.FirstConfirmed } ∷ []) (gone k (pending_of b) q)
-waited k b n d e q h t f =
-    ap (λ (x : Bool). ended (node_of n) (cond x Ending.Inserted Ending.FirstConfirmed)) (sym f)
-    ∙ sym (gone_left k (record { node = node_of n; deadline = d }) q h) ∙ ap (λ (z : Pending). gone k (pending_of z) q) (sym e)
 
 -- nothing is due once the due pending was applied
 

@@ -26,11 +26,10 @@ use Rattle.key.specs.declared.Key.{Key}
 use Rattle.key.specs.Key.{num}
 use Rattle.held.specs.Held.{Quiet, Does, bucket_here, settings_here}
 use Rattle.held.proofs.Again.{value_keeps_none}
-use Rattle.on_key.specs.Answers.{Answers, refusal, is_due, Ready, room_for, rewritten}
+use Rattle.on_key.specs.Answers.{Answers, is_due, Ready, room_for, rewritten}
 use Rattle.on_key.specs.Start.{AtBucket}
 use Rattle.on_key.proofs.Due.{not_due}
 use Rattle.on_key.proofs.Stored.{written_back}
-use Rattle.on_key.proofs.Questions.{refusal_none, refusal_some}
 use Rattle.on_key.proofs.OneKey.{ReadFormed, hours, suits, suits_all, same_header, refused_hours, answers_in, in_done}
 
 -- a bucket without a pending
@@ -135,12 +134,11 @@ module _ (s key : List ℕ) (c : KeyCall) {k : Key} {i : ℕ} (y : AtBucket s ke
 
 -- a call that is given session hours, whose bucket is changed in place: nothing is recorded, so that question 8 passes
 module _ (s key : List ℕ) (c : KeyCall) {k : Key} {i : ℕ} (y : AtBucket s key (key_arguments c).codes (key_arguments c).now k i)
-    (d : ReadFormed s key c) (g : (key_arguments c).kind (kind_of_key key (table_of s)) ≡ true) (h : Bytes s) (w : ((table_of s).buckets i).pending ≡ none)
-    {n : ℕ} (z : first_failed (hours s key c) ≡ refusal n) where
-  pub in_place_refused : (n ≡ 0 → ⊥) → Answers (Answer.Refused n) s (step_bytes (Call.on_key key c) s)
-  in_place_refused v =
+    (d : ReadFormed s key c) (g : (key_arguments c).kind (kind_of_key key (table_of s)) ≡ true) (h : Bytes s) (w : ((table_of s).buckets i).pending ≡ none) where
+  pub in_place_refused : {n : ℕ} → some n ≡ first_failed (hours s key c) → Answers (Answer.Refused n) s (step_bytes (Call.on_key key c) s)
+  in_place_refused {n} z =
       refused_hours s key c y.passed d g y.index
-      (ap (room_for s) (none_recorded c key (table_of s) i ((table_of s).buckets i) w) ∙ room_for_none s h i y.ready) n (refusal_some n z v)
+      (ap (room_for s) (none_recorded c key (table_of s) i ((table_of s).buckets i) w) ∙ room_for_none s h i y.ready) n (sym z)
 
-  pub in_place_suits : n ≡ 0 → suits s key c ≡ true
-  in_place_suits v = suits_all s key c g (refusal_none n z v)
+  pub in_place_suits : none ≡ first_failed (hours s key c) → suits s key c ≡ true
+  in_place_suits z = suits_all s key c g (sym z)

@@ -157,9 +157,9 @@ module _ (s key : List ℕ) (c : KeyCall) where
           let q : leb (length t.queue) max_records ≡ true = le-leb _ _ (queue_fits_lem s (omega (arith, p.size)) h p.header) in
           asked_queue (reads_none i) g ∙ rw (own_acts, q)
 
-    pub refused_self : (key_arguments c).kind (kind_of_key key t) ≡ true → Bytes s → index_in t (number key) ≡ none → (n : ℕ) → first_failed hours ≡ some n
+    pub refused_self : (key_arguments c).kind (kind_of_key key t) ≡ true → Bytes s → index_in t (number key) ≡ none → {n : ℕ} → some n ≡ first_failed hours
         → Answers (Answer.Refused n) s (step_bytes call s)
-    refused_self g h i n z = refused_bytes call s n (own_asked_last i h g ∙ z)
+    refused_self g h i {n} z = refused_bytes call s n (own_asked_last i h g ∙ sym z)
 
     module _ (g : suits ≡ true) where
       pub answers_self : Bytes s → index_in t (number key) ≡ none → Answers (own_answer c) s (step_bytes call s)

@@ -1,47 +1,47 @@
 -- The steps that the calls on one key share.
-use Prim.Native.Nat.{ℕ, ◌+◌, ◌<◌}
+use Rattle.std.specs.Prelude as code
+use Rattle.std.specs.Prelude.{Result, Ok, Err, Some, None}
+use Prim.Native.Nat.{ℕ, ◌+◌, ◌^◌, ◌<◌}
 use native.Mathlib.Omega.{arith}
-use mathlib.Core.Path.{◌≡◌, sym, ap, ◌∙◌, subst}
+use mathlib.Core.Path.{◌≡◌, sym, ap, ◌∙◌}
 use mathlib.Core.Bool.{Bool, true, cond}
 use mathlib.Core.List.{List, [], ◌∷◌}
 use mathlib.Core.Option.{Option, none, some}
 use borrow.Author.Tests.{leb-true, eqb-true}
 use lib.ListN.{length}
-use Rattle.model.specs.Bytes.{number}
 use Rattle.model.specs.Bucket.{Bucket, BucketSettings}
-use Rattle.model.specs.Table.{num_buckets, index_in}
+use Rattle.model.specs.Table.{num_buckets}
 use Rattle.model.specs.Sizes.{key_size, storage_size}
 use Rattle.model.specs.Layout.{table_of}
-use Rattle.model.specs.Formed.{bucket_formed_at, formed}
+use Rattle.model.specs.Formed.{formed}
 use Rattle.laws.proofs.TableBytes.{header_passes, bucket_passes}
 use Rattle.laws.proofs.Questions.{front_fails, front_passes}
+use Rattle.key.specs.declared.Key.{Key}
+use Rattle.node.specs.declared.Refusal.{Refusal}
+use Rattle.node.specs.Refusal.{number_of}
 use Rattle.bucket.specs.declared.KBucket.{KBucket}
 use Rattle.bucket.specs.Bucket.{bucket_of, settings_of, Becomes, Sound}
 use Rattle.bucket.proofs.Steps.{told, then_becomes}
-use Rattle.on_key.specs.declared.Start.{Start}
 use Rattle.on_key.specs.Answers.{first_five, failed_of_five, Ready, Timely}
-use Rattle.on_key.specs.Start.{own_formed, key_formed, failed_at_start, Located, Begun}
+use Rattle.on_key.specs.Start.{key_formed, failed_at_start, Located, Begun}
 use Rattle.on_key.proofs.Questions.{passed_five}
 
 -- every bucket of formed storage is ready
 pub ready_at : (s : List ℕ) (i : ℕ) → length s ≡ storage_size → formed s ≡ true → i < num_buckets → Ready s i
 ready_at s i l f m = record { size = l; header = header_passes s f; below = m; bucket = bucket_passes s f i m }
 
--- the key's bucket, with what it was asked
-pub key_formed_lem : (s key : List ℕ) {i : ℕ} {q : Bool} → index_in (table_of s) (number key) ≡ some i → q ≡ bucket_formed_at s i → key_formed s key ≡ q
-key_formed_lem s key j e = ap (own_formed s) j ∙ sym e
-
 module _ (s : List ℕ) (key : List ℕ) (codes : Bool) (now : Option ℕ) (e : failed_of_five key codes now s ≡ none) where
   pub key_length : length key ≡ key_size
   key_length = eqb-true _ _ (passed_five s key codes now e).key_size_lem
 
   -- how a call starts, where questions 1 to 5 have passed
-  pub begun_at : (r : Start) → Located s key r → Begun s key codes now r
+  pub begun_at : (r : Result (code.Option (Key × ℕ)) Refusal) → Located s key r → Begun s key codes now r
   unfolding failed_of_five failed_at_start
-  begun_at (Start.Refused q) l =
-      front_passes (first_five key codes now s) ((2, key_formed s key) ∷ []) e ∙ ap (λ (b : Bool). cond b none (some 2)) l.1 ∙ ap some (sym l.0)
-  begun_at Start.Local l = (e, l)
-  begun_at (Start.At k i) l = record { passed = e; key_is = l.key_is; index = l.index; ready = l.ready }
+  begun_at (Err r) l =
+      front_passes (first_five key codes now s) ((2, key_formed s key) ∷ []) e ∙ ap (λ (b : Bool). cond b none (some 2)) l.1
+      ∙ ap (λ (q : Refusal). some (number_of q)) (sym l.0)
+  begun_at (Ok None) l = (e, l)
+  begun_at (Ok (Some x)) l = record { passed = e; key_is = l.key_is; index = l.index; ready = l.ready }
 
 -- a question of 1 to 5 that failed
 pub begun_refused : (s key : List ℕ) (codes : Bool) (now : Option ℕ) (n : ℕ) → failed_of_five key codes now s ≡ some n → failed_at_start key codes now s ≡ some n
@@ -52,9 +52,9 @@ pub timely : (s key : List ℕ) (codes : Bool) (time : ℕ) → failed_of_five k
 timely s key codes time e =
     let p = leb-true (time + (table_of s).settings.bucket.pending_timeout) 18446744073709551615 (passed_five s key codes (some time) e).in_time_lem in omega (arith, p)
 
--- how a call started, by the codes that it is asked and by what was answered
-pub begun : (s key : List ℕ) (now : Option ℕ) {codes codes' : Bool} {r v : Start} → codes ≡ codes' → Begun s key codes now r → r ≡ v → Begun s key codes' now v
-begun s key now {codes} {codes'} {r} {v} e b f = subst (Begun s key codes' now) f (subst (λ (q : Bool). Begun s key q now r) e b)
+-- a new pending's deadline fits in a bucket of the storage's settings
+pub timely_there : (s : List ℕ) (time : ℕ) {m : Bucket} {b : KBucket} → Becomes (table_of s).settings.bucket m b → Timely s time → time + b.pending_timeout < 2 ^ 64
+timely_there s time x t = omega (arith, ap (λ (c : BucketSettings). c.pending_timeout) x.settings)
 
 -- a step on a bucket by value, as a step on the model's bucket, with the key as the bytes that were given
 pub record Stepped (A : Type 0) (x : A × Bucket) (a : A) (r : KBucket) : Type 0 where

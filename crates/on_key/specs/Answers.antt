@@ -1,5 +1,6 @@
 -- What an entry point of the table owes, and the parts in which a call on one key is carried out.
-use Rattle.std.specs.Prelude.{ℕ, ◌+◌, ◌^◌, ◌<◌, ◌≡◌, Bool, true, false, cond, List, [], ◌∷◌, length, eqb, leb}
+use Rattle.std.specs.Prelude as prelude
+use Rattle.std.specs.Prelude.{Result, ℕ, ◌+◌, ◌^◌, ◌<◌, ◌≡◌, Bool, true, false, cond, List, [], ◌∷◌, length, eqb, leb}
 use Rattle.std.proofs.Math.Option.{Option, none, some}
 use Rattle.model.specs.Base.{same}
 use Rattle.model.specs.Node.{PendingNode, Ending, EndedPending, ended}
@@ -11,10 +12,11 @@ use Rattle.model.specs.Layout.{table_of}
 use Rattle.model.specs.Formed.{header_formed, bucket_formed_at, formed}
 use Rattle.model.specs.Question.{first_failed, deadline_fits}
 use Rattle.model.specs.StepBytes.{BytesOutcome, Replied, restore}
+use Rattle.node.specs.declared.Refusal.{Refusal}
+use Rattle.node.specs.Refusal.{answer_of}
 use Rattle.bucket.specs.declared.KBucket.{KBucket}
 use Rattle.bucket.specs.declared.EndedPending as code
-use Rattle.bucket.specs.declared.UpdateAnswer.{UpdateAnswer}
-use Rattle.bucket.specs.declared.UpdateAnswer.TheVariants as update-answer
+use Rattle.bucket.specs.declared.UpdateResult.{UpdateResult}
 use Rattle.bucket.specs.Bucket.{Becomes}
 use Rattle.bucket.specs.Calls.{records_of, applied_codes, update_result_of}
 
@@ -29,13 +31,8 @@ pub record Replies (a : Reply ℕ) (out : List ℕ) (x : Replied) : Type 0 where
   pub output : out ≡ x.output
 
 -- what an update answers
-abbrev pub update_answer : UpdateAnswer → Answer
-update_answer (update-answer.Refused q) = Answer.Refused q
-update_answer (update-answer.Answered r) = Answer.Update (update_result_of r)
-
--- the question that a number stands for; 0 is none
-abbrev pub refusal : ℕ → Option ℕ
-refusal n = cond (eqb n 0) none (some n)
+abbrev pub update_answer : Result UpdateResult Refusal → Answer
+update_answer = answer_of (λ r. Answer.Update (update_result_of r))
 
 -- 01, questions 1 and 2 of a call that is handed a table; 02, slip 7: 2 of the settings and the queue
 abbrev pub first_two : List ℕ → List (ℕ × Bool)
@@ -89,7 +86,7 @@ is_due now none = false
 is_due now (some p) = leb p.deadline now
 
 -- bucket i after a due pending was applied, and the record of it
-pub record AppliedAt (s : List ℕ) (i now : ℕ) (b : KBucket) (a : code.EndedPending) : Type 0 where
+pub record AppliedAt (s : List ℕ) (i now : ℕ) (b : KBucket) (a : prelude.Option code.EndedPending) : Type 0 where
   pub bucket : Becomes (table_of s).settings.bucket (apply_pending (table_of s).settings.bucket now ((table_of s).buckets i)).0 b
   pub records : records_of a ≡ (apply_pending (table_of s).settings.bucket now ((table_of s).buckets i)).1
   pub codes : applied_codes a ≡ true

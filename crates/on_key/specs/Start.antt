@@ -1,5 +1,6 @@
 -- How a call on one key starts: the question that fails, the local key, or the key's bucket.
-use Rattle.std.specs.Prelude.{ℕ, ◌≡◌, Bool, true, false, List, [], ◌∷◌, ◌++◌}
+use Rattle.std.specs.Prelude as code
+use Rattle.std.specs.Prelude.{Result, Ok, Err, Some, None, ℕ, ◌≡◌, Bool, true, false, List, [], ◌∷◌, ◌++◌}
 use Rattle.std.proofs.Math.Option.{Option, none, some}
 use Rattle.model.specs.Bytes.{number}
 use Rattle.model.specs.Table.{index_in}
@@ -8,7 +9,8 @@ use Rattle.model.specs.Formed.{bucket_formed_at}
 use Rattle.model.specs.Question.{first_failed}
 use Rattle.key.specs.declared.Key.{Key}
 use Rattle.key.specs.Key.{num}
-use Rattle.on_key.specs.declared.Start.{Start}
+use Rattle.node.specs.declared.Refusal.{Refusal}
+use Rattle.node.specs.Refusal.{number_of}
 use Rattle.on_key.specs.Answers.{first_five, failed_of_five, Ready}
 
 -- 02, slip 7: question 2 of the key's own bucket; the local key has none
@@ -30,10 +32,10 @@ pub record OfBucket (s key : List ℕ) (k : Key) (i : ℕ) : Type 0 where
   pub ready : Ready s i
 
 -- where questions 1 to 5 have passed: question 2 of the key's bucket, the local key, or the bucket
-abbrev pub Located : List ℕ → List ℕ → Start → Type 0
-Located s key (Start.Refused q) = (q ≡ 2) × (key_formed s key ≡ false)
-Located s key Start.Local = index_in (table_of s) (number key) ≡ none
-Located s key (Start.At k i) = OfBucket s key k i
+abbrev pub Located : List ℕ → List ℕ → Result (code.Option (Key × ℕ)) Refusal → Type 0
+Located s key (Err r) = (r ≡ Refusal.Form) × (key_formed s key ≡ false)
+Located s key (Ok None) = index_in (table_of s) (number key) ≡ none
+Located s key (Ok (Some (k, i))) = OfBucket s key k i
 
 -- no question failed, and the key is of bucket i
 pub record AtBucket (s key : List ℕ) (codes : Bool) (now : Option ℕ) (k : Key) (i : ℕ) : Type 0 where
@@ -42,7 +44,7 @@ pub record AtBucket (s key : List ℕ) (codes : Bool) (now : Option ℕ) (k : Ke
   pub index : index_in (table_of s) (number key) ≡ some i
   pub ready : Ready s i
 
-abbrev pub Begun : List ℕ → List ℕ → Bool → Option ℕ → Start → Type 0
-Begun s key codes now (Start.Refused q) = failed_at_start key codes now s ≡ some q
-Begun s key codes now Start.Local = (failed_of_five key codes now s ≡ none) × (index_in (table_of s) (number key) ≡ none)
-Begun s key codes now (Start.At k i) = AtBucket s key codes now k i
+abbrev pub Begun : List ℕ → List ℕ → Bool → Option ℕ → Result (code.Option (Key × ℕ)) Refusal → Type 0
+Begun s key codes now (Err r) = failed_at_start key codes now s ≡ some (number_of r)
+Begun s key codes now (Ok None) = (failed_of_five key codes now s ≡ none) × (index_in (table_of s) (number key) ≡ none)
+Begun s key codes now (Ok (Some (k, i))) = AtBucket s key codes now k i

@@ -13,7 +13,7 @@ ghost use Rattle.node.specs.Node.{value_of, node_of, zero_node, is_zero};
 ghost use Rattle.places.specs.Places.{position, insert_at, remove_at, in_state, different};
 
 use key::Key;
-use node::{Node, Value};
+use node::{Code, Node, Value};
 
 // Internal: the place, from `from` on and below n, of the node with this key, or n.
 pub fn position(nodes: [Node; 16], from: usize, n: usize, key: Key) -> usize
@@ -100,7 +100,7 @@ pub fn in_places(nodes: [Node; 16], first: usize, n: usize) -> bool
         && nodes[n..].iter().all(|node| node.is_zero())
 }
 
-fn has_state(node: Node, state: u8) -> bool
+fn has_state(node: Node, state: Code) -> bool
     ensures value { result ≡ in_state state node }
     ensures words { Words node.key }
 {

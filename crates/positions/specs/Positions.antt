@@ -1,10 +1,10 @@
 -- The nodes of the positions, and a bucket into which several of them are inserted.
-use Rattle.std.specs.Prelude.{ℕ, zero, suc, Bool, true, false, List, [], ◌∷◌}
-use Rattle.std.proofs.Math.Option.{Option, none, some}
+use Rattle.std.specs.Prelude.{ℕ, zero, suc, Bool, false, List, [], ◌∷◌}
+use Rattle.std.proofs.Math.Option.{Option}
 use Rattle.model.specs.Base.{same}
 use Rattle.model.specs.Key.{bucket_index}
 use Rattle.model.specs.Node.{EndedPending}
-use Rattle.model.specs.Result.{BucketInsertResult, UpdateResult, Reply}
+use Rattle.model.specs.Result.{BucketInsertResult, Reply}
 use Rattle.key.specs.declared.Key.{Key}
 use Rattle.key.specs.Key.{num}
 use Rattle.node.specs.declared.Value.{Value}
@@ -40,23 +40,6 @@ unfoldable pub filled : ℕ → ℕ → ℕ → KBucket → KBucket
 filled zero k state b = b
 filled (suc n) k state b = filled n (suc k) state (insert_call b (node_from k plain state 0) 0).1
 
--- The answers as numbers and tests.
-
--- the index, or 256 for none
-abbrev pub index_number : Option ℕ → ℕ
-index_number none = 256
-index_number (some i) = i
-
--- the number of the question that failed, or 10 and more for a result
-abbrev pub insert_number : Reply BucketInsertResult → ℕ
-insert_number (Reply.Refused q) = q
-insert_number (Reply.Answered BucketInsertResult.Inserted) = 10
-insert_number (Reply.Answered (BucketInsertResult.Pending k)) = 11
-insert_number (Reply.Answered BucketInsertResult.FailedFilter) = 12
-insert_number (Reply.Answered BucketInsertResult.TooManyIncoming) = 13
-insert_number (Reply.Answered BucketInsertResult.Full) = 14
-insert_number (Reply.Answered BucketInsertResult.NodeExists) = 15
-
 -- a pending that names the node of this key
 abbrev pub names_key : ℕ → Reply BucketInsertResult → Bool
 names_key k (Reply.Refused q) = false
@@ -66,20 +49,6 @@ names_key k (Reply.Answered BucketInsertResult.FailedFilter) = false
 names_key k (Reply.Answered BucketInsertResult.TooManyIncoming) = false
 names_key k (Reply.Answered BucketInsertResult.Full) = false
 names_key k (Reply.Answered BucketInsertResult.NodeExists) = false
-
-abbrev pub update_number : Reply UpdateResult → ℕ
-update_number (Reply.Refused q) = q
-update_number (Reply.Answered UpdateResult.Updated) = 10
-update_number (Reply.Answered UpdateResult.UpdatedAndPromoted) = 11
-update_number (Reply.Answered UpdateResult.UpdatedPending) = 12
-update_number (Reply.Answered (UpdateResult.Failed r)) = 13
-update_number (Reply.Answered UpdateResult.NotModified) = 14
-
--- no pending was ended
-abbrev pub none_applied : Reply (List EndedPending) → Bool
-none_applied (Reply.Refused q) = false
-none_applied (Reply.Answered []) = true
-none_applied (Reply.Answered (r ∷ rs)) = false
 
 -- the pending of this key was ended: placed or dropped
 abbrev pub applied_key : ℕ → Reply (List EndedPending) → Bool

@@ -1,24 +1,27 @@
 -- The reason of a step on a bucket, by the tests on the way.
 use Prim.Native.Nat.{ℕ, ◌≤◌, ◌<◌}
-use mathlib.Core.Path.{◌≡◌, sym, ap, ◌∙◌, subst}
-use mathlib.Core.Bool.{Bool, true, false, cond, ◌&&◌}
-use mathlib.Core.List.{List, [], ◌∷◌}
+use mathlib.Core.Path.{◌≡◌, refl, sym, ap, ◌∙◌}
+use mathlib.Core.Bool.{Bool, true, false, not, cond, ◌&&◌}
 use mathlib.Core.Option.{Option, none, some}
-use lib.Dec.{eqb}
 use borrow.Author.Tests.{le-leb}
+use Rattle.std.specs.Prelude.{Some}
+use Rattle.std.specs.Bool.{then_some}
 use Rattle.model.specs.Base.{same}
 use Rattle.model.specs.Value.{Value, same_value}
 use Rattle.model.specs.Node.{Node, PendingNode, with_status}
 use Rattle.model.specs.Result.{is_failed}
-use Rattle.model.specs.Bucket.{Bucket, BucketSettings, max_nodes_per_bucket, num_entries, get, holds, is_full, fails_bucket_filter, is_max_incoming, with_pending, take_out, taken_out, update_status, update_value}
-use Rattle.model.specs.Call.{is_one}
+use Rattle.model.specs.Bucket.{Bucket, BucketSettings, max_nodes_per_bucket, num_entries, get, holds, is_full, fails_bucket_filter, is_max_incoming, take_out, taken_out, update_status, update_value}
 use Rattle.model.specs.Explain.{Reason, bucket_filter_reason, incoming_limit_reason, full_reason, insert_reason, reinsert_reason, if_pending_reason, status_reason_of, status_reason, value_reason_of, value_reason, update_node_reason, insert_or_update_reason, remove_reason}
 use Rattle.laws.proofs.KeepFormed.{free_is_full}
+use Rattle.laws.proofs.Tests.{split}
 use Rattle.node.specs.Node.{value_of}
-use Rattle.bucket.specs.declared.KBucket.{KBucket}
-use Rattle.bucket.specs.declared.Pending.TheVariants.{Nothing}
-use Rattle.bucket.specs.Bucket.{key_at, bucket_of, settings_of, Sound, Becomes, repending}
-use Rattle.bucket.proofs.Steps.{unpended, then_becomes, first_at}
+use Rattle.bucket.specs.declared.FailureReason.{FailureReason}
+use Rattle.bucket.specs.declared.UpdateResult.{UpdateResult}
+use Rattle.bucket.specs.declared.UpdateResult.TheVariants as updated
+use Rattle.bucket.specs.Bucket.{bucket_of, Sound}
+use Rattle.bucket.specs.Calls.{update_result_of}
+use Rattle.explanation.specs.declared.Reason as declared
+use Rattle.explanation.specs.declared.Reason.TheVariants as reason
 use Rattle.explanation.specs.declared.Why.{Why}
 use Rattle.explanation.specs.Explanation.{reason_of, why_of}
 use Rattle.reasons.specs.Reasons.{Tells}
@@ -33,14 +36,36 @@ tells w s x e = record { reason = e; sound = s }
 pub tells_as : {w : Why} {x : Reason} (y : Reason) → x ≡ y → Tells (λ _. x) w → Tells (λ _. y) w
 tells_as y e t = record { reason = λ bs. t.reason bs ∙ e; sound = t.sound }
 
+-- a reason or none, by a test
+pub reason_if : (bs : ℕ → Bucket) (m : Bucket) (v : Value) (x : Bool) (r : declared.Reason) → reason_of bs m v (then_some x r) ≡ cond x (reason_of bs m v (Some r)) Reason.None
+reason_if bs m v true r = refl
+reason_if bs m v false r = refl
+
+-- a reason is not none
+pub some_reason : (bs : ℕ → Bucket) (m : Bucket) (v : Value) (r : declared.Reason) → reason_of bs m v (Some r) ≡ Reason.None → ⊥
+some_reason bs m v (reason.TableFilter k) e = cc e
+some_reason bs m v reason.BucketFilter e = cc e
+some_reason bs m v reason.IncomingLimit e = cc e
+some_reason bs m v reason.NewcomerDisconnected e = cc e
+some_reason bs m v reason.AllConnected e = cc e
+some_reason bs m v (reason.Pending k) e = cc e
+some_reason bs m v reason.NoSuchKey e = cc e
+some_reason bs m v reason.LocalKey e = cc e
+
+-- a step that did not fail
+pub not_failed : (r : UpdateResult) → ((x : FailureReason) → r ≡ updated.Failed x → ⊥) → is_failed (update_result_of r) ≡ false
+not_failed updated.Updated h = refl
+not_failed updated.UpdatedAndPromoted h = refl
+not_failed updated.UpdatedPending h = refl
+not_failed (updated.Failed x) h = absurd (h x refl)
+not_failed updated.NotModified h = refl
+
+-- the tests of a node that is put into the bucket
+
 module _ (s : BucketSettings) (n : Node) (b : Bucket) where
   pub reinsert_filter : fails_bucket_filter s n.value b ≡ true → bucket_filter_reason n.value b ≡ reinsert_reason s n b
   unfolding reinsert_reason
   reinsert_filter e = rw e
-
-  pub insert_filter : fails_bucket_filter s n.value b ≡ true → bucket_filter_reason n.value b ≡ insert_reason s n b
-  unfolding insert_reason
-  insert_filter e = rw e
 
   module _ (fine : fails_bucket_filter s n.value b ≡ false) where
     pub reinsert_many : is_max_incoming s n b ≡ true → incoming_limit_reason b ≡ reinsert_reason s n b
@@ -51,34 +76,20 @@ module _ (s : BucketSettings) (n : Node) (b : Bucket) where
     unfolding reinsert_reason
     reinsert_placed e = rw (fine, e)
 
-    pub insert_many : is_max_incoming s n b ≡ true → incoming_limit_reason b ≡ insert_reason s n b
-    unfolding insert_reason
-    insert_many e = rw (fine, e)
+-- an insert is asked the same, and then whether the bucket is full
 
-    module _ (low : is_max_incoming s n b ≡ false) where
-      pub insert_placed : num_entries b < max_nodes_per_bucket → Reason.None ≡ insert_reason s n b
-      unfolding insert_reason
-      insert_placed h = rw (fine, low, free_is_full b h)
+module _ (s : BucketSettings) (n : Node) (b : Bucket) where
+  pub insert_full_lem : Reason.None ≡ reinsert_reason s n b → max_nodes_per_bucket ≤ num_entries b → full_reason n.connected b.disconnected b.pending ≡ insert_reason s n b
+  unfolding reinsert_reason insert_reason is_full
+  insert_full_lem e h =
+      split (fails_bucket_filter s n.value b) (λ f. absurd (cc (rw f at e)))
+      (λ f. split (is_max_incoming s n b) (λ m. absurd (cc (rw (f, m) at e))) (λ m. rw (f, m, le-leb max_nodes_per_bucket (num_entries b) h)))
 
-      pub insert_full_lem : max_nodes_per_bucket ≤ num_entries b → full_reason n.connected b.disconnected b.pending ≡ insert_reason s n b
-      unfolding insert_reason is_full
-      insert_full_lem h = rw (fine, low, le-leb max_nodes_per_bucket (num_entries b) h)
-
--- 16 held
-
-pub full_disconnected : (u : Bool) (ds : List Node) (p : Option PendingNode) → u ≡ false → Reason.NewcomerDisconnected ≡ full_reason u ds p
-full_disconnected u ds p e = rw e
-
-module _ (u : Bool) (ds : List Node) (p : Option PendingNode) (e : u ≡ true) where
-  pub full_connected : ds ≡ [] → Reason.AllConnected ≡ full_reason u ds p
-  full_connected f = rw (e, f)
-
-  module _ (d : Node) (rest : List Node) (f : ds ≡ d ∷ rest) where
-    pub full_pending : (q : PendingNode) → p ≡ some q → Reason.Pending q.node.key ≡ full_reason u ds p
-    full_pending q g = rw (e, f, g)
-
-    pub full_none : p ≡ none → Reason.None ≡ full_reason u ds p
-    full_none g = rw (e, f, g)
+  pub insert_tested : {x : Reason} → x ≡ reinsert_reason s n b → (x ≡ Reason.None → num_entries b < max_nodes_per_bucket) → x ≡ insert_reason s n b
+  unfolding reinsert_reason insert_reason
+  insert_tested e h =
+      split (fails_bucket_filter s n.value b) (λ f. e ∙ rw f)
+      (λ f. split (is_max_incoming s n b) (λ m. e ∙ rw (f, m)) (λ m. e ∙ rw (f, m, free_is_full b (h (e ∙ rw (f, m))))))
 
 -- a key that is not held
 
@@ -104,18 +115,6 @@ module _ (s : BucketSettings) (k : ℕ) (u : Bool) (d : Option Bool) (b : Bucket
   unfolding status_reason
   status_absent e = ap (status_reason_of s k u d b) (sym e)
 
--- the bucket that the status step puts the node at place pos into
-pub taken_out_lem : (b : KBucket) → Sound b → (pos : ℕ) → pos < b.count → (state : ℕ) {left rest : KBucket}
-    → Becomes (settings_of b) (take_out (key_at b pos) (bucket_of b)) left → rest ≡ repending (cond (eqb state 1 && eqb pos 0) Nothing left.pending) left
-    → Becomes (settings_of b) (taken_out (key_at b pos) (is_one state) (bucket_of b)) rest
-taken_out_lem b s pos h state {left} {rest} x e =
-    let go : Bool = eqb state 1 && eqb pos 0 in
-    let p = (bucket_of b).pending in
-    let y = unpended left x.sound go p (ap (λ (m : Bucket). m.pending) (sym x.bucket)) in
-    let z = subst (Becomes (settings_of left) (with_pending (cond go none p) (bucket_of left))) (sym e) y in
-    subst (λ (t : Bool). Becomes (settings_of b) (with_pending (cond (eqb state 1 && t) none p) (take_out (key_at b pos) (bucket_of b))) rest) (sym (first_at b s pos h))
-    (then_becomes x (λ (s' : BucketSettings) (m : Bucket). with_pending (cond go none p) m) z)
-
 -- the value step
 
 module _ (s : BucketSettings) (k : ℕ) (v : Value) (b : Bucket) where
@@ -123,19 +122,12 @@ module _ (s : BucketSettings) (k : ℕ) (v : Value) (b : Bucket) where
   unfolding value_reason
   value_absent e = ap (value_reason_of s k v b) (sym e)
 
-  module _ (n : Node) (e : get k b ≡ some n) where
-    pub value_same : same_value n.value v ≡ true → Reason.None ≡ value_reason s k v b
-    unfolding value_reason
-    value_same h = sym (ap (value_reason_of s k v b) e ∙ rw h)
-
-    module _ (new : same_value n.value v ≡ false) where
-      pub value_fails : fails_bucket_filter s v (take_out k b) ≡ true → bucket_filter_reason v (take_out k b) ≡ value_reason s k v b
-      unfolding value_reason
-      value_fails h = sym (ap (value_reason_of s k v b) e ∙ rw (new, h))
-
-      pub value_changes : fails_bucket_filter s v (take_out k b) ≡ false → Reason.None ≡ value_reason s k v b
-      unfolding value_reason
-      value_changes h = sym (ap (value_reason_of s k v b) e ∙ rw (new, h))
+  pub value_tested : (n : Node) → get k b ≡ some n → (x : Bool) → x ≡ (not (same_value n.value v) && fails_bucket_filter s v (take_out k b))
+      → cond x (bucket_filter_reason v (take_out k b)) Reason.None ≡ value_reason s k v b
+  unfolding value_reason
+  value_tested n e x f =
+      split (same_value n.value v) (λ q. rw (f, e, q))
+      (λ q. split (fails_bucket_filter s v (take_out k b)) (λ r. rw (f, e, q, r)) (λ r. rw (f, e, q, r)))
 
 -- the two steps of update_node and of insert_or_update
 
@@ -169,11 +161,7 @@ module _ (s : BucketSettings) (n : Node) (b : Bucket) where
     unfolding insert_or_update_reason
     updates e = rw (held, e)
 
-module _ (k : ℕ) (b : Bucket) where
-  pub removes : holds k b ≡ true → Reason.None ≡ remove_reason k b
-  unfolding remove_reason
-  removes e = rw e
-
-  pub removes_none : holds k b ≡ false → Reason.NoSuchKey ≡ remove_reason k b
-  unfolding remove_reason
-  removes_none e = rw e
+pub removes : (k : ℕ) (b : Bucket) (x : Bool) → x ≡ holds k b → cond (not x) Reason.NoSuchKey Reason.None ≡ remove_reason k b
+unfolding remove_reason
+removes k b true e = rw (← e)
+removes k b false e = rw (← e)

@@ -11,9 +11,10 @@ mod checksum;
 mod names;
 mod record;
 
+use crate::names::{CALLS, NAMES};
 use bucket::KBucket;
-use std::io;
 use std::io::Read;
+use std::{fmt, io};
 use storage::Layout;
 
 const MOST: u64 = 100_000;
@@ -36,21 +37,31 @@ fn output() -> [u8; OUTPUT] {
 }
 
 // How many calls agree, by call.
-fn no_counts() -> [u64; 24]
+fn no_counts() -> [u64; CALLS]
     ensures { 24 ≡ length result }
 {
-    [0; 24]
+    [0; CALLS]
 }
 
+// The code that a call returns, a number as C sees it, or none where the record cannot be read; and the checksum of what the call may write.
 #[derive(Clone, Copy, PartialEq, Eq)]
 struct Answer {
-    code: u64,
+    code: Option<u32>,
     sum: u64,
+}
+
+impl fmt::Display for Answer {
+    fn fmt<W: fmt::Write>(&self, f: &mut fmt::Formatter<W>) -> fmt::Result {
+        match self.code {
+            Some(code) => write!(f, "code {code} and checksum {:016x}", self.sum),
+            None => write!(f, "no code and checksum {:016x}", self.sum),
+        }
+    }
 }
 
 fn expected(r: &[u8]) -> Answer {
     Answer {
-        code: record::number_of_four(r, record::CODE_AT),
+        code: Some(record::number_of_four(r, record::CODE_AT)),
         sum: record::number_of_eight(r, record::SUM_AT),
     }
 }
@@ -59,32 +70,10 @@ fn expected(r: &[u8]) -> Answer {
 fn found(r: &[u8], s: &mut [u8], out: &mut [u8]) -> Answer {
     let room = record::number_of_four(r, record::ROOM_AT) as usize;
     calls::fill(out, room);
-    let code = u64::from(calls::made(r, s, out));
+    let code = calls::made(r, s, out);
     let written = checksum::checksum(checksum::BASIS, s, s.len());
     let sum = checksum::checksum(written, out, room);
     Answer { code, sum }
-}
-
-fn say(rt: &impl Print, answer: Answer) -> io::Result<()> {
-    let code = answer.code;
-    let sum = answer.sum;
-    print!(rt; "code {code} and checksum {sum:016x}")
-}
-
-fn say_parted(
-    rt: &impl Print,
-    number: u64,
-    call: u8,
-    wanted: Answer,
-    got: Answer,
-) -> io::Result<()> {
-    print!(rt; "record {number}: ")?;
-    names::name(rt, call)?;
-    print!(rt; " expected ")?;
-    say(rt, wanted)?;
-    print!(rt; ", found ")?;
-    say(rt, got)?;
-    println!(rt;)
 }
 
 fn agrees_on(
@@ -99,7 +88,11 @@ fn agrees_on(
     if wanted == got {
         return Ok(true);
     }
-    say_parted(rt, number, record::byte(r, 0), wanted, got)?;
+    let name = NAMES
+        .get(usize::from(record::byte(r, 0)))
+        .copied()
+        .unwrap_or("");
+    println!(rt; "record {number}: {name:24} expected {wanted}, found {got}")?;
     Ok(false)
 }
 
@@ -124,21 +117,11 @@ fn count(counts: &mut [u64], call: usize) {
     }
 }
 
-fn say_count(rt: &impl Print, call: u8, n: u64) -> io::Result<()> {
-    names::name(rt, call)?;
-    println!(rt; " {n}")
-}
-
-fn say_end(rt: &impl Print, number: u64, list: u64) -> io::Result<()> {
-    println!(rt; "{number} records agree; the list has checksum {list:016x}")
-}
-
 fn say_counts(rt: &impl Print, counts: &[u64], number: u64, list: u64) -> io::Result<()> {
-    for call in 0..24u8 {
-        let n = counts.get(usize::from(call)).copied().unwrap_or(0);
-        say_count(rt, call, n)?;
+    for (name, n) in NAMES.iter().zip(counts) {
+        println!(rt; "{name:24} {n}")?;
     }
-    say_end(rt, number, list)
+    println!(rt; "{number} records agree; the list has checksum {list:016x}")
 }
 
 // Reads until buf is full or the input ends, and returns how many bytes it put at the start of buf. A `while`,

@@ -18,7 +18,7 @@
 //        1 byte each; then 13 numbers of windows and 7 of closed dates, 2 bytes each
 ghost use Rattle.std.specs.Prelude.{◌≡◌, ◌+◌, ◌*◌, ◌≤◌, length};
 
-use node::{Slot, Value};
+use node::{Code, Slot, Value};
 
 // Where the fields stand behind the four octets.
 pub(crate) const SLOT_AT: usize = 42;
@@ -49,9 +49,9 @@ pub(crate) const WRITTEN: usize = BYTES - REST_AT;
 
 #[derive(Clone, Copy)]
 pub struct Arguments {
-    pub state: u8,
-    pub direction: u8,
-    pub flag: u8,
+    pub state: Code,
+    pub direction: Code,
+    pub flag: Code,
     pub a: u8,
     pub b: u8,
     pub c: u8,
@@ -63,6 +63,28 @@ pub struct Arguments {
     pub month: u16,
     pub day: u16,
     pub minute: u16,
+}
+
+impl Arguments {
+    // Those of a record.
+    pub(crate) fn of(r: &[u8]) -> Arguments {
+        Arguments {
+            state: byte(r, 35),
+            direction: byte(r, 36),
+            flag: byte(r, 37),
+            a: byte(r, 38),
+            b: byte(r, 39),
+            c: byte(r, 40),
+            d: byte(r, 41),
+            slot: number_of_eight(r, SLOT_AT),
+            time: number_of_eight(r, TIME_AT),
+            n: number_of_eight(r, COUNT_AT) as usize,
+            year: number_of_two(r, COUNT_AT),
+            month: number_of_two(r, COUNT_AT + 2),
+            day: number_of_two(r, COUNT_AT + 4),
+            minute: number_of_two(r, COUNT_AT + 6),
+        }
+    }
 }
 
 // A record, empty.
@@ -89,8 +111,8 @@ pub(crate) fn number_of_eight(r: &[u8], at: usize) -> u64 {
 }
 
 // The number of the four bytes at a place that four more follow.
-pub(crate) fn number_of_four(r: &[u8], at: usize) -> u64 {
-    number_of_eight(r, at) / 0x1_0000_0000
+pub(crate) fn number_of_four(r: &[u8], at: usize) -> u32 {
+    (number_of_eight(r, at) / 0x1_0000_0000) as u32
 }
 
 // The number of the two bytes at a place.
@@ -99,25 +121,6 @@ pub(crate) fn number_of_two(r: &[u8], at: usize) -> u16 {
         return 0;
     }
     u16::from_be_bytes([byte(r, at), byte(r, at + 1)])
-}
-
-pub(crate) fn read_arguments(r: &[u8]) -> Arguments {
-    Arguments {
-        state: byte(r, 35),
-        direction: byte(r, 36),
-        flag: byte(r, 37),
-        a: byte(r, 38),
-        b: byte(r, 39),
-        c: byte(r, 40),
-        d: byte(r, 41),
-        slot: number_of_eight(r, SLOT_AT),
-        time: number_of_eight(r, TIME_AT),
-        n: number_of_eight(r, COUNT_AT) as usize,
-        year: number_of_two(r, COUNT_AT),
-        month: number_of_two(r, COUNT_AT + 2),
-        day: number_of_two(r, COUNT_AT + 4),
-        minute: number_of_two(r, COUNT_AT + 6),
-    }
 }
 
 // N numbers of two bytes, one behind the other from a place on.

@@ -25,8 +25,7 @@ use Rattle.laws.proofs.Questions.{front_fails, front_passes}
 use Rattle.words.proofs.Words.{set_more}
 use Rattle.on_key.specs.Answers.{Replies, whole_table, failed_of_table}
 use Rattle.saved.specs.declared.Field.{Field}
-use Rattle.saved.specs.declared.WriteAnswer.{WriteAnswer}
-use Rattle.saved.specs.Fields.{write_answer_of, field_bytes, field_size, Appended}
+use Rattle.saved.specs.Fields.{field_bytes, field_size, Appended}
 use Rattle.saved.proofs.Fields.{length_fields}
 
 -- one size more is put
@@ -74,9 +73,9 @@ module _ (out s : List ℕ) where
   abbrev told : Option ℕ → Replied
   told o = tell_unless_refused o (length (all_nodes (table_of s))) (saved (table_of s)) out
 
-  pub refused_early : {n : ℕ} → failed_of_table s ≡ some n → Replies (write_answer_of (WriteAnswer.Refused n)) out (write_bytes out s)
+  pub refused_early : (n : ℕ) → failed_of_table s ≡ some n → Replies (Reply.Refused n) out (write_bytes out s)
   unfolding write_bytes failed_of_table
-  refused_early {n} e =
+  refused_early n e =
       let f = sym (front_fails (whole_table s) ((6, room) ∷ []) n e) in
       record { answer = ap (λ (o : Option ℕ). (told o).answer) f; output = ap (λ (o : Option ℕ). (told o).output) f }
 
@@ -85,14 +84,14 @@ module _ (out s : List ℕ) where
     unfolding write_bytes failed_of_table
     last_asked = ap told (front_passes (whole_table s) ((6, room) ∷ []) e)
 
-    pub refused_short : length out < num_buckets + length (all_nodes (table_of s)) * node_size → Replies (write_answer_of (WriteAnswer.Refused 6)) out (write_bytes out s)
+    pub refused_short : length out < num_buckets + length (all_nodes (table_of s)) * node_size → Replies (Reply.Refused 6) out (write_bytes out s)
     refused_short h =
         let f = lt-leb (length (saved (table_of s))) (length out) (rw (length_saved (table_of s)) h) in
         let g = sym (last_asked ∙ ap (λ (b : Bool). told (cond b none (some 6))) f) in
         record { answer = ap (λ (x : Replied). x.answer) g; output = ap (λ (x : Replied). x.output) g }
 
     pub answered : {n : ℕ} {out' : List ℕ} → num_buckets + length (all_nodes (table_of s)) * node_size ≤ length out → n ≡ length (all_nodes (table_of s))
-        → out' ≡ splice out 0 (saved (table_of s)) → Replies (write_answer_of (WriteAnswer.Answered n)) out' (write_bytes out s)
+        → out' ≡ splice out 0 (saved (table_of s)) → Replies (Reply.Answered n) out' (write_bytes out s)
     answered h p w =
         let f = le-leb (length (saved (table_of s))) (length out) (rw (length_saved (table_of s)) h) in
         let g = sym (last_asked ∙ ap (λ (b : Bool). told (cond b none (some 6))) f) in

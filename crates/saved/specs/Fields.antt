@@ -1,17 +1,17 @@
 -- What the writer answers, and what it puts out of the held nodes: one array of their keys, one of their entries.
-use Rattle.std.specs.Prelude.{ℕ, ◌+◌, ◌*◌, ◌≡◌, List, length}
+use Rattle.std.specs.Prelude.{ℕ, ◌+◌, ◌*◌, ◌≡◌, List, Result, length}
 use Rattle.model.specs.Base.{joined}
 use Rattle.model.specs.Bytes.{splice}
 use Rattle.model.specs.Node.{Node}
 use Rattle.model.specs.Result.{Reply}
 use Rattle.model.specs.Sizes.{key_size}
 use Rattle.model.specs.Saved.{key_bytes, saved_entry, saved_entry_size}
-use Rattle.saved.specs.declared.WriteAnswer.{WriteAnswer}
+use Rattle.node.specs.declared.Refusal.{Refusal}
+use Rattle.node.specs.Refusal.{reply_of}
 use Rattle.saved.specs.declared.Field.{Field}
 
-abbrev pub write_answer_of : WriteAnswer → Reply ℕ
-write_answer_of (WriteAnswer.Refused q) = Reply.Refused q
-write_answer_of (WriteAnswer.Answered n) = Reply.Answered n
+abbrev pub write_answer_of : Result ℕ Refusal → Reply ℕ
+write_answer_of = reply_of (λ n. n)
 
 -- what an array holds of a node, and how many bytes that takes
 

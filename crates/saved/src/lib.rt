@@ -15,14 +15,8 @@ ghost use Rattle.on_key.specs.Answers.{Replies, Ready};
 ghost use Rattle.saved.specs.Fields.{write_answer_of, field_bytes, field_size, Appended};
 
 use key::Key;
+use node::Refusal;
 use storage::Layout;
-
-// What the writer answers: the number of the first question that failed, or how many nodes it wrote.
-#[derive(Clone, Copy)]
-pub enum WriteAnswer {
-    Refused(u8),
-    Answered(usize),
-}
 
 // What is written of a node: its key, or its entry of state, direction and value. An enum and not a closure: the contracts name by it the
 // bytes that are written and their number.
@@ -30,6 +24,19 @@ pub enum WriteAnswer {
 enum Field {
     Key,
     Entry,
+}
+
+impl Field {
+    // The bytes that are written of a node.
+    #[tactic(auto, unfolding(crate::specs::Fields::field_size))]
+    fn size(self) -> usize
+        ensures { result ≡ field_size self }
+    {
+        match self {
+            Field::Key => Layout::KEY,
+            Field::Entry => ENTRY,
+        }
+    }
 }
 
 // The bytes of an entry.
@@ -59,16 +66,6 @@ fn put_sizes(s: &[u8], out: &mut [u8])
     }
 }
 
-// The bytes that are written of a node.
-fn field_size(field: Field) -> usize
-    ensures { result ≡ field_size field }
-{
-    match field {
-        Field::Key => Layout::KEY,
-        Field::Entry => ENTRY,
-    }
-}
-
 // The entry whose bytes stand at `at`, put at `to` in out: two words that share one byte.
 fn put_entry(s: &[u8], at: usize, out: &mut [u8], to: usize)
     requires saved_entry_size_in_bounds { at + saved_entry_size ≤ length s.now }
@@ -90,8 +87,7 @@ fn put_field(s: &[u8], at: usize, field: Field, out: &mut [u8], to: usize)
 {
     match field {
         Field::Key => {
-            let key = Key::load(s, at);
-            key.store(out, to);
+            Key::load(s, at).store(out, to);
         }
         Field::Entry => {
             put_entry(s, at + Layout::STATE_AT, out, to);
@@ -107,7 +103,7 @@ fn put_bucket(s: &[u8], i: usize, field: Field, out: &mut [u8], to: usize) -> us
 {
     let at = Layout::HEADER + i * Layout::BUCKET;
     let count = usize::from(s[at]);
-    let size = field_size(field);
+    let size = field.size();
     let mut k = to;
     for j in 0..count {
         put_field(
@@ -136,19 +132,16 @@ fn put_all(s: &[u8], field: Field, out: &mut [u8], to: usize) -> usize
 }
 
 // Writes the sizes, then all keys, then all entries, and answers how many nodes there are.
-pub fn write(s: &[u8], out: &mut [u8]) -> WriteAnswer
+pub fn write(s: &[u8], out: &mut [u8]) -> Result<usize, Refusal>
     ensures { Replies (write_answer_of result) out.new (write_bytes out.old s.now) }
 {
-    let q = on_key::asked_table(s);
-    if q != 0 {
-        return WriteAnswer::Refused(q);
-    }
+    on_key::asked_table(s)?;
     let n = total(s);
     if out.len() < model::NUM_BUCKETS + n * Layout::NODE {
-        return WriteAnswer::Refused(6);
+        return Err(Refusal::Output);
     }
     put_sizes(s, out);
     let next = put_all(s, Field::Key, out, model::NUM_BUCKETS);
     put_all(s, Field::Entry, out, next);
-    WriteAnswer::Answered(n)
+    Ok(n)
 }

@@ -5,12 +5,13 @@ ghost use Rattle.std.specs.Prelude.{◌≡◌, true, ◌&&◌, ◌-◌, ◌≤�
 ghost use Rattle.model.specs.Base.{every, any_of};
 ghost use Rattle.model.specs.Question.{first_failed};
 ghost use Rattle.model.specs.Session.{windows_of, dates_of, leap, year_start, month_days, month_start, days_in, is_date, day_number, weekday_of, same_date, max_windows, max_closed, is_window, are_threes, session_fits, covers, is_open, hours_questions};
-ghost use Rattle.on_key.specs.Answers.{refusal};
+ghost use Rattle.node.specs.Refusal.{failed_of};
 ghost use Rattle.session.specs.Hours.{window_of, date_of, entries, window_in, date_in, session_of};
 
 mod years;
 
 use crate::years::YEAR_STARTS;
+use node::Refusal;
 
 // How many windows and closed dates a call may give, three numbers each.
 const MAX_WINDOWS: usize = 32;
@@ -60,18 +61,16 @@ struct Date {
     day: u16,
 }
 
-impl Date {
-    // The date of an entry.
-    fn of(entry: &[u16; 3]) -> Date
-        ensures { result ≡ date_in entry.now }
-    {
-        Date {
-            year: entry[0],
-            month: entry[1],
-            day: entry[2],
-        }
-    }
+// The date of an entry.
+impl From<[u16; 3]> for Date {
+    ghost from_gives = { λ e d. d ≡ date_in e };
 
+    fn from([year, month, day]: [u16; 3]) -> Date {
+        Date { year, month, day }
+    }
+}
+
+impl Date {
     // A date of the Gregorian calendar, from 2000 to 2399.
     fn is_valid(self) -> bool
         ensures { result ≡ is_date (date_of self) }
@@ -81,7 +80,7 @@ impl Date {
                 && (1 <= self.day && self.day <= days_in(self.year, self.month)))
     }
 
-    // The days from 1 January 2000 to the date.
+    // The days from 1 January 2000 to the date. Not a conversion of std: no type has a date's number.
     fn day_number(self) -> u32
         requires { is_date (date_of self) ≡ true }
         ensures { result ≡ day_number (date_of self) }
@@ -100,7 +99,7 @@ impl Date {
     }
 }
 
-// A weekly window: a weekday, an opening and a closing minute.
+// A weekly window: a weekday, an opening and a closing minute. Not one struct with Date: the names of its fields are what the three numbers mean.
 #[derive(Clone, Copy)]
 struct Window {
     weekday: u16,
@@ -108,18 +107,20 @@ struct Window {
     closing: u16,
 }
 
-impl Window {
-    // The window of an entry.
-    fn of(entry: &[u16; 3]) -> Window
-        ensures { result ≡ window_in entry.now }
-    {
+// The window of an entry.
+impl From<[u16; 3]> for Window {
+    ghost from_gives = { λ e w. w ≡ window_in e };
+
+    fn from([weekday, opening, closing]: [u16; 3]) -> Window {
         Window {
-            weekday: entry[0],
-            opening: entry[1],
-            closing: entry[2],
+            weekday,
+            opening,
+            closing,
         }
     }
+}
 
+impl Window {
     // A weekday, and an opening minute before a closing minute that is at most 1,440.
     fn is_valid(self) -> bool
         ensures { result ≡ is_window (window_of self) }
@@ -137,8 +138,8 @@ impl Window {
     }
 }
 
-// The leap year rule.
-fn is_leap(year: u16) -> bool
+// Internal: the leap year rule.
+pub fn is_leap(year: u16) -> bool
     ensures { result ≡ leap year }
 {
     year % 4 == 0 && (year % 100 != 0 || year % 400 == 0)
@@ -194,14 +195,14 @@ fn entries(numbers: &[u16]) -> &[[u16; 3]]
 fn windows_fit(windows: &[u16]) -> bool
     ensures { result ≡ (are_threes max_windows windows.now && every is_window (windows_of windows.now)) }
 {
-    are_threes(windows, MAX_WINDOWS) && entries(windows).iter().all(|e| Window::of(e).is_valid())
+    are_threes(windows, MAX_WINDOWS) && entries(windows).iter().all(|e| Window::from(*e).is_valid())
 }
 
 // The entry is a date of the calendar.
 fn is_date(entry: &[u16; 3]) -> bool
     ensures { result ≡ is_date (date_of (date_in entry.now)) }
 {
-    Date::of(entry).is_valid()
+    Date::from(*entry).is_valid()
 }
 
 // The closed dates are what question 10 asks.
@@ -224,7 +225,7 @@ fn session_fits(windows: &[u16], closed: &[u16], moment: Moment) -> bool
 fn is_closed(closed: &[u16], date: Date) -> bool
     ensures { result ≡ any_of (same_date (date_of date)) (dates_of closed.now) }
 {
-    entries(closed).iter().any(|e| date == Date::of(e))
+    entries(closed).iter().any(|e| date == Date::from(*e))
 }
 
 // Some window has the weekday and the minute.
@@ -233,7 +234,7 @@ fn is_covered(windows: &[u16], weekday: u16, minute: u16) -> bool
 {
     entries(windows)
         .iter()
-        .any(|e| Window::of(e).covers(weekday, minute))
+        .any(|e| Window::from(*e).covers(weekday, minute))
 }
 
 // Question 11 of a key that is not known.
@@ -246,19 +247,19 @@ fn is_open(windows: &[u16], closed: &[u16], moment: Moment) -> bool
     !is_closed(closed, today) && is_covered(windows, today.weekday(), moment.minute)
 }
 
-// The first failed question of 10 and 11, or 0: three numbers a window (weekday, opening and closing minute) and three a closed date (year,
-// month, day). known: the key is the local one, or was held or pending before the call, so that 11 lets it pass. With no windows neither is asked.
-pub fn asked(windows: &[u16], closed: &[u16], moment: Moment, known: bool) -> u8
-    ensures { first_failed (hours_questions (session_of windows.now closed.now moment) known) ≡ refusal result }
+// Questions 10 and 11: three numbers a window (weekday, opening and closing minute) and three a closed date (year, month, day). known: the key
+// is the local one, or was held or pending before the call, so that 11 lets it pass. With no windows neither is asked.
+pub fn asked(windows: &[u16], closed: &[u16], moment: Moment, known: bool) -> Result<(), Refusal>
+    ensures { failed_of result ≡ first_failed (hours_questions (session_of windows.now closed.now moment) known) }
 {
     if windows.is_empty() {
-        return 0;
+        return Ok(());
     }
     if !session_fits(windows, closed, moment) {
-        return 10;
+        return Err(Refusal::Hours);
     }
     if known || is_open(windows, closed, moment) {
-        return 0;
+        return Ok(());
     }
-    11
+    Err(Refusal::Closed)
 }

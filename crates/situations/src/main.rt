@@ -5,13 +5,12 @@
 
 ghost use Rattle.std.specs.Prelude.{◌≡◌, length};
 
-use bucket::{FailureReason, InsertAnswer, NewAnswer, UpdateAnswer, UpdateResult};
+use bucket::{FailureReason, UpdateResult};
 use bucket_update::InsertResult;
-use node::{Slot, Value};
+use node::{Refusal, Slot, Value};
 use session::Moment;
 use std::io;
 use storage::Layout;
-use update::InsertOrUpdateAnswer;
 
 // Storage for a table.
 fn storage() -> [u8; Layout::STORAGE] {
@@ -46,105 +45,80 @@ fn byte(s: &[u8], at: usize) -> u8 {
 }
 
 // Writes the node at a place of bucket 255: the last byte of its key, the last octet of its address, the last byte of its slot.
-fn say_node(rt: &impl Print, s: &[u8], place: usize) -> io::Result<()> {
+fn print_node(rt: &impl Print, s: &[u8], place: usize) -> io::Result<()> {
     if 16 <= place {
         return Ok(());
     }
     let at = Layout::HEADER + 255 * Layout::BUCKET + Layout::PLACES_AT + place * Layout::NODE;
-    print!(rt; " ")?;
-    rt.print(byte(s, at + 31))?;
-    print!(rt; "=10.0.0.")?;
-    rt.print(byte(s, at + Layout::VALUE_AT + 4))?;
-    print!(rt; "/slot ")?;
-    rt.print(byte(s, at + Layout::NODE - 1))
+    let member = byte(s, at + 31);
+    let octet = byte(s, at + Layout::VALUE_AT + 4);
+    let slot = byte(s, at + Layout::NODE - 1);
+    print!(rt; " {member}=10.0.0.{octet}/slot {slot}")
 }
 
-fn say_bucket(rt: &impl Print, s: &[u8]) -> io::Result<()> {
-    let count = byte(s, Layout::HEADER + 255 * Layout::BUCKET) as usize;
+fn print_bucket(rt: &impl Print, s: &[u8]) -> io::Result<()> {
+    let count = usize::from(byte(s, Layout::HEADER + 255 * Layout::BUCKET));
     print!(rt; "{count} held:")?;
     for place in 0..count {
-        say_node(rt, s, place)?;
+        print_node(rt, s, place)?;
     }
     println!(rt;)
 }
 
-fn say_refused(rt: &impl Print, q: u8) -> io::Result<()> {
-    print!(rt; "refused with {q}")
-}
-
-fn say_new(rt: &impl Print, a: NewAnswer) -> io::Result<()> {
-    match a {
-        NewAnswer::Refused(q) => {
-            say_refused(rt, q)?;
-            println!(rt;)
+// Writes what a call answered: its result, or the number of the question that refused it.
+fn print_answer(rt: &impl Print, answer: Result<&'static str, Refusal>) -> io::Result<()> {
+    match answer {
+        Ok(result) => print!(rt; "{result}"),
+        Err(refusal) => {
+            let q = refusal.number();
+            print!(rt; "refused with {q}")
         }
-        NewAnswer::Created => println!(rt; "a new table, table filter on, bucket filter off"),
     }
 }
 
-fn say_reason(rt: &impl Print, r: FailureReason) -> io::Result<()> {
-    let reason = match r {
-        FailureReason::TooManyIncoming => "TooManyIncoming",
-        FailureReason::BucketFilter => "BucketFilter",
-        FailureReason::TableFilter => "TableFilter",
-        FailureReason::KeyNonExistent => "KeyNonExistent",
-        FailureReason::BucketFull => "BucketFull",
-        FailureReason::InvalidSelfUpdate => "InvalidSelfUpdate",
-    };
-    print!(rt; "Failed({reason})")
-}
+// The results by name. They are of other crates, and so none is given a Display here.
 
-fn say_update_result(rt: &impl Print, r: UpdateResult) -> io::Result<()> {
-    match r {
-        UpdateResult::Updated => print!(rt; "Updated"),
-        UpdateResult::UpdatedAndPromoted => print!(rt; "UpdatedAndPromoted"),
-        UpdateResult::UpdatedPending => print!(rt; "UpdatedPending"),
-        UpdateResult::Failed(reason) => say_reason(rt, reason),
-        UpdateResult::NotModified => print!(rt; "NotModified"),
+fn failed(reason: FailureReason) -> &'static str {
+    match reason {
+        FailureReason::TooManyIncoming => "Failed(TooManyIncoming)",
+        FailureReason::BucketFilter => "Failed(BucketFilter)",
+        FailureReason::TableFilter => "Failed(TableFilter)",
+        FailureReason::KeyNonExistent => "Failed(KeyNonExistent)",
+        FailureReason::BucketFull => "Failed(BucketFull)",
+        FailureReason::InvalidSelfUpdate => "Failed(InvalidSelfUpdate)",
     }
 }
 
-fn say_update(rt: &impl Print, a: UpdateAnswer) -> io::Result<()> {
-    match a {
-        UpdateAnswer::Refused(q) => say_refused(rt, q),
-        UpdateAnswer::Answered(r) => say_update_result(rt, r),
+fn updated(res: UpdateResult) -> &'static str {
+    match res {
+        UpdateResult::Updated => "Updated",
+        UpdateResult::UpdatedAndPromoted => "UpdatedAndPromoted",
+        UpdateResult::UpdatedPending => "UpdatedPending",
+        UpdateResult::Failed(reason) => failed(reason),
+        UpdateResult::NotModified => "NotModified",
     }
 }
 
-fn say_insert_result(rt: &impl Print, r: InsertResult) -> io::Result<()> {
-    match r {
-        InsertResult::Inserted => print!(rt; "Inserted"),
-        InsertResult::Pending(_) => print!(rt; "Pending"),
-        InsertResult::StatusUpdated(_) => print!(rt; "StatusUpdated"),
-        InsertResult::ValueUpdated => print!(rt; "ValueUpdated"),
-        InsertResult::Updated(_) => print!(rt; "Updated"),
-        InsertResult::UpdatedPending => print!(rt; "UpdatedPending"),
-        InsertResult::Failed(reason) => say_reason(rt, reason),
+fn inserted_or_updated(res: InsertResult) -> &'static str {
+    match res {
+        InsertResult::Inserted => "Inserted",
+        InsertResult::Pending(_) => "Pending",
+        InsertResult::StatusUpdated(_) => "StatusUpdated",
+        InsertResult::ValueUpdated => "ValueUpdated",
+        InsertResult::Updated(_) => "Updated",
+        InsertResult::UpdatedPending => "UpdatedPending",
+        InsertResult::Failed(reason) => failed(reason),
     }
 }
 
-fn say_insert(rt: &impl Print, a: InsertOrUpdateAnswer) -> io::Result<()> {
-    match a {
-        InsertOrUpdateAnswer::Refused(q) => say_refused(rt, q),
-        InsertOrUpdateAnswer::Answered(r) => say_insert_result(rt, r),
-    }
-}
-
-fn say_placed(rt: &impl Print, r: bucket::InsertResult) -> io::Result<()> {
-    match r {
-        bucket::InsertResult::Inserted => print!(rt; "Inserted"),
-        bucket::InsertResult::Pending(_) => print!(rt; "Pending"),
-        bucket::InsertResult::FailedFilter => print!(rt; "FailedFilter"),
-        bucket::InsertResult::TooManyIncoming => print!(rt; "TooManyIncoming"),
-        bucket::InsertResult::Full => print!(rt; "Full"),
-        bucket::InsertResult::NodeExists => print!(rt; "NodeExists"),
-    }
-}
-
-fn say_absent_insert(rt: &impl Print, a: InsertAnswer) -> io::Result<()> {
-    match a {
-        InsertAnswer::Refused(q) => say_refused(rt, q),
-        InsertAnswer::Answered(r) => say_placed(rt, r),
+fn inserted(res: bucket::InsertResult) -> &'static str {
+    match res {
+        bucket::InsertResult::Inserted => "Inserted",
+        bucket::InsertResult::Pending(_) => "Pending",
+        bucket::InsertResult::FailedFilter => "FailedFilter",
+        bucket::InsertResult::TooManyIncoming => "TooManyIncoming",
+        bucket::InsertResult::Full => "Full",
+        bucket::InsertResult::NodeExists => "NodeExists",
     }
 }
 
@@ -161,12 +135,14 @@ fn join(rt: &impl Print, s: &mut [u8], member: u8) -> io::Result<()> {
         day: 0,
         minute: 0,
     };
-    if 10 < member {
-        let e = entry::absent_insert(s, &key, value, 1, 0, 1000, &none, &none, moment);
-        return say_absent_insert(rt, e);
-    }
-    let a = update::insert_or_update(s, &key, value, 1, 0, 1000, &none, &none, moment);
-    say_insert(rt, a)
+    let answer = if 10 < member {
+        entry::absent_insert(s, &key, value, 1, 0, 1000, &none, &none, moment).map(inserted)
+    } else {
+        update::insert_or_update(s, &key, value, 1, 0, 1000, &none, &none, moment).map(
+            inserted_or_updated,
+        )
+    };
+    print_answer(rt, answer)
 }
 
 fn join_all(rt: &impl Print, s: &mut [u8], members: u8) -> io::Result<()> {
@@ -180,24 +156,29 @@ fn join_all(rt: &impl Print, s: &mut [u8], members: u8) -> io::Result<()> {
 fn resign(rt: &impl Print, s: &mut [u8], member: u8, slot: Slot) -> io::Result<()> {
     let key = key_of(member);
     let value = record_of(member, slot);
-    let a = update::update_node(s, &key, value, 2, 2000);
-    say_update(rt, a)
+    print_answer(
+        rt,
+        update::update_node(s, &key, value, 2, 2000).map(updated),
+    )
 }
 
 fn situation(rt: &impl Print, members: u8) -> io::Result<()> {
     let mut space = storage();
     let s = &mut space;
     let local = [0u8; 32];
-    let a = table::new(s, &local, 60000, 16, 1, 0);
-    say_new(rt, a)?;
-    print!(rt; "{members} members of 10.0.0.0/24 join:")?;
+    let made = table::new(s, &local, 60000, 16, 1, 0);
+    print_answer(
+        rt,
+        made.map(|_| "a new table, table filter on, bucket filter off"),
+    )?;
+    print!(rt; "\n{members} members of 10.0.0.0/24 join:")?;
     join_all(rt, s, members)?;
     print!(rt; "\nbefore: ")?;
-    say_bucket(rt, s)?;
+    print_bucket(rt, s)?;
     print!(rt; "member 3 re-signs its record, slot 103: ")?;
     resign(rt, s, 3, 103)?;
     print!(rt; "\nafter: ")?;
-    say_bucket(rt, s)
+    print_bucket(rt, s)
 }
 
 fn main(rt: HostRuntime) -> io::Result<()> {

@@ -1,8 +1,9 @@
 -- The table filter, by what it has asked and tested in turn.
 use Prim.Native.Nat.{ℕ}
-use mathlib.Core.Path.{◌≡◌, refl, sym, ap, ◌∙◌}
+use mathlib.Core.Path.{◌≡◌, sym, ap, ◌∙◌}
 use mathlib.Core.Bool.{Bool, true, false, cond, ◌&&◌}
 use mathlib.Core.List.{List, [], ◌∷◌}
+use Rattle.std.specs.Prelude.{Result, Ok, Err}
 use Rattle.model.specs.Value.{Value}
 use Rattle.model.specs.Filter.{max_nodes_per_subnet_table, ip_filter_fails}
 use Rattle.model.specs.Bucket.{get}
@@ -10,10 +11,10 @@ use Rattle.model.specs.Table.{Table, is_duplicate, filter_runs, other_nodes, fai
 use Rattle.model.specs.Layout.{table_of}
 use Rattle.model.specs.Formed.{header_formed, bucket_formed_at, buckets_formed, formed}
 use Rattle.model.specs.StepBytes.{every_bucket}
-use Rattle.laws.proofs.Tests.{clash, and_left}
-use Rattle.table_filter.specs.declared.Filtered.{Filtered}
+use Rattle.laws.proofs.Tests.{and_left}
 use Rattle.laws.proofs.Touched.{whole_formed}
-use Rattle.table_filter.specs.Filtered.{Walked, filter_reads, AskedFilter, is_malformed, has_failed}
+use Rattle.node.specs.declared.Refusal.{Refusal}
+use Rattle.table_filter.specs.Filtered.{Walked, AskedFilter}
 
 module _ (s : List ℕ) (i k : ℕ) (v : Value) where
   abbrev t : Table
@@ -23,38 +24,23 @@ module _ (s : List ℕ) (i k : ℕ) (v : Value) where
   read runs = buckets_formed s (cond runs every_bucket (i ∷ []))
 
   -- it is off or skipped: the key's own bucket was asked before
-  pub not_run : bucket_formed_at s i ≡ true → filter_runs t i k v ≡ false → AskedFilter s i k v Filtered.Passes
+  pub not_run : bucket_formed_at s i ≡ true → filter_runs t i k v ≡ false → AskedFilter s i k v (Ok false)
   unfolding fails_table_filter
-  not_run b r = (ap read r ∙ rw b, ap (λ (x : Bool). x && ip_filter_fails max_nodes_per_subnet_table v (other_nodes k t.buckets)) r)
+  not_run b r = (ap read r ∙ rw b, sym (ap (λ (x : Bool). x && ip_filter_fails max_nodes_per_subnet_table v (other_nodes k t.buckets)) r))
 
   -- it runs
   module _ (a : t.settings.table_filter ≡ true) (d : is_duplicate v (get k (t.buckets i)) ≡ false) where
     runs : filter_runs t i k v ≡ true
     runs = rw (a, d)
 
-    pub is_run : (r : Filtered) → Walked s k v r → AskedFilter s i k v r
+    pub is_run : (r : Result Bool Refusal) → Walked s k v r → AskedFilter s i k v r
     unfolding fails_table_filter
-    is_run Filtered.Malformed w = ap read runs ∙ w
-    is_run Filtered.Passes w = (ap read runs ∙ w.0, rw (a, d) w.1)
-    is_run Filtered.Fails w = (ap read runs ∙ w.0, rw (a, d) w.1)
-
-  -- what a caller makes of the answer
-
-  pub malformed_read : (r : Filtered) → AskedFilter s i k v r → is_malformed r ≡ true → buckets_formed s (filter_reads t i k v) ≡ false
-  malformed_read Filtered.Malformed x e = x
-  malformed_read Filtered.Passes x e = clash e refl
-  malformed_read Filtered.Fails x e = clash e refl
-
-  pub answer_told : (r : Filtered) → AskedFilter s i k v r → is_malformed r ≡ false → (buckets_formed s (filter_reads t i k v) ≡ true) × (has_failed r ≡ fails_table_filter t i k v)
-  answer_told Filtered.Malformed x e = clash refl e
-  answer_told Filtered.Passes x e = (x.0, sym x.1)
-  answer_told Filtered.Fails x e = (x.0, sym x.1)
+    is_run (Ok fails) w = (ap read runs ∙ w.0, rw (a, d) w.1)
+    is_run (Err r) w = (ap read runs ∙ w.0, w.1)
 
   -- a value that fails has had the whole table asked
-  pub failed_formed : (r : Filtered) → AskedFilter s i k v r → has_failed r ≡ true → header_formed s ≡ true → formed s ≡ true
+  pub failed_formed : (fails : Bool) → AskedFilter s i k v (Ok fails) → fails ≡ true → header_formed s ≡ true → formed s ≡ true
   unfolding fails_table_filter
-  failed_formed Filtered.Malformed x e h = clash e refl
-  failed_formed Filtered.Passes x e h = clash e refl
-  failed_formed Filtered.Fails x e h =
-      let run = and_left (filter_runs t i k v) _ x.1 in
+  failed_formed fails x e h =
+      let run = and_left (filter_runs t i k v) _ (sym x.1 ∙ e) in
       whole_formed s h (ap read (sym run) ∙ x.0)

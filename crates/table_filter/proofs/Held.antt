@@ -9,9 +9,9 @@ use native.Mathlib.Nat.{not-suc-le-zero, eq-or-lt_of_le, add-zero}
 use native.Mathlib.Numerals.{add-one}
 use native.Mathlib.Omega.{arith}
 use mir.Val.{bool_byte}
-use lib.Dec.{eqb}
+use lib.Dec.{eqb, leb}
 use lib.ListN.{length, get_or}
-use borrow.Author.Tests.{ne_eqb, eqb-true, le-leb, lt-leb}
+use borrow.Author.Tests.{ne_eqb, eqb-true}
 use Rattle.model.specs.Base.{same, select, tabulate}
 use Rattle.model.specs.Bytes.{number, part, Bytes}
 use Rattle.model.specs.Value.{Value, has_address}
@@ -85,13 +85,10 @@ module _ (limit k : ℕ) (v : Value) (bs : ℕ → Bucket) (e : has_address v �
   abbrev count : ℕ
   count = length (select (counts_other k v) (held_nodes num_buckets bs))
 
-  pub filter_fails : limit ≤ count → ip_filter_fails limit v (other_nodes k bs) ≡ true
+  -- the filter's test, by the count
+  pub filter_test : leb limit count ≡ ip_filter_fails limit v (other_nodes k bs)
   unfolding ip_filter_fails
-  filter_fails h = rw (e, counted_others k v (held_nodes num_buckets bs), le-leb limit count h)
-
-  pub filter_passes : count < limit → ip_filter_fails limit v (other_nodes k bs) ≡ false
-  unfolding ip_filter_fails
-  filter_passes h = rw (e, counted_others k v (held_nodes num_buckets bs), lt-leb limit count h)
+  filter_test = rw (e, counted_others k v (held_nodes num_buckets bs))
 
 -- the node of a key, where no place before j has the key
 

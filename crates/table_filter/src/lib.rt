@@ -13,10 +13,10 @@ ghost use Rattle.model.specs.Formed.{bucket_formed_at};
 ghost use Rattle.key.specs.Key.{num};
 ghost use Rattle.node.specs.Node.{value_of};
 ghost use Rattle.table_filter.specs.Counted.{counts_other, counted_below, net_of};
-ghost use Rattle.table_filter.specs.Filtered.{Walked, AskedFilter, is_malformed, has_failed};
+ghost use Rattle.table_filter.specs.Filtered.{Walked, AskedFilter};
 
 use key::Key;
-use node::Value;
+use node::{Refusal, Value};
 use storage::Layout;
 
 // The address flag and the first three octets of the value, with which its bytes begin, as one number.
@@ -64,37 +64,26 @@ fn counted(s: &[u8], at: usize, key: Key, value: Value) -> usize
     counted_below(s, at, usize::from(s[at]), key, value)
 }
 
-// What the table filter answers: a bucket that it reads fails question 2, or the value passes or fails.
-#[derive(Clone, Copy)]
-pub enum Filtered {
-    Malformed,
-    Passes,
-    Fails,
-}
-
-// Question 2 of every bucket, each before it is counted for the value of the key; then the IP filter of the table. Against a value without
-// an address none counts.
-fn walked(s: &[u8], key: Key, value: Value) -> Filtered
+// Question 2 of every bucket, each before it is counted for the value of the key; then: does the value fail the IP filter of the table?
+// Against a value without an address none counts.
+fn walked(s: &[u8], key: Key, value: Value) -> Result<bool, Refusal>
     requires { length s.now ≡ storage_size }
     ensures { Walked s.now (num key) (value_of value) result }
 {
     if value.flag != 1 {
         if well_formed::buckets_formed(s) {
-            return Filtered::Passes;
+            return Ok(false);
         }
-        return Filtered::Malformed;
+        return Err(Refusal::Form);
     }
     let mut n: usize = 0;
     for i in 0..model::NUM_BUCKETS {
         if !well_formed::bucket_formed_at(s, i) {
-            return Filtered::Malformed;
+            return Err(Refusal::Form);
         }
         n += counted(s, Layout::HEADER + i * Layout::BUCKET, key, value);
     }
-    if node::filter::MAX_NODES_PER_SUBNET_TABLE <= n {
-        return Filtered::Fails;
-    }
-    Filtered::Passes
+    Ok(node::filter::MAX_NODES_PER_SUBNET_TABLE <= n)
 }
 
 // The bucket at `at` holds the key with an equal value.
@@ -121,31 +110,17 @@ fn is_duplicate(s: &[u8], i: usize, key: Key, value: Value) -> bool
     holds_value(s, Layout::HEADER + i * Layout::BUCKET, key, value)
 }
 
-// Internal: the table filter for the value of the key, whose bucket is i and has passed question 2. Where it is off, or skipped because
-// the key is held with an equal value, no other bucket is read.
-pub fn asked_filter(s: &[u8], i: usize, key: Key, value: Value) -> Filtered
+// Internal: does the value of the key, whose bucket is i and has passed question 2, fail the table filter? Where the filter is off, or
+// skipped because the key is held with an equal value, no other bucket is read.
+pub fn asked_filter(s: &[u8], i: usize, key: Key, value: Value) -> Result<bool, Refusal>
     requires { (length s.now ≡ storage_size) × (i < num_buckets) × (bucket_formed_at s.now i ≡ true) }
     ensures { AskedFilter s.now i (num key) (value_of value) result }
 {
     if s[Layout::TABLE_FILTER_AT] != 1 {
-        return Filtered::Passes;
+        return Ok(false);
     }
     if is_duplicate(s, i, key, value) {
-        return Filtered::Passes;
+        return Ok(false);
     }
     walked(s, key, value)
-}
-
-// Internal: a bucket failed question 2.
-pub fn is_malformed(f: Filtered) -> bool
-    ensures { result ≡ is_malformed f }
-{
-    matches!(f, Filtered::Malformed)
-}
-
-// Internal: the value fails.
-pub fn has_failed(f: Filtered) -> bool
-    ensures { result ≡ has_failed f }
-{
-    matches!(f, Filtered::Fails)
 }

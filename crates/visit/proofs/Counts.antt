@@ -19,9 +19,8 @@ use Rattle.laws.proofs.Tests.{same_true, same_false, split, clash}
 use Rattle.laws.proofs.All.{all_any, all_zip}
 use Rattle.laws.proofs.Applied.{apply_again}
 use Rattle.visit.specs.declared.Counted.{Counted}
-use Rattle.visit.specs.declared.Given.{Given}
 use Rattle.visit.specs.declared.Tally.{Tally}
-use Rattle.visit.specs.Passes.{held, records, GivenAt, records_given, CountedAt, visit_one, visited_by, visit_all, left_of, Once, Visitable, Told}
+use Rattle.visit.specs.Passes.{held, records, records_given, CountedAt, visit_one, visited_by, visit_all, left_of, Once, Visitable, Told}
 use Rattle.visit.proofs.Visitable.{once_visited, visited_none, visited_end, visited_next}
 
 agree : (z a b : Bool) (x : ℕ) → (b ≡ true → a ≡ false) → cond (z && b) 0 x ≡ cond ((z || a) && b) 0 x
@@ -162,40 +161,3 @@ module _ (now n : ℕ) (is : List ℕ) (s : List ℕ) where
         let e : c.left ≡ 0 = omega arith in
         counting_done rest y (ap (λ (m : ℕ). visited (held now t) m rest) e ∙ visited_none (held now t) rest)
         (ap (λ (m : ℕ). left_of (held now t) m rest) e ∙ left_none (held now t) rest ∙ sym e)
-
--- what one bucket adds
-
-and_no : (z a : Bool) (x : ℕ) → a ≡ false → x ≡ cond (z && a) 0 x
-and_no true a x e = rw e
-and_no false a x e = refl
-
-or_no : (z a : Bool) → a ≡ false → z ≡ (z || a)
-or_no true a e = refl
-or_no false a e = sym e
-
-module _ (now : ℕ) (t : Table) (i : ℕ) (c r : Counted) (g : Given) (w : GivenAt now t i g) (l : r.left ≡ c.left - g.count) where
-  left_is : r.left ≡ c.left - held now t i
-  left_is = l ∙ ap (λ (k : ℕ). c.left - k) w.count
-
-  pub counted_other : (i ≡ 0 → ⊥) → r.zero ≡ c.zero → r.records ≡ c.records + g.records → CountedAt now t i c r
-  counted_other h p q =
-      let e : eqb i 0 ≡ false = ne_eqb i 0 h in
-      record {
-        left = left_is;
-        zero = p ∙ or_no c.zero (eqb i 0) e;
-        records = q ∙ ap (λ (k : ℕ). c.records + k) (w.records ∙ and_no c.zero (eqb i 0) (records now t i) e);
-        one = (let u = w.one in omega arith);
-      }
-
-  pub counted_again : i ≡ 0 → c.zero ≡ true → r.zero ≡ true → r.records ≡ c.records → CountedAt now t i c r
-  counted_again h z p q =
-      record { left = left_is; zero = p ∙ (rw z); records = rw (z, eq-eqb i 0 h) (omega arith); one = omega arith }
-
-  pub counted_first : i ≡ 0 → c.zero ≡ false → r.zero ≡ true → r.records ≡ c.records + g.records → CountedAt now t i c r
-  counted_first h z p q =
-      record {
-        left = left_is;
-        zero = p ∙ (rw (z, eq-eqb i 0 h));
-        records = q ∙ ap (λ (k : ℕ). c.records + k) (w.records ∙ (rw z));
-        one = (let u = w.one in omega arith);
-      }

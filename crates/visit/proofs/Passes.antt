@@ -21,9 +21,6 @@ use Rattle.visit.specs.Passes.{held, visit_one, visited_by, visit_all, applied_i
 use Rattle.visit.proofs.Visitable.{visited_none, visited_end, visited_next}
 use Rattle.visit.proofs.Applying.{Appliable, Applying, applying_starts, applying_timely, applying_ready, applying_room, applying_next, applying_held, applying_ends, applying_nothing}
 
-pub not_zero : {m k : ℕ} → m < k → 0 < k
-not_zero h = omega arith
-
 -- one bucket
 
 -- question 8 of it

@@ -22,7 +22,8 @@ pub struct Given {
     pub placed: usize,
 }
 
-// What the survey has counted: the items that are left to find, whether bucket 0 was visited, and the records.
+// What the survey has counted: the items that are left to find, whether bucket 0 was visited, and the records. `zero` is a plain flag: no value
+// goes with it, so an Option would be no plainer.
 #[derive(Clone, Copy, Default)]
 pub struct Counted {
     pub left: usize,
@@ -31,13 +32,15 @@ pub struct Counted {
 }
 
 // What the survey tells where every bucket of the visit passes question 2: how many records they give and how many items there are, up to n.
+// Not one struct with other pairs of counts: the names of its fields are what the two mean.
 #[derive(Clone, Copy)]
 pub struct Tally {
     pub records: usize,
     pub count: usize,
 }
 
-// The buckets in a listing's order.
+// The buckets in a listing's order. One enum that is an iterator, and not `impl Iterator`: the contracts name the order that it yields, and no pass
+// over it asks which of the two it is.
 #[derive(Clone, Copy)]
 pub enum Visit {
     // All from the one given on, by their index.
@@ -77,7 +80,7 @@ fn held_at(s: &[u8], i: usize) -> usize
     requires { (length s.now ≡ storage_size) × (i < num_buckets) }
     ensures { result ≡ num_entries ((table_of s.now).buckets i) }
 {
-    well_formed::size(s[Layout::HEADER + i * Layout::BUCKET])
+    usize::from(s[Layout::HEADER + i * Layout::BUCKET])
 }
 
 // What bucket i gives once its pending is applied, if it is due, without writing it.
@@ -86,11 +89,11 @@ fn applied_at(s: &[u8], i: usize, time: u64) -> Given
     requires timely { Timely s.now time }
     ensures { GivenAt time (table_of s.now) i result }
 {
-    let a = on_key::apply_at(s, i, time);
+    let step = on_key::apply_at(s, i, time);
     Given {
-        count: a.bucket.count,
-        records: bucket::count_of(a.applied),
-        placed: bucket::count_of(bucket::only_placed(a.applied)),
+        count: step.bucket.count,
+        records: usize::from(step.result.is_some()),
+        placed: usize::from(bucket::only_placed(step.result).is_some()),
     }
 }
 
@@ -117,21 +120,11 @@ fn count_at(s: &[u8], i: usize, time: u64, c: Counted) -> Counted
     ensures { CountedAt time (table_of s.now) i c result }
 {
     let g = given_at(s, i, time);
-    let left = c.left.saturating_sub(g.count);
-    if i != 0 {
-        return Counted {
-            left,
-            records: c.records + g.records,
-            ..c
-        };
-    }
-    if c.zero {
-        return Counted { left, ..c };
-    }
+    let again = c.zero && i == 0;
     Counted {
-        left,
-        zero: true,
-        records: c.records + g.records,
+        left: c.left.saturating_sub(g.count),
+        zero: c.zero || i == 0,
+        records: c.records + if again { 0 } else { g.records },
     }
 }
 
@@ -170,8 +163,8 @@ pub fn apply_in(s: &mut [u8], i: usize, time: u64)
     ensures { s.new ≡ applied_in s.old time (i ∷ []) }
 {
     if on_key::is_due(s, i, time) {
-        let a = on_key::apply_at(s, i, time);
-        on_key::write_back(s, i, a.applied, a.bucket);
+        let step = on_key::apply_at(s, i, time);
+        on_key::write_back(s, i, step.result, step.bucket);
     }
 }
 

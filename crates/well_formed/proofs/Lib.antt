@@ -1,3 +1,4 @@
 -- Laws of question 2.
 pub mod Places
+pub mod KeyPlace
 pub mod Buckets

@@ -1,10 +1,13 @@
--- Question 2's tests of one place, as the code runs them: what they are together is the model's `bucket_formed`.
+-- Question 2's tests of one place, as the code runs them: what they are together is the model's `bucket_formed`. And the place of a key.
 use Rattle.std.specs.Prelude.{ℕ, Bool, ◌&&◌, List, get_or, eqb}
+use Rattle.model.specs.Base.{same, tabulate}
+use Rattle.model.specs.Bytes.{part}
 use Rattle.model.specs.Key.{bucket_index}
 use Rattle.model.specs.Node.{Node}
-use Rattle.model.specs.Sizes.{key_size}
+use Rattle.model.specs.Sizes.{key_size, bucket_size}
 use Rattle.model.specs.Layout.{place_in, node_in, record_part}
 use Rattle.model.specs.Formed.{node_codes, key_in, state_at, not_held, is_at, record_formed, bucket_formed_at}
+use Rattle.places.specs.Places.{before}
 
 -- a key's index in the table of the local key is i
 unfoldable pub of_index : ℕ → ℕ → ℕ → Bool
@@ -21,6 +24,14 @@ place_formed index first bs j = (node_codes (place_in bs j) && index (key_in (pl
 -- the node of place j
 unfoldable pub node_at : List ℕ → ℕ → Node
 node_at bs j = node_in (place_in bs j)
+
+-- the nodes of the first count places of the bucket at `at`
+unfoldable pub nodes_here : List ℕ → ℕ → ℕ → List Node
+nodes_here s at count = tabulate count (node_at (part s at bucket_size))
+
+-- the place of a key, or the number of nodes where none has it
+abbrev pub place : ℕ → List Node → ℕ
+place k ns = before (λ (n : Node). same n.key k) ns
 
 -- record j of the queue
 unfoldable pub record_at_formed : List ℕ → ℕ → Bool

@@ -2,7 +2,7 @@
 // them are made: on well-formed storage none fails, and a branch after each costs more.
 #![tactic(auto)]
 
-ghost use Rattle.std.specs.Prelude.{◌≡◌, true, cond, ◌&&◌, ◌+◌, ◌*◌, ◌-◌, ◌≤◌, ◌<◌, eqb, leb, length, get_or};
+ghost use Rattle.std.specs.Prelude.{◌≡◌, true, ◌&&◌, ◌+◌, ◌*◌, ◌-◌, ◌≤◌, ◌<◌, eqb, leb, length, get_or};
 ghost use Rattle.model.specs.Base.{same, all_below, tabulate};
 ghost use Rattle.model.specs.Bytes.{number, part};
 ghost use Rattle.model.specs.Bucket.{max_nodes_per_bucket, incoming_nodes};
@@ -13,18 +13,11 @@ ghost use Rattle.model.specs.Layout.{node_in};
 ghost use Rattle.model.specs.Formed.{are_zero, state_at, not_held, pending_formed, bucket_formed, bucket_formed_at, record_formed, header_formed, formed};
 ghost use Rattle.key.specs.Key.{num};
 ghost use Rattle.node.specs.Node.{node_codes};
-ghost use Rattle.well_formed.specs.Tests.{of_index, differs, place_formed, node_at, record_at_formed, bucket_at_formed};
+ghost use Rattle.well_formed.specs.Tests.{of_index, differs, place_formed, node_at, nodes_here, place, record_at_formed, bucket_at_formed};
 
 use key::Key;
-use node::Node;
+use node::{Code, Node};
 use storage::Layout;
-
-// Internal: a byte as a size.
-pub fn size(x: u8) -> usize
-    ensures { result ≡ x }
-{
-    usize::from(x)
-}
 
 // Internal: the bytes at `at` are those of the key. The last word decides most often.
 pub fn has_key(s: &[u8], at: usize, key: Key) -> bool
@@ -34,17 +27,25 @@ pub fn has_key(s: &[u8], at: usize, key: Key) -> bool
     words::get_u64(s, at + (Layout::KEY - 8)) == key.w3 && Key::load(s, at).eq(key)
 }
 
+// Internal: the place of the key among the first count of the bucket at `at`, or count.
+pub fn position(s: &[u8], at: usize, count: usize, key: Key) -> usize
+    requires { (at + bucket_size ≤ length s.now) × (count ≤ max_nodes_per_bucket) }
+    ensures { result ≡ place (num key) (nodes_here s.now at count) }
+{
+    for j in 0..count {
+        if has_key(s, at + (Layout::PLACES_AT + j * Layout::NODE), key) {
+            return j;
+        }
+    }
+    count
+}
+
 // Internal: no place below k of the bucket at `at` has the key.
 pub fn not_held(s: &[u8], at: usize, k: usize, key: Key) -> bool
     requires { (at + bucket_size ≤ length s.now) × (k ≤ max_nodes_per_bucket) }
     ensures { result ≡ not_held (part s.now at bucket_size) k (num key) }
 {
-    for j in 0..k {
-        if has_key(s, at + (Layout::PLACES_AT + j * Layout::NODE), key) {
-            return false;
-        }
-    }
-    true
+    position(s, at, k, key) == k
 }
 
 // The keys of the places below count differ. Only a key whose last byte an earlier one has is compared with those before it.
@@ -74,7 +75,7 @@ fn of_index(local: Key, key: Key, i: usize) -> bool
 }
 
 // The node's codes are in range, its key is of the index, and its state is the one given.
-fn node_formed(n: Node, local: Key, i: usize, state: u8) -> bool
+fn node_formed(n: Node, local: Key, i: usize, state: Code) -> bool
     requires { i < num_buckets }
     ensures { result ≡ ((node_codes n && of_index (num local) i (num n.key)) && eqb n.status.state state) }
 {
@@ -102,14 +103,7 @@ fn places_formed(s: &[u8], at: usize, count: usize, first: usize, local: Key, i:
     true
 }
 
-// Internal: 1 for true.
-pub fn one(b: bool) -> usize
-    ensures { (result ≡ cond b 1 0) × (result ≤ 1) }
-{
-    usize::from(b)
-}
-
-// Internal: the node at `at` is connected and incoming.
+// Internal: the node at `at` is connected and incoming. Two bytes are read: `load_node` would read all 47 of the node.
 pub fn is_incoming(s: &[u8], at: usize) -> bool
     requires { at + node_size ≤ length s.now }
     ensures { result ≡ connected_incoming (node_in (part s.now at node_size)) }

@@ -3,16 +3,10 @@
 #![tactic(auto)]
 
 ghost use Rattle.std.specs.Prelude.{◌≡◌, ◌+◌, ◌<◌};
-ghost use Rattle.model.specs.Session.{leap, year_start};
+ghost use Rattle.model.specs.Session.{year_start};
 
+use session::is_leap;
 use std::io;
-
-// The leap year rule.
-fn is_leap(year: u16) -> bool
-    ensures { result ≡ leap year }
-{
-    year % 4 == 0 && (year % 100 != 0 || year % 400 == 0)
-}
 
 // The start of the year behind the year 2000 + n.
 fn next_start(n: u16, start: u32) -> u32

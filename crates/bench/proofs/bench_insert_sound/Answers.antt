@@ -4,6 +4,6 @@ use Rattle.bench.proofs.bench_insert_sound.Goals as goal
 
 pub loop-k-preserved : goal.loop-k-preserved
 loop-k-preserved c =
-    let r = c.insert_sound-r.ensures.becomes in
+    let r = c.insert_sound.ensures.becomes in
     let kept = ap (λ (s : BucketSettings). s.pending_timeout) r.settings in
     (omega arith, r.sound)

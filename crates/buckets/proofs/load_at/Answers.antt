@@ -30,5 +30,5 @@ returns c =
     let e : c.loop-i.i ≡ c.from-count.result = omega arith in
     loaded_at c.args.s.now c.args.at c.args.max_incoming c.requires.bucket_size_value c.requires.bucket_size_in_bounds (λ i. (c.type_inv.s i).fits) c.args.pending_timeout c.args.filter
     c.requires.max_incoming_le_max_nodes_per_bucket.0 c.requires.max_incoming_le_max_nodes_per_bucket.1 c.loop-i.nodes _ _ _
-    (c.loop-i.invariant.places ∙ ap (λ (k : ℕ). padded (read_places (part c.args.s.now c.args.at bucket_size) k)) e) c.from-count.ensures c.from-first.ensures
-    c.load_pending-pending.ensures
+    (c.loop-i.invariant.places ∙ ap (λ (k : ℕ). padded (read_places (part c.args.s.now c.args.at bucket_size) k)) e) c.from-count.ensures c.from.ensures
+    c.load_pending.ensures

@@ -1,6 +1,5 @@
-use Rattle.buckets.proofs.store_pending.Goals as goal
 use Rattle.buckets.proofs.Put.{pending_put}
+use Rattle.buckets.proofs.store_pending.Goals as goal
 
-pub returns-in-Waiting : goal.returns-in-Waiting
-returns-in-Waiting c =
-    cc (pending_put c.args.s.now c.args.at c.in-Waiting.node c.in-Waiting.deadline c.requires.0)
+pub returns-in-Some : goal.returns-in-Some
+returns-in-Some c = cc (pending_put c.args.s.now c.args.at c.in-Some.p c.requires.0)

@@ -1,51 +1,47 @@
-use Rattle.std.proofs.Common.{length, arith, rules}
-use Rattle.on_key.proofs.Questions.{refusal_none, refusal_some}
-use Rattle.distances.proofs.Answers.{passed_early, refused_early, refused_malformed, refused_full, queue_few, queue_full, queue_room, taken_formed, taken_room, taken_records, holds_left, formed_left, lists_found}
+use Rattle.std.proofs.Common.{length, sym, arith, rules}
+use Rattle.items.proofs.Asked.{told_some, told_none, lists_refused}
+use Rattle.distances.specs.Passes.{Told}
+use Rattle.distances.proofs.Answers.{passed_early, refused_early, refused_malformed, refused_full, queue_room, taken_formed, taken_room, taken_records, holds_left, formed_left, lists_found}
 use Rattle.distances.proofs.nodes_by_distances.Goals as goal
 
-pub returns-then-q-ne0 : goal.returns-then-q-ne0
-returns-then-q-ne0 c =
+pub returns-in_err-asked_early : goal.returns-in_err-asked_early
+returns-in_err-asked_early c =
     let a = c.args in
-    refused_early a.s.now a.distances.now a.n a.time a.out.now _ (refusal_some _ c.asked_early-q.ensures c.if-q-ne0.true)
+    lists_refused _ _ c.from_residual.ensures.1 (refused_early a.s.now a.distances.now a.n a.time a.out.now _ (sym c.in_err-asked_early.ensures))
 
 pub survey-requires : goal.survey-requires
 survey-requires c =
     let a = c.args in
-    let p = passed_early a.time a.n (length a.out.now) a.s.now (refusal_none _ c.asked_early-q.ensures c.if-q-ne0.false) in
+    let p = passed_early a.time a.n (length a.out.now) a.s.now (sym c.in_ok-asked_early.ensures) in
     record { holds = record { size = p.size; header = p.header }; timely = p.timely; n_le_max_count = p.few }
 
-pub returns-in_default : goal.returns-in_default
-returns-in_default c =
+pub returns-in_err-tally : goal.returns-in_err-tally
+returns-in_err-tally c =
     let a = c.args in
-    refused_malformed a.s.now a.distances.now a.n a.time a.out.now (refusal_none _ c.asked_early-q.ensures c.if-q-ne0.false) c.in_default.ensures
+    let t = told_none _ (Told a.time a.n a.distances.now a.s.now) c.survey.result c.in_err-tally.ensures.value c.survey.ensures in
+    lists_refused _ _ c.from_residual-in_err-tally.ensures.1
+    (rw t.1 (refused_malformed a.s.now a.distances.now a.n a.time a.out.now (sym c.in_ok-asked_early.ensures) t.0))
 
-pub record_count-requires : goal.record_count-requires
-record_count-requires c =
-    let a = c.args in
-    (passed_early a.time a.n (length a.out.now) a.s.now (refusal_none _ c.asked_early-q.ensures c.if-q-ne0.false)).size
+pub asked_queue-requires : goal.asked_queue-requires
+asked_queue-requires c =
+    let p = passed_early c.args.time c.args.n (length c.args.out.now) c.args.s.now (sym c.in_ok-asked_early.ensures) in (p.size, p.header)
 
-pub overflow_sub-record_count : goal.overflow_sub-record_count
-overflow_sub-record_count c =
+pub returns-in_err-asked_queue : goal.returns-in_err-asked_queue
+returns-in_err-asked_queue c =
     let a = c.args in
-    omega (arith, c.record_count.ensures, queue_few a.s.now a.distances.now a.n a.time a.out.now (refusal_none _ c.asked_early-q.ensures c.if-q-ne0.false) (λ j. search rules))
-
-pub returns-then-record_count-tally : goal.returns-then-record_count-tally
-returns-then-record_count-tally c =
-    let a = c.args in
-    let e = refusal_none _ c.asked_early-q.ensures c.if-q-ne0.false in
-    let y = c.in-Some.ensures in
-    refused_full a.s.now a.distances.now a.n a.time a.out.now e y.formed
-    (queue_full a.s.now a.distances.now a.n a.time a.out.now e (λ j. search rules) c.record_count.ensures y.pass.given c.if-record_count-tally.true)
+    let y = told_some _ (Told a.time a.n a.distances.now a.s.now) c.survey.result c.in_ok-tally.ensures.value c.survey.ensures in
+    lists_refused _ _ c.from_residual-in_err-asked_queue.ensures.1
+    (refused_full a.s.now a.distances.now a.n a.time a.out.now (sym c.in_ok-asked_early.ensures) y.formed y.pass.given _ c.in_err-asked_queue.ensures)
 
 pub apply_pass-requires : goal.apply_pass-requires
 apply_pass-requires c =
     let a = c.args in
     let s = a.s.now in
     let ds = a.distances.now in
-    let e = refusal_none _ c.asked_early-q.ensures c.if-q-ne0.false in
+    let e = sym c.in_ok-asked_early.ensures in
     let p = passed_early a.time a.n (length a.out.now) s e in
-    let y = c.in-Some.ensures in
-    let q = queue_room s ds a.n a.time a.out.now e (λ j. search rules) c.record_count.ensures y.pass.given c.if-record_count-tally.false in
+    let y = told_some _ (Told a.time a.n a.distances.now a.s.now) c.survey.result c.in_ok-tally.ensures.value c.survey.ensures in
+    let q = queue_room s ds a.n a.time a.out.now y.pass.given c.in_ok-asked_queue.ensures in
     record {
       holds = record { size = p.size; header = p.header };
       timely = p.timely;
@@ -55,15 +51,15 @@ apply_pass-requires c =
       records_value = taken_records s ds a.n a.time a.out.now e y.formed q y.pass;
     }
 
-pub put_all-count-requires : goal.put_all-count-requires
-put_all-count-requires c =
+pub put_all-requires : goal.put_all-requires
+put_all-requires c =
     let a = c.args in
     let s = a.s.now in
     let ds = a.distances.now in
-    let e = refusal_none _ c.asked_early-q.ensures c.if-q-ne0.false in
+    let e = sym c.in_ok-asked_early.ensures in
     let p = passed_early a.time a.n (length a.out.now) s e in
-    let y = c.in-Some.ensures in
-    let q = queue_room s ds a.n a.time a.out.now e (λ j. search rules) c.record_count.ensures y.pass.given c.if-record_count-tally.false in
+    let y = told_some _ (Told a.time a.n a.distances.now a.s.now) c.survey.result c.in_ok-tally.ensures.value c.survey.ensures in
+    let q = queue_room s ds a.n a.time a.out.now y.pass.given c.in_ok-asked_queue.ensures in
     record {
       holds = holds_left s ds a.n a.time a.out.now e y.formed q y.pass (λ j. search rules) c.apply_pass.ensures;
       taken_in_bounds = y.pass.within;
@@ -77,8 +73,8 @@ returns c =
     let a = c.args in
     let s = a.s.now in
     let ds = a.distances.now in
-    let e = refusal_none _ c.asked_early-q.ensures c.if-q-ne0.false in
-    let y = c.in-Some.ensures in
-    let q = queue_room s ds a.n a.time a.out.now e (λ j. search rules) c.record_count.ensures y.pass.given c.if-record_count-tally.false in
-    let x = c.put_all-count.ensures in
+    let e = sym c.in_ok-asked_early.ensures in
+    let y = told_some _ (Told a.time a.n a.distances.now a.s.now) c.survey.result c.in_ok-tally.ensures.value c.survey.ensures in
+    let q = queue_room s ds a.n a.time a.out.now y.pass.given c.in_ok-asked_queue.ensures in
+    let x = c.put_all.ensures in
     lists_found s ds a.n a.time a.out.now e y.formed q y.pass (λ j. search rules) c.apply_pass.ensures (rw c.at_least_one-most.ensures at x.value) (rw c.at_least_one-most.ensures at x.out_after)

@@ -25,15 +25,15 @@ returns-then-pos-b c =
       result_value_2 = status_codes (get_or b.nodes p zero_node) (stored_codes _ (stored_at b c.requires p c.if-pos-b.true));
     }
 
-pub returns-in-Waiting : goal.returns-in-Waiting
-returns-in-Waiting c =
+pub returns-in-Some : goal.returns-in-Some
+returns-in-Some c =
     let b = c.args.b in
     let k = num c.args.key in
     let e : c.position-pos.result ≡ position k (held_of b) = omega (arith, c.position-pos.ensures) in
     let absent = absent_at b c.requires k c.position-pos.result e c.if-pos-b.false in
     record {
-      result_value = kind_pending k (bucket_of b) absent _ (ap pending_of c.in-Waiting.is) (sym c.eq.ensures ∙ c.if-eq.true);
-      result_value_2 = status_codes c.in-Waiting.node (stored_codes _ (pending_stored b c.requires _ _ c.in-Waiting.is));
+      result_value = kind_pending k (bucket_of b) absent _ (ap pending_of c.in-Some.is) (sym c.eq.ensures ∙ c.if-eq.true);
+      result_value_2 = status_codes c.in-Some.pending.node (stored_codes _ (pending_stored b c.requires _ c.in-Some.is));
     }
 
 pub returns-in_default : goal.returns-in_default
@@ -42,7 +42,7 @@ returns-in_default c =
     let k = num c.args.key in
     let e : c.position-pos.result ≡ position k (held_of b) = omega (arith, c.position-pos.ensures) in
     let absent = absent_at b c.requires k c.position-pos.result e c.if-pos-b.false in
-    record { result_value = kind_other k (bucket_of b) absent _ (ap pending_of c.in-Waiting.is) (sym c.eq.ensures ∙ c.if-eq.false); result_value_2 = refl }
+    record { result_value = kind_other k (bucket_of b) absent _ (ap pending_of c.in-Some.is) (sym c.eq.ensures ∙ c.if-eq.false); result_value_2 = refl }
 
 pub returns-in_default-2 : goal.returns-in_default-2
 returns-in_default-2 c =

@@ -11,4 +11,4 @@ pub returns : goal.returns
 unfolding why_text
 returns c =
     let a = c.args in
-    filter_text max_nodes_per_subnet_bucket (value_of a.value) (nodes (bucket_of a.bucket)) c.put_word-next.ensures (rw held_nodes_lem c.put_held-end.ensures.text) (omega arith)
+    filter_text max_nodes_per_subnet_bucket (value_of a.value) (nodes (bucket_of a.bucket)) c.put_word-next.ensures (rw held_nodes_lem c.put_held.ensures.text) (omega arith)

@@ -9,4 +9,4 @@ pub returns : goal.returns
 unfolding why_text
 returns c =
     let b = c.args.bucket in
-    incoming_text (bucket_of b) (held_few b c.requires.count_le_max_nodes_per_bucket) c.put_word-next.ensures (rw held_nodes_lem c.put_held-end.ensures.text) (omega arith)
+    incoming_text (bucket_of b) (held_few b c.requires.count_le_max_nodes_per_bucket) c.put_word-next.ensures (rw held_nodes_lem c.put_held.ensures.text) (omega arith)

@@ -15,4 +15,4 @@ returns c =
     let a = c.args in
     let bs = (table_of a.s.now).buckets in
     filter_text max_nodes_per_subnet_table (value_of a.value) (other_nodes (num a.key) bs) c.put_word-next.ensures
-    (rw (counted_others (num a.key) (value_of a.value) (held_nodes num_buckets bs)) c.put_table-end.ensures.text) (omega arith)
+    (rw (counted_others (num a.key) (value_of a.value) (held_nodes num_buckets bs)) c.put_table.ensures.text) (omega arith)

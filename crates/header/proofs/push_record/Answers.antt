@@ -1,17 +1,11 @@
-use Rattle.std.proofs.Common.{sym, ◌∙◌, arith}
-use Rattle.bucket.specs.Calls.{records_of}
-use Rattle.header.proofs.Queue.{pushed_records, pushed_nothing}
+use Rattle.std.proofs.Common.{arith, rules}
+use Rattle.header.proofs.Queue.{pushed_record, pushed_nothing}
 use Rattle.header.proofs.push_record.Goals as goal
 
-pub returns-then-count_of-eq0 : goal.returns-then-count_of-eq0
-returns-then-count_of-eq0 c =
-    let r = c.requires in
-    pushed_nothing c.args.s.now r.s_len (λ i. (c.slice_known-1.given i).fits) r.s_value (records_of c.args.ended) (sym c.count_of.ensures.0 ∙ c.if-count_of-eq0.true)
+pub returns-then-is_none : goal.returns-then-is_none
+returns-then-is_none c = pushed_nothing c.args.s.now c.requires.s_len (λ i. (c.type_inv.s i).fits) c.requires.s_value c.args.ended (rw c.if-is_none.true at c.is_none.ensures)
 
 pub returns : goal.returns
 returns c =
-    let a = c.args in
-    let r = c.requires in
     let n = c.record_count-count in
-    cc (pushed_records a.s.now r.s_len (λ i. (c.slice_known-1.given i).fits) r.s_value (records_of a.ended) n.result n.ensures
-    (omega (arith, n.ensures)) (omega (arith, c.count_of.ensures.0, c.count_of.ensures.1)) (λ z. c.if-count_of-eq0.false (c.count_of.ensures.0 ∙ z)))
+    cc (pushed_record c.args.s.now c.requires.s_len (search rules) c.requires.s_value c.args.ended (rw c.if-is_none.false at c.is_none.ensures) n.result n.ensures (omega (arith, n.ensures)))

@@ -1,15 +1,14 @@
 use Rattle.std.proofs.Common.{arith}
 use Rattle.key.specs.Key.{num}
-use Rattle.held.proofs.Quiet.{count_few}
-use Rattle.held.proofs.Steps.{at_place, removes, removes_none}
+use Rattle.held.proofs.Steps.{count_low, at_place, removes, removes_none}
 use Rattle.held.proofs.remove.Goals as goal
 
 pub position-pos-requires : goal.position-pos-requires
-position-pos-requires c = (c.requires.0, omega (arith, count_few c.args.s.now c.args.at c.requires.1, c.from-count.ensures))
+position-pos-requires c = (c.requires.0, count_low c.args.s.now c.args.at c.requires.1 c.requires.0 c.from-count.result c.from-count.ensures)
 
 pub take_out-requires : goal.take_out-requires
 take_out-requires c = record {
-  bucket_size_in_bounds = (c.requires.0, omega (arith, count_few c.args.s.now c.args.at c.requires.1, c.from-count.ensures), omega arith);
+  bucket_size_in_bounds = (c.requires.0, count_low c.args.s.now c.args.at c.requires.1 c.requires.0 c.from-count.result c.from-count.ensures, omega arith);
   count_value = (c.from-count.ensures, c.requires.1);
 }
 

@@ -1,16 +1,15 @@
 use Rattle.std.proofs.Common.{arith}
 use Rattle.key.specs.Key.{num}
 use Rattle.node.specs.Node.{value_of}
-use Rattle.held.proofs.Quiet.{count_few}
-use Rattle.held.proofs.Steps.{at_place, value_none}
+use Rattle.held.proofs.Steps.{count_low, at_place, value_none}
 use Rattle.held.proofs.update_value.Goals as goal
 
 pub position-pos-requires : goal.position-pos-requires
-position-pos-requires c = (c.requires.bucket_size_in_bounds.0, omega (arith, count_few c.args.s.now c.args.at c.requires.bucket_size_in_bounds.1, c.from-count.ensures))
+position-pos-requires c = (c.requires.bucket_size_in_bounds.0, count_low c.args.s.now c.args.at c.requires.bucket_size_in_bounds.1 c.requires.bucket_size_in_bounds.0 c.from-count.result c.from-count.ensures)
 
 pub value_at-requires : goal.value_at-requires
 value_at-requires c = record {
-  bucket_size_in_bounds = (c.requires.bucket_size_in_bounds.0, omega (arith, count_few c.args.s.now c.args.at c.requires.bucket_size_in_bounds.1, c.from-count.ensures), omega arith);
+  bucket_size_in_bounds = (c.requires.bucket_size_in_bounds.0, count_low c.args.s.now c.args.at c.requires.bucket_size_in_bounds.1 c.requires.bucket_size_in_bounds.0 c.from-count.result c.from-count.ensures, omega arith);
   count_value = (c.from-count.ensures, c.requires.bucket_size_in_bounds.1, c.requires.value_value);
 }
 

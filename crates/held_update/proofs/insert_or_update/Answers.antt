@@ -1,10 +1,8 @@
-use Rattle.std.proofs.Common.{arith, ap, ◌≡◌, ◌∙◌}
-use Rattle.model.specs.Base.{is_some}
+use Rattle.std.proofs.Common.{arith}
 use Rattle.key.specs.Key.{num}
 use Rattle.node.specs.Node.{node_of}
 use Rattle.held.specs.Held.{settings_here}
-use Rattle.held.proofs.Quiet.{count_few}
-use Rattle.held.proofs.Steps.{at_place, at_most, absent_get}
+use Rattle.held.proofs.Steps.{count_low, at_place, absent_holds, absent_place}
 use Rattle.held_update.proofs.Laws.{filtered_does, held_does, inserted_does}
 use Rattle.held_update.proofs.insert_or_update.Goals as goal
 
@@ -13,7 +11,7 @@ returns-then-fails c = filtered_does c.args.s.now c.args.at (node_of c.args.node
 
 pub update_held-requires : goal.update_held-requires
 update_held-requires c = record {
-  bucket_size_in_bounds = (c.requires.bucket_size_in_bounds.0, omega (arith, count_few c.args.s.now c.args.at c.requires.bucket_size_in_bounds.1, c.requires.count_value.0), omega arith);
+  bucket_size_in_bounds = (c.requires.bucket_size_in_bounds.0, count_low c.args.s.now c.args.at c.requires.bucket_size_in_bounds.1 c.requires.bucket_size_in_bounds.0 c.args.count c.requires.count_value.0, omega arith);
   count_value = (c.requires.count_value.0, c.requires.bucket_size_in_bounds.1);
   node_value = (c.requires.node_value.0, at_place c.args.s.now c.args.at c.requires.bucket_size_in_bounds.1 c.requires.bucket_size_in_bounds.0 c.args.count c.requires.count_value.0 (num c.args.node.key) c.args.pos c.requires.count_value.1);
 }
@@ -21,16 +19,13 @@ update_held-requires c = record {
 pub returns-then-pos-count : goal.returns-then-pos-count
 returns-then-pos-count c = held_does c.args.s.now c.args.at (node_of c.args.node) c.args.time c.if-fails.false (c.update_held.ensures c.args.time)
 
-pub insert_new-r-requires : goal.insert_new-r-requires
-insert_new-r-requires c =
-    let m = at_most c.args.s.now c.args.at c.requires.bucket_size_in_bounds.1 c.requires.bucket_size_in_bounds.0 c.args.count c.requires.count_value.0 (num c.args.node.key) c.args.pos c.requires.count_value.1 in
-    let q : c.args.pos ≡ c.args.count = omega (arith, m) in
-    record {
-      bucket_size_in_bounds = (c.requires.bucket_size_in_bounds.0, c.requires.count_value.0, c.requires.bucket_size_in_bounds.1);
-      node_value = c.requires.node_value;
-      count_le_max_nodes_per_bucket = (omega (arith, count_few c.args.s.now c.args.at c.requires.bucket_size_in_bounds.1, c.requires.count_value.0), at_place c.args.s.now c.args.at c.requires.bucket_size_in_bounds.1 c.requires.bucket_size_in_bounds.0 c.args.count c.requires.count_value.0 (num c.args.node.key) c.args.pos c.requires.count_value.1 ∙ q);
-    }
+pub insert_new-requires : goal.insert_new-requires
+insert_new-requires c = record {
+  bucket_size_in_bounds = (c.requires.bucket_size_in_bounds.0, c.requires.count_value.0, c.requires.bucket_size_in_bounds.1);
+  node_value = c.requires.node_value;
+  count_le_max_nodes_per_bucket = (count_low c.args.s.now c.args.at c.requires.bucket_size_in_bounds.1 c.requires.bucket_size_in_bounds.0 c.args.count c.requires.count_value.0, absent_place c.args.s.now c.args.at c.requires.bucket_size_in_bounds.1 c.requires.bucket_size_in_bounds.0 c.args.count c.requires.count_value.0 (num c.args.node.key) c.args.pos c.requires.count_value.1 (omega arith));
+}
 
 pub returns : goal.returns
 returns c =
-    inserted_does c.args.s.now c.args.at (node_of c.args.node) c.args.time c.if-fails.false (ap is_some (absent_get c.args.s.now c.args.at c.requires.bucket_size_in_bounds.1 c.requires.bucket_size_in_bounds.0 c.args.count c.requires.count_value.0 (num c.args.node.key) c.args.pos c.requires.count_value.1 (omega arith))) c.inserts.ensures c.insert_new-r.ensures
+    inserted_does c.args.s.now c.args.at (node_of c.args.node) c.args.time c.if-fails.false (absent_holds c.args.s.now c.args.at c.requires.bucket_size_in_bounds.1 c.requires.bucket_size_in_bounds.0 c.args.count c.requires.count_value.0 (num c.args.node.key) c.args.pos c.requires.count_value.1 (omega arith)) c.inserts.ensures c.insert_new.ensures

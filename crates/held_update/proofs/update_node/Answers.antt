@@ -3,8 +3,7 @@ use Rattle.model.specs.Call.{optional}
 use Rattle.key.specs.Key.{num}
 use Rattle.node.specs.Node.{value_of}
 use Rattle.held.specs.Held.{settings_here}
-use Rattle.held.proofs.Quiet.{count_few}
-use Rattle.held.proofs.Steps.{at_place, value_none}
+use Rattle.held.proofs.Steps.{count_low, at_place, value_none}
 use Rattle.held_update.proofs.Laws.{out_does, kept_does, value_failed}
 use Rattle.held_update.proofs.update_node.Goals as goal
 
@@ -12,7 +11,7 @@ pub returns-then-fails : goal.returns-then-fails
 returns-then-fails c = λ time. out_does c.args.s.now c.args.at time (num c.args.key) (value_of c.args.value) (optional c.args.state) c.if-fails.true (c.remove.ensures (settings_here c.args.s.now) time)
 
 pub position-pos-requires : goal.position-pos-requires
-position-pos-requires c = (c.requires.bucket_size_in_bounds.0, omega (arith, count_few c.args.s.now c.args.at c.requires.bucket_size_in_bounds.1, c.from-count.ensures))
+position-pos-requires c = (c.requires.bucket_size_in_bounds.0, count_low c.args.s.now c.args.at c.requires.bucket_size_in_bounds.1 c.requires.bucket_size_in_bounds.0 c.from-count.result c.from-count.ensures)
 
 -- the key is not held
 pub returns-then-count-pos : goal.returns-then-count-pos
@@ -24,7 +23,7 @@ returns-then-count-pos c =
 
 pub update_at-requires : goal.update_at-requires
 update_at-requires c = record {
-  bucket_size_in_bounds = (c.requires.bucket_size_in_bounds.0, omega (arith, count_few c.args.s.now c.args.at c.requires.bucket_size_in_bounds.1, c.from-count.ensures), omega arith);
+  bucket_size_in_bounds = (c.requires.bucket_size_in_bounds.0, count_low c.args.s.now c.args.at c.requires.bucket_size_in_bounds.1 c.requires.bucket_size_in_bounds.0 c.from-count.result c.from-count.ensures, omega arith);
   count_value = (c.from-count.ensures, c.requires.bucket_size_in_bounds.1);
   value_value = c.requires.value_value;
 }

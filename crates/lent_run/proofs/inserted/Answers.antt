@@ -5,4 +5,4 @@ use Rattle.lent_run.proofs.inserted.Goals as goal
 
 pub prove-unreachable-requires-2 : goal.prove-unreachable-requires-2
 prove-unreachable-requires-2 g c =
-    c.if-prove-2.true (ap (λ (b : KBucket). b.count) c.inserted-r.ensures.bucket_value ∙ two_held)
+    c.if-prove-2.true (ap (λ (b : KBucket). b.count) c.inserted-step.ensures.bucket_value ∙ two_held)

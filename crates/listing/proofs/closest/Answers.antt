@@ -1,33 +1,36 @@
+use mathlib.Core.Path.{sym}
 use mathlib.Core.Option.{some}
 use borrow.Author.Tests.{eqb-true}
 use Rattle.model.specs.Layout.{table_of}
 use Rattle.items.specs.declared.Shape.{Shape}
 use Rattle.items.specs.Shape.{form_codes}
+use Rattle.items.proofs.Asked.{lists_refused}
 use Rattle.on_key.specs.Answers.{first_five}
-use Rattle.on_key.proofs.Questions.{refusal_none, refusal_some, passed_five}
+use Rattle.on_key.proofs.Questions.{passed_five}
 use Rattle.on_key.proofs.Steps.{timely}
 use Rattle.listing.specs.Listed.{closest_listing}
 use Rattle.listing.proofs.Shapes.{closest_gives}
 use Rattle.listing.proofs.Steps.{refused_first, listed_is, first_five_lem, closest_asked}
 use Rattle.listing.proofs.closest.Goals as goal
 
-pub returns-then-q-ne0 : goal.returns-then-q-ne0
-returns-then-q-ne0 c =
+pub returns-in_err-asked : goal.returns-in_err-asked
+returns-in_err-asked c =
     let a = c.args in
     let s = a.s.now in
     let target = a.target.now in
-    refused_first (closest_listing a.form target) a.n a.time a.out.now s (first_five target (form_codes a.form) (some a.time) s)
-    (closest_asked a.form target a.n a.time a.out.now s) _ (first_five_lem target a.time s c.in_range-codes.ensures (refusal_some _ c.asked_at-q.ensures c.if-q-ne0.true))
+    lists_refused _ _ c.from_residual.ensures.1
+    (refused_first (closest_listing a.form target) a.n a.time a.out.now s (first_five target (form_codes a.form) (some a.time) s)
+    (closest_asked a.form target a.n a.time a.out.now s) _ (first_five_lem target a.time s c.in_range.ensures (sym c.in_err-asked.ensures)))
 
 pub key_of-key-requires : goal.key_of-key-requires
 key_of-key-requires c =
     let a = c.args in
-    eqb-true _ _ (passed_five a.s.now a.target.now _ (some a.time) (refusal_none _ c.asked_at-q.ensures c.if-q-ne0.false)).key_size_lem
+    eqb-true _ _ (passed_five a.s.now a.target.now _ (some a.time) (sym c.in_ok-asked.ensures)).key_size_lem
 
 pub list-requires : goal.list-requires
 list-requires c =
     let a = c.args in
-    let q = refusal_none _ c.asked_at-q.ensures c.if-q-ne0.false in
+    let q = sym c.in_ok-asked.ensures in
     let p = passed_five a.s.now a.target.now _ (some a.time) q in
     record { s_len = (p.size, p.header); timely = timely a.s.now a.target.now _ a.time q }
 
@@ -36,7 +39,7 @@ returns c =
     let a = c.args in
     let s = a.s.now in
     let target = a.target.now in
-    let q = refusal_none _ c.asked_at-q.ensures c.if-q-ne0.false in
+    let q = sym c.in_ok-asked.ensures in
     listed_is (closest_listing a.form target) a.n a.time a.out.now s (first_five target (form_codes a.form) (some a.time) s)
-    (closest_asked a.form target a.n a.time a.out.now s) (first_five_lem target a.time s c.in_range-codes.ensures q)
+    (closest_asked a.form target a.n a.time a.out.now s) (first_five_lem target a.time s c.in_range.ensures q)
     (Shape.Closest c.key_of-key.result a.form) (closest_gives a.form target c.key_of-key.result c.key_of-key.ensures (table_of s) a.n a.time) c.list.ensures

@@ -1,22 +1,25 @@
+use Rattle.std.proofs.Common.{sym}
 use Rattle.model.specs.Layout.{table_of}
 use Rattle.model.specs.Call.{Listing}
 use Rattle.items.specs.declared.Shape.{Shape}
+use Rattle.items.proofs.Asked.{lists_refused}
 use Rattle.on_key.specs.Answers.{first_three}
-use Rattle.on_key.proofs.Questions.{refusal_none, refusal_some, passed_three}
+use Rattle.on_key.proofs.Questions.{passed_three}
 use Rattle.listing.proofs.Shapes.{iter_gives}
 use Rattle.listing.proofs.Steps.{refused_first, listed_is, first_three_lem, iter_asked}
 use Rattle.listing.proofs.iter.Goals as goal
 
-pub returns-then-q-ne0 : goal.returns-then-q-ne0
-returns-then-q-ne0 c =
+pub returns-in_err-asked_time : goal.returns-in_err-asked_time
+returns-in_err-asked_time c =
     let a = c.args in
     let s = a.s.now in
-    refused_first Listing.iter a.n a.time a.out.now s (first_three a.time s) (iter_asked a.n a.time a.out.now s) _
-    (first_three_lem a.time s (refusal_some _ c.asked_time-q.ensures c.if-q-ne0.true))
+    lists_refused _ _ c.from_residual.ensures.1
+    (refused_first Listing.iter a.n a.time a.out.now s (first_three a.time s) (iter_asked a.n a.time a.out.now s) _
+    (first_three_lem a.time s (sym c.in_err-asked_time.ensures)))
 
 pub list-requires : goal.list-requires
 list-requires c =
-    let p = passed_three c.args.s.now c.args.time (refusal_none _ c.asked_time-q.ensures c.if-q-ne0.false) in
+    let p = passed_three c.args.s.now c.args.time (sym c.in_ok-asked_time.ensures) in
     record { s_len = (p.size, p.header); timely = p.timely }
 
 pub returns : goal.returns
@@ -24,5 +27,5 @@ returns c =
     let a = c.args in
     let s = a.s.now in
     listed_is Listing.iter a.n a.time a.out.now s (first_three a.time s) (iter_asked a.n a.time a.out.now s)
-    (first_three_lem a.time s (refusal_none _ c.asked_time-q.ensures c.if-q-ne0.false))
+    (first_three_lem a.time s (sym c.in_ok-asked_time.ensures))
     Shape.Nodes (iter_gives (table_of s) a.n a.time) c.list.ensures

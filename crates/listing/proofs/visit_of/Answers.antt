@@ -12,4 +12,4 @@ returns-in-Nodes c = rw c.in-Nodes.is
 pub returns-in-Closest : goal.returns-in-Closest
 unfolding visit_order_by
 returns-in-Closest c =
-    c.new.ensures ∙ ap visits (c.distance.ensures ∙ ap (λ (x : ℕ). distance x (num c.in-Closest.target)) c.local_key-local.ensures) ∙ (rw c.in-Closest.is)
+    c.new.ensures ∙ ap visits (c.distance-distance.ensures ∙ ap (λ (x : ℕ). distance x (num c.in-Closest.target)) c.local_key.ensures) ∙ (rw c.in-Closest.is)

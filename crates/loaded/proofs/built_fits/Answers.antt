@@ -36,7 +36,7 @@ three_of_a_net-requires c =
     let a = c.args in
     let r = c.requires in
     let n = built_size a.bytes.now a.nodes a.from a.i r.bucketed a.b.now _ r.i_bound r.b_len c.build.ensures in
-    (omega (arith, r.b_len), c.size.ensures ∙ sym n, omega (arith, c.size.ensures, r.i_bound))
+    (omega (arith, r.b_len), c.from.ensures ∙ sym n, omega (arith, c.from.ensures, r.i_bound))
 
 pub returns : goal.returns
 returns c =

@@ -12,7 +12,7 @@ loop-j-preserved c =
     let a = c.args in
     let l = c.loop-j in
     let o : ℕ → ℕ = octet_at a.s.now a.at in
-    let e : c.size-octet.result ≡ o l.j = c.size-octet.ensures in
+    let e : c.from-octet.result ≡ o l.j = c.from-octet.ensures in
     let b = (c.type_inv.s (a.at + (2 + l.j * node_size) + 34 + 3)).fits in
     (rw length-set l.invariant.0, rw e (seen_more o l.j l.seen l.invariant.1 (rw (← e) (omega (arith, b))) (rw (← e) (omega arith))))
 

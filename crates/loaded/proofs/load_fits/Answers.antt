@@ -23,5 +23,5 @@ buckets_fit-requires c = record { nodes_are = c.saved_nodes-nodes.ensures.0; siz
 pub returns : goal.returns
 returns c =
     c.buckets_fit.ensures
-    ∙ fits_by c.args.s.now c.args.bytes.now (num c.local_key-local.result) c.size-max_incoming.result c.local_key-local.ensures c.size-max_incoming.ensures
+    ∙ fits_by c.args.s.now c.args.bytes.now (num c.local_key-local.result) c.from-max_incoming.result c.local_key-local.ensures c.from-max_incoming.ensures
     (sym c.holds_nothing.ensures ∙ c.if-not-holds_nothing.false) (c.if-bytes-nodes.false ∙ ap (λ (j : ℕ). num_buckets + j * node_size) c.saved_nodes-nodes.ensures.0)

@@ -2,7 +2,8 @@ use Rattle.std.proofs.Common.{◌≡◌, sym, ap, ◌∙◌, true, true≢false}
 use Rattle.model.specs.Base.{same}
 use Rattle.key.specs.declared.Key.{Key}
 use Rattle.key.specs.Key.{num}
-use Rattle.bucket.specs.Calls.{insert_answer_of}
+use Rattle.node.specs.Refusal.{reply_of}
+use Rattle.bucket.specs.Calls.{insert_result_of}
 use Rattle.positions.specs.Positions.{key_from, names_key}
 use Rattle.positions.proofs.row9.Goals as goal
 
@@ -10,6 +11,6 @@ pub prove-unreachable-requires : goal.prove-unreachable-requires
 unfolding same num
 prove-unreachable-requires g c =
     let e : c.names.result ≡ true =
-    c.names.ensures ∙ ap (λ (k : Key). names_key (num k) (insert_answer_of c.row9-r.result.first)) c.key_from.ensures
-    ∙ ap (names_key (num (key_from 32))) c.row9-r.ensures.first_value in
+    c.names.ensures ∙ ap (λ (k : Key). names_key (num k) (reply_of insert_result_of c.row9-first.result.0)) c.key_from.ensures
+    ∙ ap (names_key (num (key_from 32))) c.row9-first.ensures.first_value in
     true≢false (sym e ∙ c.if-prove.true)

@@ -1,4 +1,4 @@
-use mathlib.Core.Path.{refl}
+use Rattle.std.proofs.Common.{refl}
 use Rattle.reasons.proofs.Rules.{tells}
 use Rattle.reasons.proofs.no_reason.Goals as goal
 

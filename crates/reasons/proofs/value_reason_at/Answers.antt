@@ -1,42 +1,32 @@
-use mathlib.Core.Path.{sym, ap, ◌∙◌}
+use mathlib.Core.Path.{◌≡◌, sym, ap, ◌∙◌}
+use mathlib.Core.Bool.{false, not, cond, ◌&&◌}
 use lib.ListN.{get_or}
+use Rattle.model.specs.Value.{same_value}
 use Rattle.model.specs.Bucket as rules
-use Rattle.model.specs.Explain.{bucket_filter_reason}
+use Rattle.model.specs.Explain.{Reason, bucket_filter_reason}
 use Rattle.node.specs.Node.{value_of, node_of, zero_node}
 use Rattle.bucket.specs.Bucket.{bucket_of, settings_of, key_at}
 use Rattle.bucket.proofs.Steps.{told, get_at}
-use Rattle.reasons.proofs.Rules.{tells, value_same, value_fails, value_changes}
+use Rattle.reasons.proofs.Rules.{tells, reason_if, value_tested}
 use Rattle.reasons.proofs.value_reason_at.Goals as goal
-
-pub returns-then-eq : goal.returns-then-eq
-returns-then-eq c =
-    let b = c.args.b in
-    let k = key_at b c.args.pos in
-    let v = value_of c.args.value in
-    let y = c.taken_out-rest.ensures in
-    let old = node_of (get_or b.nodes c.args.pos zero_node) in
-    let at = get_at b c.requires.sound c.args.pos c.requires.pos_lt_count in
-    tells _ y.sound _ (λ bs. value_same (settings_of b) k v (bucket_of b) old at (sym c.eq.ensures ∙ c.if-eq.true))
-
-pub fails_filter-requires : goal.fails_filter-requires
-fails_filter-requires c = c.taken_out-rest.ensures.sound
-
-pub returns-then-fails_filter : goal.returns-then-fails_filter
-returns-then-fails_filter c =
-    let b = c.args.b in
-    let k = key_at b c.args.pos in
-    let v = value_of c.args.value in
-    let y = c.taken_out-rest.ensures in
-    let old = node_of (get_or b.nodes c.args.pos zero_node) in
-    let at = get_at b c.requires.sound c.args.pos c.requires.pos_lt_count in
-    tells _ y.sound _ (λ bs. ap (bucket_filter_reason v) y.bucket ∙ value_fails (settings_of b) k v (bucket_of b) old at (sym c.eq.ensures ∙ c.if-eq.false) (sym (told y (λ (s : rules.BucketSettings) (m : rules.Bucket). rules.fails_bucket_filter s v m)) ∙ sym c.fails_filter.ensures ∙ c.if-fails_filter.true))
+use Rattle.reasons.proofs.value_reason_at.Goals.{then-not-eq, else-not-eq}
 
 pub returns : goal.returns
 returns c =
     let b = c.args.b in
+    let s = settings_of b in
     let k = key_at b c.args.pos in
     let v = value_of c.args.value in
     let y = c.taken_out-rest.ensures in
     let old = node_of (get_or b.nodes c.args.pos zero_node) in
     let at = get_at b c.requires.sound c.args.pos c.requires.pos_lt_count in
-    tells _ y.sound _ (λ bs. value_changes (settings_of b) k v (bucket_of b) old at (sym c.eq.ensures ∙ c.if-eq.false) (sym (told y (λ (s : rules.BucketSettings) (m : rules.Bucket). rules.fails_bucket_filter s v m)) ∙ sym c.fails_filter.ensures ∙ c.if-fails_filter.false))
+    let e : c.if-not-eq.fails ≡ (not (same_value old.value v) && rules.fails_bucket_filter s v (rules.take_out k (bucket_of b))) =
+    elim c.if-not-eq.branch [
+      | then-not-eq w ↦ w.fails-is ∙ w.fails_filter-fails.ensures ∙ told y (λ (s : rules.BucketSettings) (m : rules.Bucket). rules.fails_bucket_filter s v m) ∙ rw (sym c.eq.ensures ∙ w.if-not-eq.true)
+      | else-not-eq w ↦ let f : c.if-not-eq.fails ≡ false = w.fails-is ∙ ap not w.if-not-eq.false in f ∙ rw (sym c.eq.ensures ∙ w.if-not-eq.false)
+    ] in
+    tells _ y.sound _ (λ bs.
+    rw c.then_some.ensures
+    (reason_if bs (bucket_of c.taken_out-rest.result) v c.if-not-eq.fails _
+    ∙ ap (λ (m : rules.Bucket). cond c.if-not-eq.fails (bucket_filter_reason v m) Reason.None) y.bucket
+    ∙ value_tested s k v (bucket_of b) old at c.if-not-eq.fails e))

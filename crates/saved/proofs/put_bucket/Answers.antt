@@ -31,14 +31,14 @@ overflow_add-k c =
     let l = c.loop-j in
     let lt : l.j < get_or a.s.now (bucket_at a.i) 0 = omega arith in
     let fits = place_fits a.field (node_from a.s.now (bucket_at a.i)) l.j _ a.out.now a.to lt (rw (length_held a.s.now a.i) at c.requires.field_in_bounds) l.invariant in
-    record { fits = rw c.field_size-size.ensures (omega (arith, fits, l.invariant.size)) }
+    record { fits = rw c.size-size.ensures (omega (arith, fits, l.invariant.size)) }
 
 pub loop-j-preserved : goal.loop-j-preserved
 loop-j-preserved c =
     let a = c.args in
     let l = c.loop-j in
     let lt : l.j < get_or a.s.now (bucket_at a.i) 0 = omega arith in
-    place_put a.field (node_from a.s.now (bucket_at a.i)) l.j _ a.out.now a.to lt (rw (length_held a.s.now a.i) at c.requires.field_in_bounds) l.invariant c.field_size-size.ensures
+    place_put a.field (node_from a.s.now (bucket_at a.i)) l.j _ a.out.now a.to lt (rw (length_held a.s.now a.i) at c.requires.field_in_bounds) l.invariant c.size-size.ensures
     c.put_field.ensures
 
 pub returns : goal.returns

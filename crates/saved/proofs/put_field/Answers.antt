@@ -14,7 +14,7 @@ put_entry-requires c =
     }
 
 pub returns-in-Key : goal.returns-in-Key
-returns-in-Key c = let a = c.args in c.store.ensures ∙ ap (splice a.out.now a.to) (key_is a.s.now a.at c.in-Key.is c.load-key.ensures)
+returns-in-Key c = let a = c.args in c.store.ensures ∙ ap (splice a.out.now a.to) (key_is a.s.now a.at c.in-Key.is c.load.ensures)
 
 pub returns-in-Entry : goal.returns-in-Entry
 returns-in-Entry c =

@@ -5,4 +5,4 @@ use Rattle.session.specs.Hours.{date_of}
 use Rattle.session.proofs.is_date.Goals as goal
 
 pub returns : goal.returns
-returns c = c.is_valid.ensures ∙ ap (λ (d : Date). is_date (date_of d)) c.of.ensures
+returns c = c.is_valid.ensures ∙ ap (λ (d : Date). is_date (date_of d)) c.from.ensures

@@ -8,12 +8,12 @@ use Rattle.visit.proofs.apply_in.Goals as goal
 
 pub write_back-requires-clause-applied_value : goal.write_back-requires-clause-applied_value
 write_back-requires-clause-applied_value c =
-    visit_room c.args.s.now c.args.time c.args.i _ c.apply_at-a.ensures.records c.requires.s_len_bound
+    visit_room c.args.s.now c.args.time c.args.i _ c.apply_at-step.ensures.records c.requires.s_len_bound
 
 pub returns-then-is_due : goal.returns-then-is_due
 returns-then-is_due c =
     let a = c.args in
-    let x = c.apply_at-a.ensures in
+    let x = c.apply_at-step.ensures in
     c.write_back.ensures ∙ ap₂ (λ (b : Bucket) (rs : List EndedPending). rewritten a.s.now a.i b rs) x.bucket.bucket x.records
     ∙ visit_written a.s.now a.time a.i
 

@@ -30,7 +30,7 @@ returns-then-self-eq0 c =
     let d = done_apply s (rules.apply_due s now n m) m (ended n Ending.FirstConnected) b
     (due_connected s now n m absent (subst (λ (k : ℕ). rules.max_nodes_per_bucket ≤ k) (count_of b c.requires.sound) c.if-full.true) (none_disconnected b c.requires.sound c.if-self-eq0.true))
     (becomes_itself b c.requires.sound) refl in
-    record { applied_value = d.0; becomes = d.1.0; applied_value_2 = d.1.1 }
+    rw c.dropped.ensures (record { result_value = d.0; becomes = d.1.0; result_value_2 = d.1.1 })
 
 pub returns-then-fails_filter : goal.returns-then-fails_filter
 returns-then-fails_filter c =
@@ -42,7 +42,7 @@ returns-then-fails_filter c =
     let absent : rules.holds (num c.args.node.key) m ≡ false = c.requires.self_value in
     let d = done_apply s (rules.apply_due s now n m) m (ended n Ending.BucketFilter) b
     (due_filter s now n m absent (open_of b c.requires.sound (not_both c.else-full.either)) (sym c.fails_filter.ensures ∙ c.if-fails_filter.true)) (becomes_itself b c.requires.sound) refl in
-    record { applied_value = d.0; becomes = d.1.0; applied_value_2 = d.1.1 }
+    rw c.dropped-then-fails_filter.ensures (record { result_value = d.0; becomes = d.1.0; result_value_2 = d.1.1 })
 
 pub returns-then-is_max_incoming : goal.returns-then-is_max_incoming
 returns-then-is_max_incoming c =
@@ -54,7 +54,7 @@ returns-then-is_max_incoming c =
     let absent : rules.holds (num c.args.node.key) m ≡ false = c.requires.self_value in
     let d = done_apply s (rules.apply_due s now n m) m (ended n Ending.TooManyIncoming) b
     (due_many s now n m absent (sym c.fails_filter.ensures ∙ c.if-fails_filter.false) (open_of b c.requires.sound (not_both c.else-full.either)) (sym c.is_max_incoming.ensures ∙ c.if-is_max_incoming.true)) (becomes_itself b c.requires.sound) refl in
-    record { applied_value = d.0; becomes = d.1.0; applied_value_2 = d.1.1 }
+    rw c.dropped-then-is_max_incoming.ensures (record { result_value = d.0; becomes = d.1.0; result_value_2 = d.1.1 })
 
 pub returns-then-full-2 : goal.returns-then-full-2
 returns-then-full-2 c =
@@ -69,8 +69,8 @@ returns-then-full-2 c =
     let rest = first_of_full b c.requires.sound (not_both c.else-full.either) c.if-full-2.true in
     let d = by_apply s (rules.apply_due s now n m) (rules.placed n (rules.take_out f.key m)) (ended n (Ending.Placed (some f))) _ _
     (due_evicts s now n m absent (sym c.fails_filter.ensures ∙ c.if-fails_filter.false) (sym c.is_max_incoming.ensures ∙ c.if-is_max_incoming.false) many f rest.0 rest.1 c.requires.pending_value (formed_of b c.requires.sound).different)
-    (c.evict.ensures.applied_value, (c.evict.ensures.becomes, c.evict.ensures.applied_value_2)) in
-    record { applied_value = d.0; becomes = d.1.0; applied_value_2 = d.1.1 }
+    (c.evict.ensures.result_value, (c.evict.ensures.becomes, c.evict.ensures.result_value_2)) in
+    record { result_value = d.0; becomes = d.1.0; result_value_2 = d.1.1 }
 
 pub returns : goal.returns
 returns c =
@@ -82,4 +82,4 @@ returns c =
     let absent : rules.holds (num c.args.node.key) m ≡ false = c.requires.self_value in
     let d = done_apply s (rules.apply_due s now n m) (rules.placed n m) (ended n (Ending.Placed none)) c.placed.result
     (due_placed s now n m absent (sym c.fails_filter.ensures ∙ c.if-fails_filter.false) (sym c.is_max_incoming.ensures ∙ c.if-is_max_incoming.false) (subst (λ (k : ℕ). k < rules.max_nodes_per_bucket) (count_of b c.requires.sound) c.if-full-2.false)) c.placed.ensures refl in
-    record { applied_value = d.0; becomes = d.1.0; applied_value_2 = d.1.1 }
+    record { result_value = d.0; becomes = d.1.0; result_value_2 = d.1.1 }

@@ -1,6 +1,5 @@
 use mathlib.Core.Path.{◌≡◌, refl, sym, ap, ◌∙◌, subst}
 use mathlib.Core.Option.{none}
-use Prim.Native.Nat.{ℕ}
 use native.Mathlib.Omega.{arith}
 use Rattle.model.specs.Bucket as rules
 use Rattle.model.specs.Node as model
@@ -9,7 +8,7 @@ use Rattle.laws.proofs.Applied.{apply_none}
 use Rattle.node.specs.declared.Node.{Node}
 use Rattle.node.specs.Node.{node_of}
 use Rattle.bucket.specs.Bucket.{pending_of, bucket_of, settings_of, Becomes}
-use Rattle.bucket.specs.declared.Pending.TheVariants.{Nothing, Waiting}
+use Rattle.std.proofs.Common.{None}
 use mathlib.Core.List.{List, []}
 use Rattle.node.proofs.Stored.{stored_codes}
 use Rattle.bucket.specs.declared.KBucket.{KBucket}
@@ -22,35 +21,34 @@ use Rattle.bucket.proofs.KBucket.apply_pending_sound.Goals as goal
 pub apply_due-requires : goal.apply_due-requires
 apply_due-requires c =
     let b = c.args.self in
-    let n : Node = c.in-Waiting.node in
-    let d : ℕ = c.in-Waiting.deadline in
-    let e : b.pending ≡ Waiting n d = c.in-Waiting.is in
-    let x = subst (Becomes (settings_of b) (rules.with_pending none (bucket_of b))) (sym c.with_pending.ensures) (pending_becomes b c.requires.sound Nothing none refl tt) in
+    let p = c.in-Some.pending in
+    let n : Node = p.node in
+    let x = subst (Becomes (settings_of b) (rules.with_pending none (bucket_of b))) (sym c.with_pending.ensures) (pending_becomes b c.requires.sound None none refl tt) in
     let t : c.with_pending.result.pending_timeout ≡ b.pending_timeout = ap (λ (k : KBucket). k.pending_timeout) c.with_pending.ensures in
     record {
       sound = x.sound;
-      node_value = stored_codes n (pending_stored b c.requires.sound n d e);
+      node_value = stored_codes n (pending_stored b c.requires.sound p c.in-Some.is);
       pending_timeout_bound = omega (arith, c.requires.pending_timeout_bound);
       pending_value = ap (λ (k : KBucket). pending_of k.pending) c.with_pending.ensures;
-      self_value = told x (λ (s : rules.BucketSettings) (m : rules.Bucket). rules.holds (num n.key) m) ∙ pending_apart b c.requires.sound n d e;
+      self_value = told x (λ (s : rules.BucketSettings) (m : rules.Bucket). rules.holds (num n.key) m) ∙ pending_apart b c.requires.sound p c.in-Some.is;
     }
 
-pub returns-in-Waiting : goal.returns-in-Waiting
-returns-in-Waiting c =
+pub returns-in-Some : goal.returns-in-Some
+returns-in-Some c =
     let b = c.args.self in
     let s = settings_of b in
     let now = c.args.now in
-    let n : Node = c.in-Waiting.node in
-    let x = subst (Becomes s (rules.with_pending none (bucket_of b))) (sym c.with_pending.ensures) (pending_becomes b c.requires.sound Nothing none refl tt) in
-    let a = apply_due_lem s now (bucket_of b) _ (ap pending_of c.in-Waiting.is) c.if-deadline-now.true in
+    let n : Node = c.in-Some.pending.node in
+    let x = subst (Becomes s (rules.with_pending none (bucket_of b))) (sym c.with_pending.ensures) (pending_becomes b c.requires.sound None none refl tt) in
+    let a = apply_due_lem s now (bucket_of b) _ (ap pending_of c.in-Some.is) c.if-pending-now.true in
     record {
-      applied_value =
-          c.apply_due.ensures.applied_value ∙ told x (λ (s' : rules.BucketSettings) (m' : rules.Bucket). (rules.apply_due s' now (node_of n) m').1)
+      result_value =
+          c.apply_due.ensures.result_value ∙ told x (λ (s' : rules.BucketSettings) (m' : rules.Bucket). (rules.apply_due s' now (node_of n) m').1)
           ∙ ap (λ (y : rules.Bucket × List model.EndedPending). y.1) (sym a);
       becomes =
           subst (λ (y : rules.Bucket × List model.EndedPending). Becomes s y.0 c.apply_due.result.bucket) (sym a)
           (then_becomes x (λ (s' : rules.BucketSettings) (m' : rules.Bucket). (rules.apply_due s' now (node_of n) m').0) c.apply_due.ensures.becomes);
-      applied_value_2 = c.apply_due.ensures.applied_value_2;
+      result_value_2 = c.apply_due.ensures.result_value_2;
     }
 
 pub returns-in_default : goal.returns-in_default
@@ -58,8 +56,8 @@ returns-in_default c =
     let b = c.args.self in
     let s = settings_of b in
     let d = done_apply s (rules.apply_pending s c.args.now (bucket_of b)) (bucket_of b) [] b
-    (apply_later s c.args.now (bucket_of b) _ (ap pending_of c.in-Waiting.is) c.if-deadline-now.false) (becomes_itself b c.requires.sound) refl in
-    record { applied_value = d.0; becomes = d.1.0; applied_value_2 = d.1.1 }
+    (apply_later s c.args.now (bucket_of b) _ (ap pending_of c.in-Some.is) c.if-pending-now.false) (becomes_itself b c.requires.sound) refl in
+    record { result_value = d.0; becomes = d.1.0; result_value_2 = d.1.1 }
 
 pub returns-in_default-2 : goal.returns-in_default-2
 returns-in_default-2 c =
@@ -67,4 +65,4 @@ returns-in_default-2 c =
     let s = settings_of b in
     let d = done_apply s (rules.apply_pending s c.args.now (bucket_of b)) (bucket_of b) [] b
     (apply_none s c.args.now (bucket_of b) (ap pending_of c.in_default.is)) (becomes_itself b c.requires.sound) refl in
-    record { applied_value = d.0; becomes = d.1.0; applied_value_2 = d.1.1 }
+    record { result_value = d.0; becomes = d.1.0; result_value_2 = d.1.1 }

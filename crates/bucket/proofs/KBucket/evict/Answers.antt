@@ -34,7 +34,7 @@ returns c =
     let b = c.args.self in
     let n = node_of c.args.node in
     record {
-      applied_value = refl;
+      result_value = refl;
       becomes = then_becomes c.taken_out-rest.ensures (λ (s' : rules.BucketSettings) (m' : rules.Bucket). rules.placed n m') c.placed.ensures;
-      applied_value_2 = stored_codes (get_or b.nodes 0 zero_node) (stored_at b c.requires.sound 0 (omega (arith, c.requires.max_nodes_per_bucket_le_count)));
+      result_value_2 = stored_codes (get_or b.nodes 0 zero_node) (stored_at b c.requires.sound 0 (omega (arith, c.requires.max_nodes_per_bucket_le_count)));
     }

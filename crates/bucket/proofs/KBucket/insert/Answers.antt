@@ -1,27 +1,26 @@
 use mathlib.Core.Path.{sym, ap, ◌∙◌}
 use mathlib.Core.Bool.{Bool}
 use Rattle.model.specs.Bucket as rules
-use Rattle.node.specs.Node.{node_of, node_codes}
 use Rattle.model.specs.Question.{first_failed}
 use Rattle.bucket.specs.Bucket.{bucket_of, settings_of}
-use Rattle.bucket.specs.Calls.{refusal_number, questions, timely, insert_call}
 use Rattle.bucket.proofs.Entry.{refused, accepted}
+use mathlib.Core.Option.{some}
+use Rattle.node.specs.Node.{node_of, node_codes}
+use Rattle.bucket.specs.Calls.{questions, insert_result_of, insert_call}
 use Rattle.bucket.proofs.KBucket.insert.Goals as goal
 
-pub returns-then-q-ne0 : goal.returns-then-q-ne0
+pub returns-in-Ok : goal.returns-in-Ok
 unfolding insert_call
-returns-then-q-ne0 c =
+returns-in-Ok c =
     let b = c.args.self in
-    refused b (first_failed (questions b (node_codes c.args.node) (timely b c.args.now))) _ (rules.insert (settings_of c.args.self) c.args.now (node_of c.args.node) (bucket_of c.args.self)) (c.asked_at-q.ensures.value ∙ ap (λ (t : Bool). refusal_number (first_failed (questions b t (timely b c.args.now)))) c.in_range.ensures) c.if-q-ne0.true
+    let codes = ap (λ (t : Bool). first_failed (questions b t (some c.args.now))) (sym c.in_range.ensures) in
+    accepted b (first_failed (questions b (node_codes c.args.node) (some c.args.now))) (rules.insert (settings_of b) c.args.now (node_of c.args.node) (bucket_of b)) insert_result_of c.accepted.result _ _
+    (codes ∙ sym c.in-Ok.ensures.value) c.accepted.ensures c.insert_sound.ensures.result_value c.insert_sound.ensures.becomes
 
-pub insert_sound-r-requires : goal.insert_sound-r-requires
-insert_sound-r-requires c =
-    let k = c.asked_at-q.ensures.sound c.if-q-ne0.false in
-    record { sound = k.0; node_value = sym c.in_range.ensures ∙ k.1; pending_timeout_bound = k.2 }
-
-pub returns : goal.returns
+pub returns-in-Err : goal.returns-in-Err
 unfolding insert_call
-returns c =
+returns-in-Err c =
     let b = c.args.self in
-    let k = c.asked_at-q.ensures.sound c.if-q-ne0.false in
-    accepted b (first_failed (questions b (node_codes c.args.node) (timely b c.args.now))) (rules.insert (settings_of c.args.self) c.args.now (node_of c.args.node) (bucket_of c.args.self)) _ c.insert_sound-r.result.bucket (ap (λ (t : Bool). first_failed (questions b t (timely b c.args.now))) (sym c.in_range.ensures) ∙ k.3) c.insert_sound-r.ensures.result_value c.insert_sound-r.ensures.becomes
+    let codes = ap (λ (t : Bool). first_failed (questions b t (some c.args.now))) c.in_range.ensures in
+    refused b (first_failed (questions b (node_codes c.args.node) (some c.args.now))) (rules.insert (settings_of b) c.args.now (node_of c.args.node) (bucket_of b)) insert_result_of c.refused.result c.in-Err.refusal
+    (c.in-Err.ensures.value ∙ codes) c.refused.ensures

@@ -29,7 +29,7 @@ returns-then-pos-self c =
     let h : rules.holds k m ≡ true = sym (holds_is b c.requires.sound k) ∙ lt-ltb _ _ (subst (λ (j : ℕ). j < b.count) e c.if-pos-self.true) in
     let d = done s (rules.remove s c.args.now k m) true (rules.apply_pending s c.args.now (rules.take_out k m)).0 c.apply_pending_sound.result.bucket (remove_held s c.args.now k m h)
     (then_becomes rest (λ (s' : rules.BucketSettings) (m' : rules.Bucket). (rules.apply_pending s' c.args.now m').0) c.apply_pending_sound.ensures.becomes) in
-    record { found_value = d.0; becomes = d.1 }
+    record { result_value = d.0; becomes = d.1 }
 
 pub returns : goal.returns
 returns c =
@@ -40,4 +40,4 @@ returns c =
     let e : c.position-pos.result ≡ position k (held_of b) = omega (arith, c.position-pos.ensures) in
     let h : rules.holds k m ≡ false = sym (holds_is b c.requires.sound k) ∙ le-ltb _ _ (subst (λ (j : ℕ). b.count ≤ j) e c.if-pos-self.false) in
     let d = done s (rules.remove s c.args.now k m) false m b (remove_absent s c.args.now k m h) (becomes_itself b c.requires.sound) in
-    record { found_value = d.0; becomes = d.1 }
+    record { result_value = d.0; becomes = d.1 }

@@ -8,7 +8,7 @@ pub loop-key-preserved : goal.loop-key-preserved
 loop-key-preserved c =
     let a = c.args in
     let l = c.loop-key in
-    let r = insert_leaves 0 refl c.node_from-node.ensures c.insert-r.ensures in
+    let r = insert_leaves 0 refl c.node_from.ensures c.insert.ensures in
     let e : a.k + a.n - (l.key + 1) ≡ a.k + a.n - l.key - 1 = omega arith in
     ap (filled (a.k + a.n - (l.key + 1)) (l.key + 1) a.state) r
     ∙ ap (λ (n : ℕ). filled n (l.key + 1) a.state (insert_call l.bucket (node_from l.key plain a.state 0) 0).1) e

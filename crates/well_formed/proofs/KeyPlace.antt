@@ -1,0 +1,76 @@
+-- The place of a key among the places of a bucket's bytes, and whether one of them has it.
+use mathlib.Core.Path.{◌≡◌, refl, sym, ap, ◌∙◌}
+use mathlib.Core.Bool.{Bool, true, false, not}
+use mathlib.Core.List.{List, [], ◌∷◌}
+use Prim.Native.Nat.{ℕ, zero, suc, ◌≤◌, ◌<◌}
+use native.Mathlib.Nat.{not-suc-le-zero, le_of_suc-le-suc}
+use native.Mathlib.Omega.{arith}
+use lib.Dec.{eqb}
+use lib.ListN.{length, get_or}
+use borrow.Author.Tests.{not-true, eq-eqb, ne_eqb}
+use Rattle.model.specs.Base.{same, tabulate}
+use Rattle.model.specs.Bytes.{part}
+use Rattle.model.specs.Node.{Node}
+use Rattle.model.specs.Sizes.{bucket_size}
+use Rattle.model.specs.Layout.{node_in, place_in}
+use Rattle.model.specs.Formed.{key_in, not_held}
+use Rattle.laws.proofs.Tests.{clash, split}
+use Rattle.laws.proofs.Lists.{length_tabulate, get_d_tabulate, all_gives, all_if}
+use Rattle.places.specs.Places.{before}
+use Rattle.well_formed.specs.Tests.{node_at, nodes_here, place}
+
+-- the first that passes
+
+pub before_is : {A : Type 0} (p : A → Bool) (xs : List A) (d : A) (i : ℕ) → i < length xs → ((j : ℕ) → j < i → p (get_or xs j d) ≡ false) → p (get_or xs i d) ≡ true → before p xs ≡ i
+before_is p [] d i l m e = absurd (not-suc-le-zero l)
+before_is p (x ∷ xs) d zero l m e = rw e
+before_is p (x ∷ xs) d (suc i) l m e = rw (m 0 (omega arith)) (ap suc (before_is p xs d i (le_of_suc-le-suc l) (λ j k. m (suc j) (omega arith)) e))
+
+pub before_none : {A : Type 0} (p : A → Bool) (xs : List A) (d : A) → ((j : ℕ) → j < length xs → p (get_or xs j d) ≡ false) → before p xs ≡ length xs
+before_none p [] d m = refl
+before_none p (x ∷ xs) d m = rw (m 0 (omega arith)) (ap suc (before_none p xs d (λ j k. m (suc j) (omega arith))))
+
+before_past : {A : Type 0} (p : A → Bool) (xs : List A) (d : A) → before p xs ≡ length xs → (j : ℕ) → j < length xs → p (get_or xs j d) ≡ false
+before_past p [] d e j l = absurd (not-suc-le-zero l)
+before_past p (x ∷ xs) d e zero l = split (p x) (λ q. absurd (omega (arith, rw q at e))) (λ q. q)
+before_past p (x ∷ xs) d e (suc j) l =
+    split (p x) (λ q. absurd (omega (arith, rw q at e))) (λ q. before_past p xs d (omega (arith, rw q at e)) j (le_of_suc-le-suc l))
+
+-- a key's place in a bucket's bytes
+
+module _ (s : List ℕ) (at count k : ℕ) where
+  abbrev bs : List ℕ
+  bs = part s at bucket_size
+
+  misses : (i : ℕ) → i ≤ count → not_held bs i k ≡ true → (j : ℕ) → j < i → same (get_or (tabulate count (node_at bs)) j (node_in [])).key k ≡ false
+  unfolding not_held node_at node_in
+  misses i l h j m =
+      ap (λ (n : Node). same n.key k) (get_d_tabulate count (node_at bs) j (node_in []) (omega arith))
+      ∙ not-true (same (key_in (place_in bs j)) k) (all_gives i (λ x. not (same (key_in (place_in bs x)) k)) j m h)
+
+  pub found_here : (i : ℕ) → i < count → not_held bs i k ≡ true → same (key_in (place_in bs i)) k ≡ true → place k (nodes_here s at count) ≡ i
+  unfolding nodes_here node_at node_in
+  found_here i l h e =
+      before_is (λ (n : Node). same n.key k) (tabulate count (node_at bs)) (node_in []) i (rw length_tabulate l) (misses i (omega arith) h)
+      (ap (λ (n : Node). same n.key k) (get_d_tabulate count (node_at bs) i (node_in []) l) ∙ e)
+
+  pub absent_here : not_held bs count k ≡ true → place k (nodes_here s at count) ≡ count
+  unfolding nodes_here
+  absent_here h =
+      before_none (λ (n : Node). same n.key k) (tabulate count (node_at bs)) (node_in []) (λ j l. misses count (omega arith) h j (rw length_tabulate at l))
+      ∙ length_tabulate count (node_at bs)
+
+  held_here : place k (nodes_here s at count) ≡ count → not_held bs count k ≡ true
+  unfolding nodes_here not_held node_at node_in
+  held_here e =
+      all_if count (λ j. not (same (key_in (place_in bs j)) k))
+      (λ j l.
+      let m = before_past (λ (n : Node). same n.key k) (tabulate count (node_at bs)) (node_in []) (e ∙ sym (length_tabulate count (node_at bs))) j (rw length_tabulate l) in
+      ap not (sym (ap (λ (n : Node). same n.key k) (get_d_tabulate count (node_at bs) j (node_in []) l)) ∙ m))
+
+  -- no place has it
+  pub not_held_by_place : eqb (place k (nodes_here s at count)) count ≡ not_held bs count k
+  not_held_by_place =
+      split (not_held bs count k)
+      (λ h. rw h (eq-eqb _ _ (absent_here h)))
+      (λ h. rw h (ne_eqb _ _ (λ e. clash (held_here e) h)))
