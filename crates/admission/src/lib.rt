@@ -9,29 +9,23 @@ ghost use Rattle.model.specs.Layout.{table_of};
 ghost use Rattle.key.specs.Key.{num};
 ghost use Rattle.node.specs.Refusal.{failed_of};
 ghost use Rattle.on_key.specs.Answers.{Ready};
-ghost use Rattle.session.specs.Hours.{session_of};
+ghost use Rattle.session.specs.Hours.{hours_of};
 
 use entry::EntryKind;
 use key::Key;
 use node::Refusal;
-use session::Moment;
+use session::Hours;
+use storage::Layout;
 
 // Internal: the two questions. The key is looked for in the bucket as it is stored, nothing applied. With an empty window list neither is asked.
-pub fn asked(
-    s: &[u8],
-    i: usize,
-    key: Key,
-    windows: &[u16],
-    closed: &[u16],
-    moment: Moment,
-) -> Result<(), Refusal>
+pub fn asked(s: &[u8; Layout::STORAGE], i: usize, key: Key, hours: Hours) -> Result<(), Refusal>
     requires { Ready s.now i }
-    ensures { failed_of result ≡ first_failed (hours_questions (session_of windows.now closed.now moment) (not (is_absent (kind_of (num key) ((table_of s.now).buckets i))))) }
+    ensures { failed_of result ≡ first_failed (hours_questions (hours_of hours.entry) (not (is_absent (kind_of (num key) ((table_of s.now).buckets i))))) }
 {
-    if windows.is_empty() {
+    if hours.windows.is_empty() {
         return Ok(());
     }
     let kind = entry::kind_of(buckets::load_bucket(s, i), key);
     let known = !matches!(kind, EntryKind::Absent);
-    session::asked(windows, closed, moment, known)
+    session::asked(hours, known)
 }

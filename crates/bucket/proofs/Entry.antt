@@ -1,6 +1,6 @@
 -- What a call on a bucket answers.
 use Prim.Native.Nat.{ℕ}
-use mathlib.Core.Path.{◌≡◌, refl, sym, ap}
+use mathlib.Core.Path.{◌≡◌, refl, sym, ap, ◌∙◌}
 use mathlib.Core.Option.{Option, none, some}
 use Rattle.std.proofs.Common.{Result, Ok, Err}
 use Rattle.model.specs.Result.{Reply}
@@ -22,6 +22,10 @@ module _ {A B : Type 0} (b : KBucket) (o : Option ℕ) (x : B × Bucket) (f : A 
   refused r e h = rw (sym e, h) refl
 
   -- no question failed: what the rule answers, and what is stored of the bucket that it leaves
-  pub accepted : (a : A) (r : KBucket) → o ≡ none → s ≡ record { bucket = r; result = Ok a } → f a ≡ x.0 → Becomes (settings_of b) x.1 r
+  pub answers : (r : KBucket) → o ≡ none → s.bucket ≡ r → reply_of f s.result ≡ Reply.Answered x.0 → Becomes (settings_of b) x.1 r
       → answered b o x ≡ (reply_of f s.result, s.bucket)
-  accepted a r n h e y = rw (n, h) (pairs (ap Reply.Answered (sym e)) (sym (becomes_stored y)))
+  answers r n g e y = rw (n, g) (pairs (sym e) (sym (becomes_stored y)))
+
+  pub accepted : (a : A) (r : KBucket) → o ≡ none → s.bucket ≡ r → s.result ≡ Ok a → f a ≡ x.0 → Becomes (settings_of b) x.1 r
+      → answered b o x ≡ (reply_of f s.result, s.bucket)
+  accepted a r n g h e y = answers r n g (ap (reply_of f) h ∙ ap Reply.Answered e) y

@@ -66,15 +66,6 @@ module _ (s : BucketSettings) (now : ℕ) (n : Node) (b : Bucket) where
   pub full_connected : n.connected ≡ true → b.disconnected ≡ [] → insert_full s now n b n.connected b.disconnected b.pending ≡ (BucketInsertResult.Full, b)
   full_connected e f = full_all n.connected b.disconnected b.pending e f
 
-  full_waits : (u : Bool) (ds : List Node) (p : Option PendingNode) → is_some p ≡ true → insert_full s now n b u ds p ≡ (BucketInsertResult.Full, b)
-  full_waits false ds p e = refl
-  full_waits true [] p e = refl
-  full_waits true (d ∷ ds) none e = clash e refl
-  full_waits true (d ∷ ds) (some q) e = refl
-
-  pub full_pending : is_some b.pending ≡ true → insert_full s now n b n.connected b.disconnected b.pending ≡ (BucketInsertResult.Full, b)
-  full_pending e = full_waits n.connected b.disconnected b.pending e
-
   full_sets : (u : Bool) (ds : List Node) (p : Option PendingNode) (d : Node) (rest : List Node) → u ≡ true → ds ≡ d ∷ rest → p ≡ none
       → insert_full s now n b u ds p
       ≡ (BucketInsertResult.Pending d.key, with_pending (some (record { node = n; deadline = now + s.pending_timeout })) b)
@@ -87,7 +78,7 @@ module _ (s : BucketSettings) (now : ℕ) (n : Node) (b : Bucket) where
 
 -- The node at place 0 taken out.
 
-pub take_out_first : (b : Bucket) (d : Node) (ds : List Node) → b.disconnected ≡ d ∷ ds → Different (nodes b)
+take_out_first : (b : Bucket) (d : Node) (ds : List Node) → b.disconnected ≡ d ∷ ds → Different (nodes b)
     → take_out d.key b ≡ record { disconnected = ds; connected = b.connected; pending = b.pending }
 take_out_first b d ds e w =
     let w' : Different ((d ∷ ds) ++ b.connected) = subst (λ (xs : List Node). Different (xs ++ b.connected)) e w in

@@ -13,7 +13,7 @@ use lib.ListN.{length, take, get_or, length-map, length-append, set, length-set,
 use lib.Seq.{get_or-take, set-append_left}
 use lib.Dec.{eqb, leb, ltb}
 use mir.Val.{bool_byte}
-use borrow.Author.Tests.{eqb-false, le-leb, leb-true, ltb-true}
+use borrow.Author.Tests.{eqb-false, le-leb, leb-true}
 use Rattle.model.specs.Base.{same, is_some}
 use Rattle.model.specs.Value as value
 use Rattle.model.specs.Node as model
@@ -170,13 +170,6 @@ module _ (b : KBucket) (s : Sound b) (room : b.count < max_nodes_per_bucket) (n 
 
 -- A node taken out.
 
-pub flag≤ : (pos f : ℕ) → bool_byte (ltb pos f) ≤ f
-flag≤ pos f = by (ltb pos f) refl
-  where
-    by : (t : Bool) → ltb pos f ≡ t → bool_byte t ≤ f
-    by true e = omega (arith, ltb-true pos f e)
-    by false e = omega arith
-
 module _ (b : KBucket) (s : Sound b) (k : ℕ) (pos : ℕ) (e : pos ≡ position k (held_of b)) (h : pos < b.count) where
   at_place : place k (nodes (bucket_of b)) ≡ pos
   at_place = place_of k b ∙ sym e
@@ -326,21 +319,6 @@ unfolding is_full
 open_of b s e t =
     let x = first_of_full b s e (leb-true max_nodes_per_bucket b.count (ap (leb max_nodes_per_bucket) (count_of b s) ∙ t)) in
     (node_of (get_or b.nodes 0 zero_node), x.0, x.1)
-
--- The tests and the placing of a node n that stands for n', in a bucket that stands for m.
-module _ {s : BucketSettings} {m : Bucket} {b : KBucket} (x : Becomes s m b) (n : Node) (n' : model.Node) (e : node_of n ≡ n') where
-  pub filter_told : (r t : Bool) → r ≡ fails_bucket_filter (settings_of b) (value_of n.value) (bucket_of b) → r ≡ t → fails_bucket_filter s n'.value m ≡ t
-  filter_told r t p q =
-      ap (λ (y : model.Node). fails_bucket_filter s y.value m) (sym e) ∙ sym (told x (λ (s' : BucketSettings) (m' : Bucket). fails_bucket_filter s' (value_of n.value) m'))
-      ∙ sym p ∙ q
-
-  pub maximum_told : (r t : Bool) → r ≡ is_max_incoming (settings_of b) (node_of n) (bucket_of b) → r ≡ t → is_max_incoming s n' m ≡ t
-  maximum_told r t p q =
-      ap (λ (y : model.Node). is_max_incoming s y m) (sym e) ∙ sym (told x (λ (s' : BucketSettings) (m' : Bucket). is_max_incoming s' (node_of n) m')) ∙ sym p ∙ q
-
-  pub placed_told : {r : KBucket} → Becomes (settings_of b) (placed (node_of n) (bucket_of b)) r → Becomes s (placed n' m) r
-  placed_told {r} y =
-      subst (λ (z : model.Node). Becomes s (placed z m) r) e (then_becomes x (λ (s' : BucketSettings) (m' : Bucket). placed (node_of n) m') y)
 
 -- A value in the place of a key.
 

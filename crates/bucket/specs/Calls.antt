@@ -76,6 +76,7 @@ ending_codes ending.TooManyIncoming = true
 ending_codes ending.Inserted = true
 ending_codes ending.FirstConfirmed = true
 
+-- the same of a record, if there is one
 abbrev pub applied_codes : code.Option EndedPending → Bool
 applied_codes None = true
 applied_codes (Some e) = ending_codes e.ending

@@ -8,7 +8,7 @@ ghost use Rattle.model.specs.Base.{is_some};
 ghost use Rattle.model.specs.Value.{Value};
 ghost use Rattle.model.specs.Node as ends;
 ghost use Rattle.model.specs.Node.{placed_of, with_status, with_value, same_status};
-ghost use Rattle.model.specs.Bucket.{BucketSettings, max_nodes_per_bucket, empty_bucket, holds, fails_bucket_filter, is_max_incoming, placed, take_out, insert_full, insert, apply_pending, apply_due, reinsert, update_status, update_status_of, update_if_pending, update_value, update_value_of, update_pending, remove, status_result, get};
+ghost use Rattle.model.specs.Bucket.{BucketSettings, max_nodes_per_bucket, empty_bucket, holds, fails_bucket_filter, is_max_incoming, placed, take_out, taken_out, insert_full, insert, apply_pending, apply_due, reinsert, update_status, update_status_of, update_if_pending, update_value, update_value_of, update_pending, remove, status_result, get};
 ghost use Rattle.model.specs.Call.{is_one, optional};
 ghost use Rattle.model.specs.Question.{first_failed, deadline_fits};
 ghost use Rattle.model.specs.Layout.{ending_kind};
@@ -19,10 +19,13 @@ ghost use Rattle.node.specs.Refusal.{failed_of, reply_of};
 ghost use Rattle.bucket.specs.Bucket.{pending_of, key_at, bucket_of, settings_of, stored, sound, Sound, Becomes, repending, cleared_pending, pending_fits, PendingWords, changes_pending};
 ghost use Rattle.bucket.specs.Calls.{questions, insert_result_of, update_result_of, ending_of, records_of, applied_codes, apply_codes, insert_call, apply_pending_call, update_status_call, update_value_call, update_pending_call, remove_call, new_call};
 
+mod settings;
+
 use key::Key;
 use node::{Code, Node, NodeStatus, Refusal, Value};
+pub use settings::Settings;
 
-// A node that is pending insertion into a full bucket.
+// A node that is pending insertion into a full bucket. Without `==`, as all that holds a node: a value has none.
 #[derive(Clone, Copy)]
 pub struct PendingNode {
     pub node: Node,
@@ -47,7 +50,7 @@ pub struct KBucket {
 }
 
 // The result of inserting a node.
-#[derive(Clone, Copy)]
+#[derive(Clone, Copy, Debug, PartialEq, Eq)]
 pub enum InsertResult {
     Inserted,
     // The node waits in a full bucket. It names the node at place 0, which is to be asked for.
@@ -59,7 +62,7 @@ pub enum InsertResult {
 }
 
 // A reason for failing to update or insert a node.
-#[derive(Clone, Copy)]
+#[derive(Clone, Copy, Debug, PartialEq, Eq)]
 pub enum FailureReason {
     TooManyIncoming,
     BucketFilter,
@@ -70,7 +73,7 @@ pub enum FailureReason {
 }
 
 // The result of an update.
-#[derive(Clone, Copy)]
+#[derive(Clone, Copy, Debug, PartialEq, Eq)]
 pub enum UpdateResult {
     Updated,
     UpdatedAndPromoted,
@@ -152,34 +155,43 @@ impl KBucket {
     }
 
     // Internal: does the bucket hold the key?
-    pub fn holds(self, key: Key) -> bool
-        requires { Sound self }
-        ensures { result ≡ holds (num key) (bucket_of self) }
+    pub fn holds(&self, key: Key) -> bool
+        requires { Sound self.now }
+        ensures { result ≡ holds (num key) (bucket_of self.now) }
     {
-        places::position(self.nodes, 0, self.count, key) < self.count
+        places::position(&self.nodes[..self.count], key) < self.count
     }
 
     // Internal: does the bucket filter fail?
-    pub fn fails_filter(self, value: Value) -> bool
-        requires { Sound self }
-        ensures { result ≡ fails_bucket_filter (settings_of self) (value_of value) (bucket_of self) }
+    pub fn fails_filter(&self, value: Value) -> bool
+        requires { Sound self.now }
+        ensures { result ≡ fails_bucket_filter (settings_of self.now) (value_of value) (bucket_of self.now) }
     {
         self.filter == 1
             && !places::ip_filter(
-                self.nodes,
-                self.count,
+                &self.nodes[..self.count],
                 value,
                 node::filter::MAX_NODES_PER_SUBNET_BUCKET,
             )
     }
 
     // Internal: is the node connected and incoming, with max_incoming such nodes held?
-    pub fn is_max_incoming(self, node: Node) -> bool
-        requires { Sound self }
-        ensures { result ≡ is_max_incoming (settings_of self) (node_of node) (bucket_of self) }
+    pub fn is_max_incoming(&self, node: Node) -> bool
+        requires { Sound self.now }
+        ensures { result ≡ is_max_incoming (settings_of self.now) (node_of node) (bucket_of self.now) }
     {
         node.is_connected_incoming()
-            && self.max_incoming <= places::incoming(self.nodes, self.count)
+            && self.max_incoming <= places::incoming(&self.nodes[..self.count])
+    }
+
+    // A step that leaves the bucket as it is.
+    fn stays<T>(self, answer: T) -> Step<T>
+        ensures { result ≡ record { bucket = self; result = answer } }
+    {
+        Step {
+            bucket: self,
+            result: answer,
+        }
     }
 
     // Internal: another pending, and all else as it is.
@@ -241,22 +253,13 @@ impl KBucket {
         ensures becomes { Becomes (settings_of self) (insert (settings_of self) now (node_of node) (bucket_of self)).1 result.bucket }
     {
         if self.holds(node.key) {
-            return Step {
-                bucket: self,
-                result: InsertResult::NodeExists,
-            };
+            return self.stays(InsertResult::NodeExists);
         }
         if self.fails_filter(node.value) {
-            return Step {
-                bucket: self,
-                result: InsertResult::FailedFilter,
-            };
+            return self.stays(InsertResult::FailedFilter);
         }
         if self.is_max_incoming(node) {
-            return Step {
-                bucket: self,
-                result: InsertResult::TooManyIncoming,
-            };
+            return self.stays(InsertResult::TooManyIncoming);
         }
         if self.count < KBucket::MAX_NODES_PER_BUCKET {
             return Step {
@@ -277,10 +280,7 @@ impl KBucket {
         ensures becomes { Becomes (settings_of self) (insert_full (settings_of self) now (node_of node) (bucket_of self) (node_of node).connected (bucket_of self).disconnected (bucket_of self).pending).1 result.bucket }
     {
         if !node.is_connected() || self.first_connected_pos == 0 || self.pending.is_some() {
-            return Step {
-                bucket: self,
-                result: InsertResult::Full,
-            };
+            return self.stays(InsertResult::Full);
         }
         let deadline = now + self.pending_timeout;
         Step {
@@ -326,10 +326,7 @@ impl KBucket {
     fn dropped(self, key: Key, ending: Ending) -> Step<Option<EndedPending>>
         ensures { result ≡ record { bucket = self; result = Some (record { key = key; ending = ending }) } }
     {
-        Step {
-            bucket: self,
-            result: Some(EndedPending { key, ending }),
-        }
+        self.stays(Some(EndedPending { key, ending }))
     }
 
     // Internal: a node that is not held in place of the node at place 0, which is disconnected.
@@ -366,10 +363,7 @@ impl KBucket {
             Some(pending) if pending.deadline <= now => {
                 self.with_pending(None).apply_due(pending.node, now)
             }
-            _ => Step {
-                bucket: self,
-                result: None,
-            },
+            _ => self.stays(None),
         }
     }
 
@@ -382,11 +376,22 @@ impl KBucket {
         ensures result_value { update_result_of result.result ≡ (update_status (settings_of self) (key_at self pos) (is_one state) (optional direction) (bucket_of self)).0 }
         ensures becomes { Becomes (settings_of self) (update_status (settings_of self) (key_at self pos) (is_one state) (optional direction) (bucket_of self)).1 result.bucket }
     {
-        let old = self.nodes[pos];
-        let node = old.with_status(state, direction);
-        let left = self.taken_out(pos);
-        let rest = left.without_pending((state == 1) & (pos == 0));
-        rest.reinserted(old, node)
+        self.put_again(pos, self.nodes[pos].with_status(state, direction))
+    }
+
+    // Internal: takes out the node at place pos, and inserts one of its key. A pending goes where place 0 is confirmed.
+    pub fn put_again(self, pos: usize, node: Node) -> Step<UpdateResult>
+        requires sound { Sound self }
+        requires pos_lt_count { pos < self.count }
+        requires node_value { node_codes node ≡ true }
+        requires pos_value { key_at self pos ≡ num node.key }
+        ensures result_value { update_result_of result.result ≡ status_result (node_of (get_or self.nodes pos zero_node)) (node_of node) (reinsert (settings_of self) (node_of node) (taken_out (num node.key) (node_of node).connected (bucket_of self))).0 }
+        ensures becomes { Becomes (settings_of self) (reinsert (settings_of self) (node_of node) (taken_out (num node.key) (node_of node).connected (bucket_of self))).1 result.bucket }
+    {
+        let left = self
+            .taken_out(pos)
+            .without_pending(node.is_connected() & (pos == 0));
+        left.reinserted(self.nodes[pos], node)
     }
 
     // Inserts a node that was taken out, and that was `old` before. It stays out where a test fails.
@@ -399,16 +404,10 @@ impl KBucket {
         ensures becomes { Becomes (settings_of self) (reinsert (settings_of self) (node_of node) (bucket_of self)).1 result.bucket }
     {
         if self.fails_filter(node.value) {
-            return Step {
-                bucket: self,
-                result: UpdateResult::Failed(FailureReason::BucketFilter),
-            };
+            return self.stays(UpdateResult::Failed(FailureReason::BucketFilter));
         }
         if self.is_max_incoming(node) {
-            return Step {
-                bucket: self,
-                result: UpdateResult::Failed(FailureReason::TooManyIncoming),
-            };
+            return self.stays(UpdateResult::Failed(FailureReason::TooManyIncoming));
         }
         Step {
             bucket: self.placed(node),
@@ -436,10 +435,7 @@ impl KBucket {
                 })),
                 result: UpdateResult::UpdatedPending,
             },
-            _ => Step {
-                bucket: self,
-                result: UpdateResult::Failed(FailureReason::KeyNonExistent),
-            },
+            _ => self.stays(UpdateResult::Failed(FailureReason::KeyNonExistent)),
         }
     }
 
@@ -462,7 +458,7 @@ impl KBucket {
         ensures result_value { update_result_of result.result ≡ (update_status (settings_of self) (num key) (is_one state) (optional direction) (bucket_of self)).0 }
         ensures becomes { Becomes (settings_of self) (update_status (settings_of self) (num key) (is_one state) (optional direction) (bucket_of self)).1 result.bucket }
     {
-        let pos = places::position(self.nodes, 0, self.count, key);
+        let pos = places::position(&self.nodes[..self.count], key);
         if pos < self.count {
             return self.status_at(pos, state, direction);
         }
@@ -479,10 +475,7 @@ impl KBucket {
     {
         let old = self.nodes[pos];
         if old.value.eq(value) {
-            return Step {
-                bucket: self,
-                result: UpdateResult::NotModified,
-            };
+            return self.stays(UpdateResult::NotModified);
         }
         if self.filter == 1 {
             let rest = self.taken_out(pos);
@@ -517,7 +510,7 @@ impl KBucket {
         ensures result_value { update_result_of result.result ≡ (update_value (settings_of self) (num key) (value_of value) (bucket_of self)).0 }
         ensures becomes { Becomes (settings_of self) (update_value (settings_of self) (num key) (value_of value) (bucket_of self)).1 result.bucket }
     {
-        let pos = places::position(self.nodes, 0, self.count, key);
+        let pos = places::position(&self.nodes[..self.count], key);
         if pos < self.count {
             return self.value_at(pos, value);
         }
@@ -547,47 +540,40 @@ impl KBucket {
         ensures result_value { result.result ≡ (remove (settings_of self) now (num key) (bucket_of self)).0 }
         ensures becomes { Becomes (settings_of self) (remove (settings_of self) now (num key) (bucket_of self)).1 result.bucket }
     {
-        let pos = places::position(self.nodes, 0, self.count, key);
+        let pos = places::position(&self.nodes[..self.count], key);
         if pos < self.count {
             return Step {
                 bucket: self.taken_out(pos).apply_pending_sound(now).bucket,
                 result: true,
             };
         }
-        Step {
-            bucket: self,
-            result: false,
-        }
+        self.stays(false)
     }
 
     // Question 2, all but the index.
-    pub fn is_sound(self) -> bool
-        ensures value { result ≡ sound self }
-        ensures sound { result ≡ true → Sound self }
+    pub fn is_sound(&self) -> bool
+        ensures value { result ≡ sound self.now }
+        ensures sound { result ≡ true → Sound self.now }
     {
-        let nodes = self.nodes;
-        let count = self.count;
-        let first = self.first_connected_pos;
-        if KBucket::MAX_NODES_PER_BUCKET < count {
+        if KBucket::MAX_NODES_PER_BUCKET < self.count || self.count < self.first_connected_pos {
             return false;
         }
-        if count < first {
-            return false;
-        }
-        let different = places::all_different(nodes, count);
-        let placed = places::in_places(nodes, first, count);
-        let few = places::incoming(nodes, count) <= self.max_incoming;
-        let pending = pending_sound(nodes, count, self.pending);
+        let (nodes, free) = self.nodes.split_at(self.count);
+        let (disconnected, connected) = nodes.split_at(self.first_connected_pos);
+        let different = places::all_different(nodes);
+        let placed = places::in_places(disconnected, connected, free);
+        let few = places::incoming(nodes) <= self.max_incoming;
+        let pending = pending_sound(nodes, self.pending);
         let codes = (self.max_incoming <= KBucket::MAX_NODES_PER_BUCKET) & (self.filter <= 1);
-        // The tests are made one by one and joined at the end: what `in_places` and `pending_sound` ensure of the keys is needed beside what they
-        // answer.
+        // The tests are made one by one and joined at the end: what `in_places` and `pending_sound` ensure of the keys is needed beside
+        // what they answer.
         different & (placed & (few & (pending & codes)))
     }
 
     // Internal: questions 2, 4 and, where a time is given, 5. `codes` is question 4.
-    pub fn asked(self, codes: bool, now: Option<u64>) -> Result<(), Refusal>
-        ensures value { failed_of result ≡ first_failed (questions self codes (option_of now)) }
-        ensures sound { result ≡ Ok tt → Sound self × (codes ≡ true) × (deadline_fits self.pending_timeout (option_of now) ≡ true) }
+    pub fn asked(&self, codes: bool, now: Option<u64>) -> Result<(), Refusal>
+        ensures value { failed_of result ≡ first_failed (questions self.now codes (option_of now)) }
+        ensures sound { result ≡ Ok tt → Sound self.now × (codes ≡ true) × (deadline_fits self.now.pending_timeout (option_of now) ≡ true) }
     {
         if !self.is_sound() {
             return Err(Refusal::Form);
@@ -595,20 +581,7 @@ impl KBucket {
         if !codes {
             return Err(Refusal::Code);
         }
-        match now {
-            Some(now) if u64::MAX - self.pending_timeout < now => Err(Refusal::Time),
-            _ => Ok(()),
-        }
-    }
-
-    // Internal: the bucket as it is, and why a call is refused.
-    fn refused<T>(self, refusal: Refusal) -> Step<Result<T, Refusal>>
-        ensures { result ≡ record { bucket = self; result = Err refusal } }
-    {
-        Step {
-            bucket: self,
-            result: Err(refusal),
-        }
+        asked_time(self.pending_timeout, now)
     }
 
     // Inserts a node: the first match of 01, Insert.
@@ -616,8 +589,8 @@ impl KBucket {
         ensures { insert_call self node now ≡ (reply_of insert_result_of result.result, result.bucket) }
     {
         match self.asked(node.in_range(), Some(now)) {
-            Ok(()) => self.insert_sound(node, now).accepted(),
-            Err(refusal) => self.refused(refusal),
+            Ok(()) => self.insert_sound(node, now).map(Ok),
+            Err(refusal) => self.stays(Err(refusal)),
         }
     }
 
@@ -627,14 +600,10 @@ impl KBucket {
         ensures result_value { apply_codes result.result ≡ true }
     {
         match self.asked(true, Some(now)) {
-            Ok(()) => {
-                let step = self.apply_pending_sound(now);
-                Step {
-                    bucket: step.bucket,
-                    result: Ok(only_placed(step.result)),
-                }
-            }
-            Err(refusal) => self.refused(refusal),
+            Ok(()) => self
+                .apply_pending_sound(now)
+                .map(|ended| Ok(only_placed(ended))),
+            Err(refusal) => self.stays(Err(refusal)),
         }
     }
 
@@ -648,8 +617,8 @@ impl KBucket {
         ensures { update_status_call self key state direction ≡ (reply_of update_result_of result.result, result.bucket) }
     {
         match self.asked((state <= 1) & (direction <= 2), None) {
-            Ok(()) => self.update_status_sound(key, state, direction).accepted(),
-            Err(refusal) => self.refused(refusal),
+            Ok(()) => self.update_status_sound(key, state, direction).map(Ok),
+            Err(refusal) => self.stays(Err(refusal)),
         }
     }
 
@@ -658,8 +627,8 @@ impl KBucket {
         ensures { update_value_call self key value ≡ (reply_of update_result_of result.result, result.bucket) }
     {
         match self.asked(value.in_range(), None) {
-            Ok(()) => self.update_value_sound(key, value).accepted(),
-            Err(refusal) => self.refused(refusal),
+            Ok(()) => self.update_value_sound(key, value).map(Ok),
+            Err(refusal) => self.stays(Err(refusal)),
         }
     }
 
@@ -672,7 +641,7 @@ impl KBucket {
                 bucket: self.update_pending_sound(status.state, status.direction),
                 result: Ok(()),
             },
-            Err(refusal) => self.refused(refusal),
+            Err(refusal) => self.stays(Err(refusal)),
         }
     }
 
@@ -681,20 +650,22 @@ impl KBucket {
         ensures { remove_call self key now ≡ (reply_of (λ found. found) result.result, result.bucket) }
     {
         match self.asked(true, Some(now)) {
-            Ok(()) => self.remove_sound(key, now).accepted(),
-            Err(refusal) => self.refused(refusal),
+            Ok(()) => self.remove_sound(key, now).map(Ok),
+            Err(refusal) => self.stays(Err(refusal)),
         }
     }
 }
 
 impl<T> Step<T> {
-    // The step as the answer of a call that is not refused.
-    fn accepted(self) -> Step<Result<T, Refusal>>
-        ensures { result ≡ record { bucket = self.bucket; result = Ok self.result } }
+    // Internal: the step with what `f` makes of its result.
+    pub fn map<U, F: FnOnce(T) -> U>(self, f: F) -> Step<U>
+        requires { F.pre f self.result }
+        ensures bucket { result.bucket ≡ self.bucket }
+        ensures answer { F.post f self.result result.result }
     {
         Step {
             bucket: self.bucket,
-            result: Ok(self.result),
+            result: f(self.result),
         }
     }
 }
@@ -716,46 +687,40 @@ impl Ending {
     }
 }
 
+// Internal: question 5, where a time is given.
+pub fn asked_time(pending_timeout: u64, time: Option<u64>) -> Result<(), Refusal>
+    ensures { failed_of result ≡ cond (deadline_fits pending_timeout (option_of time)) none (some 5) }
+{
+    match time {
+        Some(time) if u64::MAX - pending_timeout < time => Err(Refusal::Time),
+        _ => Ok(()),
+    }
+}
+
 // Internal: the record of a pending that was placed; none of one that was not.
 pub fn only_placed(ended: Option<EndedPending>) -> Option<EndedPending>
     requires { applied_codes ended ≡ true }
     ensures result_value { records_of result ≡ placed_of (records_of ended) }
     ensures result_value_2 { applied_codes result ≡ true }
 {
-    match ended {
-        Some(
-            EndedPending {
-                ending: Ending::Placed(_),
-                ..
-            },
-        ) => ended,
-        _ => None,
-    }
+    ended.filter(|e| matches!(e.ending, Ending::Placed(_)))
 }
 
 // Internal: the pending, unless it is of this key.
 pub fn cleared(key: Key, pending: Option<PendingNode>) -> Option<PendingNode>
     ensures { result ≡ cleared_pending (num key) pending }
 {
-    match pending {
-        Some(p) if p.node.key.eq(key) => None,
-        _ => pending,
-    }
+    pending.filter(|p| !p.node.key.eq(key))
 }
 
 // Internal: is a pending not held, and are its codes in range? A yes also tells what Rattle knows of its key.
-pub fn pending_sound(
-    nodes: [Node; KBucket::MAX_NODES_PER_BUCKET],
-    count: usize,
-    pending: Option<PendingNode>,
-) -> bool
-    requires { count ≤ max_nodes_per_bucket }
-    ensures value { result ≡ pending_fits (take count nodes) pending }
+pub fn pending_sound(nodes: &[Node], pending: Option<PendingNode>) -> bool
+    ensures value { result ≡ pending_fits nodes.now pending }
     ensures pending_words { PendingWords pending }
 {
     match pending {
         None => true,
-        Some(p) => { has_codes(p.node) && places::position(nodes, 0, count, p.node.key) == count }
+        Some(p) => { has_codes(p.node) && places::position(nodes, p.node.key) == nodes.len() }
     }
 }
 

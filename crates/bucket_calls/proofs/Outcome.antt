@@ -4,10 +4,11 @@ use mathlib.Core.Path.{◌≡◌, refl, sym, ap, ◌∙◌}
 use mathlib.Core.Bool.{Bool, true, false, ◌&&◌}
 use mathlib.Core.List.{List, [], ◌∷◌, ◌++◌, append_assoc}
 use mathlib.Core.Option.{Option, none, some}
-use Prim.Native.Nat.{ℕ, ◌+◌, ◌≤◌, ◌<◌}
+use Prim.Native.Nat.{ℕ, ◌≤◌, ◌<◌}
 use native.Mathlib.Omega.{arith}
 use lib.Dec.{eqb, leb}
-use lib.ListN.{length, length-append, length-replicate}
+use lib.ListN.{length, set, take, length-append, length-take, length-replicate}
+use borrow.Rule.Slice.PartMut.{put_mid}
 use borrow.Author.Tests.{le-leb, lt-leb}
 use Rattle.model.specs.Bytes.{bytes, splice, zeros}
 use Rattle.model.specs.Bucket.{Bucket, max_nodes_per_bucket}
@@ -15,15 +16,17 @@ use Rattle.model.specs.Sizes.{time_size, bucket_size}
 use Rattle.model.specs.Question.{first_failed}
 use Rattle.model.specs.Layout.{bucket_bytes}
 use Rattle.model.specs.Base.{joined}
-use Rattle.laws.proofs.Parts.{splice_nil, splice_next, length_splice, part_all, part_splice_same}
+use Rattle.laws.proofs.Parts.{splice_nil, splice_next}
 use Rattle.laws.proofs.Bytes.{length_bytes}
+use Rattle.words.proofs.Words.{put_mid_splice, set_more}
+use Rattle.key.proofs.Bytes.{splice_all}
 use Rattle.node.specs.declared.Refusal.{Refusal}
 use Rattle.node.specs.Refusal.{number_of}
 use Rattle.laws.proofs.Questions.{front_fails, front_passes}
 use Rattle.codes.specs.Codes.{refused_code, answer_size}
 use Rattle.codes.specs.Exported.{Exported, Leaves, Writes}
-use Rattle.bucket_calls.specs.Lent.{lent_timeout_at, lent_max_incoming_at, lent_filter_at, lent_size, lent_settings, lent_bucket, empty_bytes, lent_five, failed_of_lent}
-use Rattle.bucket_calls.specs.Calls.{BucketCall, answer_fits, bucket_questions, bucket_act, bucket_step, bucket_new, code_of}
+use Rattle.bucket_calls.specs.Lent.{lent_size, lent_settings, lent_bucket, empty_bytes, lent_five, failed_of_lent}
+use Rattle.bucket_calls.specs.Calls.{BucketCall, answer_fits, bucket_questions, bucket_act, bucket_step, bucket_new, code_of, done_code}
 
 -- the questions, with a lent answer
 
@@ -45,12 +48,21 @@ module _ (bs : List ℕ) (key codes : Bool) (now : Option ℕ) (answer : List �
 -- the outcome
 
 module _ (c : BucketCall) (answer bs : List ℕ) where
+  refused_as : (q : ℕ) → some q ≡ first_failed (bucket_questions c answer bs) → Writes (refused_code q) bs answer (bucket_step c answer bs)
+  unfolding bucket_step
+  refused_as q e = rw (← e) (record { code = refl; storage = refl; output = refl })
+
   -- x: what is answered, at the exit of a `?` too
   pub refused_by : (r : Refusal) → some (number_of r) ≡ first_failed (bucket_questions c answer bs) → (x : Result ℕ Refusal) → IsErrAnd x (λ q. q ≡ r)
       → Writes (code_of x) bs answer (bucket_step c answer bs)
-  unfolding bucket_step
   refused_by r e (Ok n) h = absurd h
-  refused_by r e (Err q) h = rw (← e) (record { code = ap (λ (q : Refusal). refused_code (number_of q)) h; storage = refl; output = refl })
+  refused_by r e (Err q) h = refused_as (number_of q) (ap (λ (q : Refusal). some (number_of q)) h ∙ e)
+
+  -- the same of a call that answers nothing
+  pub not_done : (r : Refusal) → some (number_of r) ≡ first_failed (bucket_questions c answer bs) → (x : Result (Unit {0}) Refusal) → IsErrAnd x (λ q. q ≡ r)
+      → Writes (done_code x) bs answer (bucket_step c answer bs)
+  not_done r e (Ok u) h = absurd h
+  not_done r e (Err q) h = refused_as (number_of q) (ap (λ (q : Refusal). some (number_of q)) h ∙ e)
 
   -- m: the bucket that is stored
   pub done : none ≡ first_failed (bucket_questions c answer bs) → {n : ℕ} {m : Bucket} {bs' out : List ℕ}
@@ -70,6 +82,10 @@ module _ (c : BucketCall) (bs : List ℕ) where
       → Leaves (code_of x) bs (bucket_step c [] bs)
   left_by r e x h = left (refused_by c [] bs r e x h)
 
+  pub left_undone : (r : Refusal) → some (number_of r) ≡ first_failed (bucket_questions c [] bs) → (x : Result (Unit {0}) Refusal) → IsErrAnd x (λ q. q ≡ r)
+      → Leaves (done_code x) bs (bucket_step c [] bs)
+  left_undone r e x h = left (not_done c [] bs r e x h)
+
   pub left_done : none ≡ first_failed (bucket_questions c [] bs) → {n : ℕ} {m : Bucket} {bs' : List ℕ}
       → n ≡ (bucket_act c (lent_settings bs) (lent_bucket bs)).code → m ≡ (bucket_act c (lent_settings bs) (lent_bucket bs)).bucket
       → bs' ≡ splice bs 0 (bucket_bytes m) → [] ≡ (bucket_act c (lent_settings bs) (lent_bucket bs)).carried → Leaves n bs' (bucket_step c [] bs)
@@ -77,35 +93,24 @@ module _ (c : BucketCall) (bs : List ℕ) where
 
 -- a new bucket
 
-whole : (s v : List ℕ) → length v ≡ length s → splice s 0 v ≡ v
-whole s v l =
-    let k = length_splice s 0 v (omega arith) in
-    sym (part_all (splice s 0 v) (length v) (omega arith)) ∙ part_splice_same s 0 v (omega arith)
-
 module _ (timeout m f : ℕ) (bs : List ℕ) where
-  made : {s₁ s₂ s₃ s₄ : List ℕ} → length bs ≡ lent_size → s₁ ≡ splice bs 0 (zeros bucket_size) → s₂ ≡ splice s₁ lent_timeout_at (bytes time_size timeout)
-      → s₃ ≡ splice s₂ lent_max_incoming_at (m ∷ []) → s₄ ≡ splice s₃ lent_filter_at (f ∷ []) → s₄ ≡ empty_bytes timeout m f
+  made : length bs ≡ lent_size → {z t : List ℕ} → z ≡ zeros (length (take 810 bs)) → t ≡ bytes time_size timeout
+      → set (set (put_mid 810 8 (put_mid 0 810 bs z) t) 818 m) 819 f ≡ empty_bytes timeout m f
   unfolding empty_bytes bucket_bytes joined
-  made l e₁ e₂ e₃ e₄ =
-      let z : List ℕ = zeros bucket_size in
-      let t : List ℕ = bytes time_size timeout in
-      let lz : length z ≡ bucket_size = length-replicate {A = ℕ} bucket_size 0 in
-      let lt : length t ≡ time_size = length_bytes time_size timeout in
-      let v : List ℕ = ((z ++ t) ++ (m ∷ [])) ++ (f ∷ []) in
-      let lv : length v ≡ lent_size = simp length-append (omega arith) in
-      rw (
-        e₄,
-        e₃,
-        e₂,
-        e₁,
-        splice_next bs 0 bucket_size z t lz (omega arith),
-        splice_next bs 0 (bucket_size + time_size) (z ++ t) (m ∷ []) (simp length-append (omega arith)) (omega arith),
-        splice_next bs 0 (bucket_size + time_size + 1) ((z ++ t) ++ (m ∷ [])) (f ∷ []) (simp length-append (omega arith)) (omega arith),
-      )
-      (whole bs v (omega arith) ∙ simp append_assoc)
+  made l {z} {t} ez et =
+      let v : List ℕ = zeros bucket_size in
+      let w : List ℕ = bytes time_size timeout in
+      let lv : length v ≡ bucket_size = length-replicate {A = ℕ} bucket_size 0 in
+      let lw : length w ≡ time_size = length_bytes time_size timeout in
+      let n : length (take 810 bs) ≡ bucket_size = rw length-take (omega arith) in
+      let e0 : put_mid 0 810 bs z ≡ splice bs 0 v = put_mid_splice bs 0 810 (ez ∙ ap zeros n) lv in
+      let e1 : put_mid 810 8 (put_mid 0 810 bs z) t ≡ splice bs 0 (v ++ w) =
+      put_mid_splice _ 810 8 et lw ∙ ap (λ (x : List ℕ). splice x 810 w) e0 ∙ splice_next bs 0 bucket_size v w lv (omega arith) in
+      let e2 = set_more bs 0 818 (v ++ w) m e1 (simp length-append (omega arith)) (omega arith) in
+      let e3 = set_more bs 0 819 ((v ++ w) ++ (m ∷ [])) f e2 (simp length-append (omega arith)) (omega arith) in
+      e3 ∙ splice_all bs (((v ++ w) ++ (m ∷ [])) ++ (f ∷ [])) (simp length-append (omega arith)) ∙ simp append_assoc
 
-  pub new_made : eqb (length bs) lent_size ≡ true → (leb m max_nodes_per_bucket && leb f 1) ≡ true → (s₁ s₂ s₃ s₄ : List ℕ) → length bs ≡ lent_size → s₁ ≡ splice bs 0 (zeros bucket_size)
-      → s₂ ≡ splice s₁ lent_timeout_at (bytes time_size timeout) → s₃ ≡ splice s₂ lent_max_incoming_at (m ∷ []) → s₄ ≡ splice s₃ lent_filter_at (f ∷ [])
-      → Leaves 0 s₄ (bucket_new timeout m f bs)
+  pub new_made : eqb (length bs) lent_size ≡ true → (leb m max_nodes_per_bucket && leb f 1) ≡ true → length bs ≡ lent_size → {z t : List ℕ} → z ≡ zeros (length (take 810 bs))
+      → t ≡ bytes time_size timeout → Leaves 0 (set (set (put_mid 810 8 (put_mid 0 810 bs z) t) 818 m) 819 f) (bucket_new timeout m f bs)
   unfolding bucket_new
-  new_made e g s₁ s₂ s₃ s₄ l e₁ e₂ e₃ e₄ = record { code = rw (e, g); storage = rw (e, g) (made l e₁ e₂ e₃ e₄) }
+  new_made e g l ez et = record { code = rw (e, g); storage = rw (e, g) (made l ez et) }

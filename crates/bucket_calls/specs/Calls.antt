@@ -21,6 +21,11 @@ abbrev pub code_of : Result ℕ Refusal → ℕ
 code_of (Ok n) = n
 code_of (Err r) = refused_code (number_of r)
 
+-- the same of a call that answers nothing but that it was made
+abbrev pub done_code : Result (Unit {0}) Refusal → ℕ
+done_code (Ok u) = 0
+done_code (Err r) = refused_code (number_of r)
+
 pub data BucketCall : Type 0 where
   insert : (key : List ℕ) (value : ValueArgument) (state direction now : ℕ) → BucketCall
   apply_pending : (now : ℕ) → BucketCall

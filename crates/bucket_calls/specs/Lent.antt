@@ -6,7 +6,9 @@ use Rattle.model.specs.Bucket.{Bucket, BucketSettings, max_nodes_per_bucket, emp
 use Rattle.model.specs.Sizes.{time_size, bucket_size}
 use Rattle.model.specs.Layout.{bucket_bytes, bucket_in}
 use Rattle.model.specs.Question.{first_failed, deadline_fits}
-use Rattle.buckets.specs.Read.{sound_bytes, settings}
+use Rattle.bucket.specs.declared.settings.Settings.{Settings}
+use Rattle.bucket.specs.Settings.{settings_of}
+use Rattle.buckets.specs.Read.{sound_bytes}
 use Rattle.well_formed.specs.Tests.{place_formed, differs}
 
 abbrev pub lent_timeout_at : ℕ
@@ -21,8 +23,17 @@ lent_filter_at = lent_max_incoming_at + 1
 abbrev pub lent_size : ℕ
 lent_size = lent_filter_at + 1
 
+-- the settings behind the bucket, with each code as it stands
+abbrev pub read_settings : List ℕ → Settings
+read_settings bs =
+    record {
+      pending_timeout = number (part bs lent_timeout_at time_size);
+      max_incoming = get_or bs lent_max_incoming_at 0;
+      filter = get_or bs lent_filter_at 0;
+    }
+
 unfoldable pub lent_settings : List ℕ → BucketSettings
-lent_settings bs = settings (number (part bs lent_timeout_at time_size)) (get_or bs lent_max_incoming_at 0) (get_or bs lent_filter_at 0)
+lent_settings bs = settings_of (read_settings bs)
 
 unfoldable pub lent_bucket : List ℕ → Bucket
 lent_bucket bs = bucket_in (part bs 0 bucket_size)

@@ -5,13 +5,14 @@
 ghost use Rattle.std.specs.Prelude.{[]};
 ghost use Rattle.node.specs.Node.{argument_of};
 ghost use Rattle.codes.specs.Exported.{Leaves, Writes};
-ghost use Rattle.bucket_calls.specs.Calls.{BucketCall, bucket_step, bucket_new, code_of};
+ghost use Rattle.bucket_calls.specs.Calls.{BucketCall, bucket_step, bucket_new, code_of, done_code};
 
 pub mod stored;
 
 use crate::stored::Lent;
 use bucket::KBucket;
 use codes::Answer;
+use key::Key;
 use node::{Code, Node, NodeStatus, Refusal, Value};
 use storage::Layout;
 
@@ -22,20 +23,23 @@ pub fn new(
     pending_timeout: u64,
     max_incoming: u8,
     filter: Code,
-) -> Result<u32, Refusal>
-    ensures { Leaves (code_of result) s.new (bucket_new pending_timeout max_incoming filter s.old) }
+) -> Result<(), Refusal>
+    ensures { Leaves (done_code result) s.new (bucket_new pending_timeout max_incoming filter s.old) }
 {
     if s.len() != KBucket::BYTES {
         return Err(Refusal::Size);
     }
-    if !((max_incoming <= 16) & (filter <= 1)) {
+    if !((usize::from(max_incoming) <= KBucket::MAX_NODES_PER_BUCKET) & (filter <= 1)) {
         return Err(Refusal::Code);
     }
-    words::put_zeros(s, 0, Layout::BUCKET);
-    words::put_u64(s, Lent::TIMEOUT_AT, pending_timeout);
-    words::put_byte(s, Lent::MAX_INCOMING_AT, max_incoming);
-    words::put_byte(s, Lent::FILTER_AT, filter);
-    Ok(0)
+    words::put_zeros(&mut s[0..Layout::BUCKET]);
+    words::put_u64(
+        &mut s[Lent::TIMEOUT_AT..Lent::MAX_INCOMING_AT],
+        pending_timeout,
+    );
+    s[Lent::MAX_INCOMING_AT] = max_incoming;
+    s[Lent::FILTER_AT] = filter;
+    Ok(())
 }
 
 // Inserts a node, or makes it the pending.
@@ -55,12 +59,12 @@ pub fn insert(
         return Err(Refusal::Output);
     }
     let node = Node {
-        key: on_key::key_of(key),
+        key: Key::load(key),
         value,
         status,
     };
     let step = stored::load(s).insert_sound(node, time);
-    buckets::store_at(s, 0, step.bucket);
+    stored::store(s, step.bucket);
     Ok(codes::put_bucket_insert(answer, step.result))
 }
 
@@ -73,7 +77,7 @@ pub fn apply_pending(s: &mut [u8], time: u64, answer: &mut [u8]) -> Result<u32, 
         return Err(Refusal::Output);
     }
     let step = stored::load(s).apply_pending_sound(time);
-    buckets::store_at(s, 0, step.bucket);
+    stored::store(s, step.bucket);
     Ok(codes::put_applied(answer, bucket::only_placed(step.result)))
 }
 
@@ -83,9 +87,9 @@ pub fn update_status(s: &mut [u8], key: &[u8], state: Code, direction: Code) -> 
 {
     let codes = (state <= 1) & (direction <= 2);
     stored::asked(s, key.len() == Layout::KEY, codes, None)?;
-    let k = on_key::key_of(key);
+    let k = Key::load(key);
     let step = stored::load(s).update_status_sound(k, state, direction);
-    buckets::store_at(s, 0, step.bucket);
+    stored::store(s, step.bucket);
     Ok(codes::update_code(step.result))
 }
 
@@ -94,21 +98,21 @@ pub fn update_value(s: &mut [u8], key: &[u8], value: Value) -> Result<u32, Refus
     ensures { Leaves (code_of result) s.new (bucket_step (BucketCall.update_value key.now (argument_of value)) [] s.old) }
 {
     stored::asked(s, key.len() == Layout::KEY, value.in_range(), None)?;
-    let k = on_key::key_of(key);
+    let k = Key::load(key);
     let step = stored::load(s).update_value_sound(k, value);
-    buckets::store_at(s, 0, step.bucket);
+    stored::store(s, step.bucket);
     Ok(codes::update_code(step.result))
 }
 
 // Sets the status of the pending, if there is one.
-pub fn update_pending(s: &mut [u8], state: Code, direction: Code) -> Result<u32, Refusal>
-    ensures { Leaves (code_of result) s.new (bucket_step (BucketCall.update_pending state direction) [] s.old) }
+pub fn update_pending(s: &mut [u8], state: Code, direction: Code) -> Result<(), Refusal>
+    ensures { Leaves (done_code result) s.new (bucket_step (BucketCall.update_pending state direction) [] s.old) }
 {
     let codes = (state <= 1) & (direction <= 1);
     stored::asked(s, true, codes, None)?;
     let left = stored::load(s).update_pending_sound(state, direction);
-    buckets::store_at(s, 0, left);
-    Ok(0)
+    stored::store(s, left);
+    Ok(())
 }
 
 // Takes the key's node out, then applies a due pending.
@@ -116,8 +120,8 @@ pub fn remove(s: &mut [u8], key: &[u8], time: u64) -> Result<u32, Refusal>
     ensures { Leaves (code_of result) s.new (bucket_step (BucketCall.remove key.now time) [] s.old) }
 {
     stored::asked(s, key.len() == Layout::KEY, true, Some(time))?;
-    let k = on_key::key_of(key);
+    let k = Key::load(key);
     let step = stored::load(s).remove_sound(k, time);
-    buckets::store_at(s, 0, step.bucket);
+    stored::store(s, step.bucket);
     Ok(u32::from(step.result))
 }

@@ -17,7 +17,7 @@ use key::Key;
 use node::{Code, Node, Value};
 
 // What insert_or_update answers.
-#[derive(Clone, Copy)]
+#[derive(Clone, Copy, Debug, PartialEq, Eq)]
 pub enum InsertResult {
     // The key was not held, and is now.
     Inserted,
@@ -57,34 +57,8 @@ pub fn value_result(old: Value, value: Value) -> UpdateResult
     }
 }
 
-// Takes out the node at place pos and inserts one of its key, where the bucket filter is off. Answers as the status's step of a node that
-// was `old`.
-fn put_again(b: KBucket, pos: usize, old: Node, node: Node) -> Step<UpdateResult>
-    requires sound { Sound b }
-    requires pos_lt_count { pos < b.count }
-    requires b_value { (settings_of b).filter ≡ false }
-    requires node_value { node_codes node ≡ true }
-    requires pos_value { key_at b pos ≡ num node.key }
-    ensures result_value { update_result_of result.result ≡ status_result (node_of old) (node_of node) (put_again (settings_of b) (node_of node) (bucket_of b)).0 }
-    ensures becomes { Becomes (settings_of b) (put_again (settings_of b) (node_of node) (bucket_of b)).1 result.bucket }
-{
-    let left = b
-        .taken_out(pos)
-        .without_pending((node.status.state == 1) & (pos == 0));
-    if left.is_max_incoming(node) {
-        return Step {
-            bucket: left,
-            result: UpdateResult::Failed(FailureReason::TooManyIncoming),
-        };
-    }
-    Step {
-        bucket: left.placed(node),
-        result: bucket::status_result(old, node),
-    }
-}
-
-// Internal: update_node on the bucket of its key; state 2 is none given. `fails` is the answer of the table filter, a test that the bucket alone
-// cannot make. It stays a bool, as in the model's rule: two functions would leave each of their callers the same branch.
+// Internal: update_node on the bucket of its key; state 2 is none given. `fails` is the answer of the table filter, a test that the bucket
+// alone cannot make. A bool, as in the model's rule: two functions would leave each of their callers the same branch.
 pub fn update_node_in(
     b: KBucket,
     fails: bool,
@@ -106,24 +80,22 @@ pub fn update_node_in(
             result: UpdateResult::Failed(FailureReason::TableFilter),
         };
     }
-    let pos = places::position(b.nodes, 0, b.count, key);
+    let pos = places::position(&b.nodes[..b.count], key);
     if pos < b.count && b.filter != 1 && state != 2 {
         let old = b.nodes[pos];
-        let again = put_again(b, pos, old, old.with_value(value).with_status(state, 2));
-        return Step {
-            result: both_updates(value_result(old.value, value), again.result),
-            ..again
-        };
+        let of_value = value_result(old.value, value);
+        return b
+            .put_again(pos, old.with_value(value).with_status(state, 2))
+            .map(|of_status| both_updates(of_value, of_status));
     }
     let valued = b.update_value_sound(key, value);
     if state == 2 || matches!(valued.result, UpdateResult::Failed(_)) {
         return valued;
     }
-    let stated = valued.bucket.update_status_sound(key, state, 2);
-    Step {
-        result: both_updates(valued.result, stated.result),
-        ..stated
-    }
+    valued
+        .bucket
+        .update_status_sound(key, state, 2)
+        .map(|of_status| both_updates(valued.result, of_status))
 }
 
 // Internal: what the value's step and the status's step of insert_or_update on a held key answer together.
@@ -180,32 +152,25 @@ pub fn insert_or_update_in(b: KBucket, fails: bool, node: Node, time: u64) -> St
             result: InsertResult::Failed(FailureReason::TableFilter),
         };
     }
-    let pos = places::position(b.nodes, 0, b.count, node.key);
+    let pos = places::position(&b.nodes[..b.count], node.key);
     if b.count <= pos {
-        let put = b.insert_sound(node, time);
-        return Step {
-            bucket: put.bucket,
-            result: inserts(put.result),
-        };
+        return b.insert_sound(node, time).map(inserts);
     }
     if b.filter != 1 {
-        let old = b.nodes[pos];
-        let again = put_again(b, pos, old, node);
-        return Step {
-            bucket: again.bucket,
-            result: insert_updates(value_result(old.value, node.value), again.result),
-        };
+        let of_value = value_result(b.nodes[pos].value, node.value);
+        return b
+            .put_again(pos, node)
+            .map(|of_status| insert_updates(of_value, of_status));
     }
     let stated = b.update_status_sound(node.key, node.status.state, node.status.direction);
-    if let UpdateResult::Failed(_) = stated.result {
+    if matches!(stated.result, UpdateResult::Failed(_)) {
         return Step {
             bucket: stated.bucket,
             result: InsertResult::Failed(FailureReason::TooManyIncoming),
         };
     }
-    let valued = stated.bucket.update_value_sound(node.key, node.value);
-    Step {
-        bucket: valued.bucket,
-        result: insert_updates(valued.result, stated.result),
-    }
+    stated
+        .bucket
+        .update_value_sound(node.key, node.value)
+        .map(|of_value| insert_updates(of_value, stated.result))
 }

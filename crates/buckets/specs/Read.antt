@@ -2,7 +2,6 @@
 use Rattle.std.specs.Prelude.{ℕ, ◌+◌, Bool, true, cond, Option, Some, None, List, get_or, eqb}
 use Rattle.model.specs.Base.{tabulate}
 use Rattle.model.specs.Bytes.{number, part}
-use Rattle.model.specs.Bucket.{BucketSettings}
 use Rattle.model.specs.Sizes.{time_size, node_size}
 use Rattle.model.specs.Layout.{place_in}
 use Rattle.model.specs.Formed.{bucket_formed}
@@ -28,7 +27,3 @@ pending_codes (Some p) = node_codes p.node
 -- 01, question 2 of a bucket's bytes, all but the index
 abbrev pub sound_bytes : ℕ → List ℕ → Bool
 sound_bytes max_incoming bs = bucket_formed (λ k. true) max_incoming bs
-
--- the settings with these codes
-abbrev pub settings : ℕ → ℕ → ℕ → BucketSettings
-settings pending_timeout max_incoming filter = record { pending_timeout = pending_timeout; max_incoming = max_incoming; filter = eqb filter 1 }

@@ -81,7 +81,7 @@ entry_points =
       new = plain 2 NewKinds.ps NewKinds.r New.Post NewSymbol.code NewSymbol.name (λ M. NewMet.met);
       update_node_status = plain 2 UpdateNodeStatusKinds.ps UpdateNodeStatusKinds.r UpdateNodeStatus.Post UpdateNodeStatusSymbol.code UpdateNodeStatusSymbol.name (λ M. UpdateNodeStatusMet.met);
       update_node = plain 2 UpdateNodeKinds.ps UpdateNodeKinds.r UpdateNode.Post UpdateNodeSymbol.code UpdateNodeSymbol.name (λ M. UpdateNodeMet.met);
-      insert_or_update = plain 4 InsertOrUpdateKinds.ps InsertOrUpdateKinds.r InsertOrUpdate.Post InsertOrUpdateSymbol.code InsertOrUpdateSymbol.name (λ M. InsertOrUpdateMet.met);
+      insert_or_update = plain 3 InsertOrUpdateKinds.ps InsertOrUpdateKinds.r InsertOrUpdate.Post InsertOrUpdateSymbol.code InsertOrUpdateSymbol.name (λ M. InsertOrUpdateMet.met);
       remove = plain 2 RemoveKinds.ps RemoveKinds.r Remove.Post RemoveSymbol.code RemoveSymbol.name (λ M. RemoveMet.met);
       entry =
           paired 2 EntryKinds.ps EntryKinds.r
@@ -89,7 +89,7 @@ entry_points =
           (λ κs a b e. entry_codes b ≡ true) EntrySymbol.code EntrySymbol.name (λ M. EntryMet.met);
       present_update = plain 2 PresentUpdateKinds.ps PresentUpdateKinds.r PresentUpdate.Post PresentUpdateSymbol.code PresentUpdateSymbol.name (λ M. PresentUpdateMet.met);
       pending_update = plain 2 PendingUpdateKinds.ps PendingUpdateKinds.r PendingUpdate.Post PendingUpdateSymbol.code PendingUpdateSymbol.name (λ M. PendingUpdateMet.met);
-      absent_insert = plain 4 AbsentInsertKinds.ps AbsentInsertKinds.r AbsentInsert.Post AbsentInsertSymbol.code AbsentInsertSymbol.name (λ M. AbsentInsertMet.met);
+      absent_insert = plain 3 AbsentInsertKinds.ps AbsentInsertKinds.r AbsentInsert.Post AbsentInsertSymbol.code AbsentInsertSymbol.name (λ M. AbsentInsertMet.met);
       iter = plain 2 IterKinds.ps IterKinds.r Iter.Post IterSymbol.code IterSymbol.name (λ M. IterMet.met);
       nodes_by_distances = plain 3 NodesByDistancesKinds.ps NodesByDistancesKinds.r NodesByDistances.Post NodesByDistancesSymbol.code NodesByDistancesSymbol.name (λ M. NodesByDistancesMet.met);
       closest_keys = plain 3 ClosestKeysKinds.ps ClosestKeysKinds.r ClosestKeys.Post ClosestKeysSymbol.code ClosestKeysSymbol.name (λ M. ClosestKeysMet.met);

@@ -54,12 +54,12 @@ pub equation : {c : Call} {s : List ℕ} {a : Answer} {s' out' : List ℕ} → R
 equation (Ran.new _ _ _ _ _ _ _ _ _ _ p) = quiet _ _ refl p
 equation (Ran.update_node_status _ _ _ _ _ _ _ _ _ p) = quiet _ _ refl p
 equation (Ran.update_node _ _ _ _ _ _ _ _ _ p) = quiet _ _ refl p
-equation (Ran.insert_or_update _ _ _ _ _ _ _ _ _ _ _ _ _ p) = quiet _ _ refl p
+equation (Ran.insert_or_update _ _ _ _ _ _ _ _ _ _ p) = quiet _ _ refl p
 equation (Ran.remove _ _ _ _ _ _ _ p) = quiet _ _ refl p
 equation (Ran.entry _ _ _ _ _ _ _ p) = quiet _ _ refl p.0
 equation (Ran.present_update _ _ _ _ _ _ _ _ p) = quiet _ _ refl p
-equation (Ran.pending_update _ _ _ _ _ _ _ _ p) = quiet _ _ refl p
-equation (Ran.absent_insert _ _ _ _ _ _ _ _ _ _ _ _ _ p) = quiet _ _ refl p
+equation (Ran.pending_update _ _ _ _ _ _ _ p) = quiet _ _ refl p
+equation (Ran.absent_insert _ _ _ _ _ _ _ _ _ _ p) = quiet _ _ refl p
 equation (Ran.iter _ _ _ _ _ _ _ _ _ _ p) = p
 equation (Ran.nodes_by_distances _ _ _ _ _ _ _ _ _ _ _ _ p) = p
 equation (Ran.closest_keys _ _ _ _ _ _ _ _ _ _ _ _ p) = p

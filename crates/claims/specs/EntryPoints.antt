@@ -56,12 +56,12 @@ pub record EntryPoints : Type 2 where
   pub new : Returns 2 NewKinds.ps NewKinds.r New.Post NewSymbol.code NewSymbol.name
   pub update_node_status : Returns 2 UpdateNodeStatusKinds.ps UpdateNodeStatusKinds.r UpdateNodeStatus.Post UpdateNodeStatusSymbol.code UpdateNodeStatusSymbol.name
   pub update_node : Returns 2 UpdateNodeKinds.ps UpdateNodeKinds.r UpdateNode.Post UpdateNodeSymbol.code UpdateNodeSymbol.name
-  pub insert_or_update : Returns 4 InsertOrUpdateKinds.ps InsertOrUpdateKinds.r InsertOrUpdate.Post InsertOrUpdateSymbol.code InsertOrUpdateSymbol.name
+  pub insert_or_update : Returns 3 InsertOrUpdateKinds.ps InsertOrUpdateKinds.r InsertOrUpdate.Post InsertOrUpdateSymbol.code InsertOrUpdateSymbol.name
   pub remove : Returns 2 RemoveKinds.ps RemoveKinds.r Remove.Post RemoveSymbol.code RemoveSymbol.name
   pub entry : Returns 2 EntryKinds.ps EntryKinds.r Entry.Post EntrySymbol.code EntrySymbol.name
   pub present_update : Returns 2 PresentUpdateKinds.ps PresentUpdateKinds.r PresentUpdate.Post PresentUpdateSymbol.code PresentUpdateSymbol.name
   pub pending_update : Returns 2 PendingUpdateKinds.ps PendingUpdateKinds.r PendingUpdate.Post PendingUpdateSymbol.code PendingUpdateSymbol.name
-  pub absent_insert : Returns 4 AbsentInsertKinds.ps AbsentInsertKinds.r AbsentInsert.Post AbsentInsertSymbol.code AbsentInsertSymbol.name
+  pub absent_insert : Returns 3 AbsentInsertKinds.ps AbsentInsertKinds.r AbsentInsert.Post AbsentInsertSymbol.code AbsentInsertSymbol.name
   pub iter : Returns 2 IterKinds.ps IterKinds.r Iter.Post IterSymbol.code IterSymbol.name
   pub nodes_by_distances : Returns 3 NodesByDistancesKinds.ps NodesByDistancesKinds.r NodesByDistances.Post NodesByDistancesSymbol.code NodesByDistancesSymbol.name
   pub closest_keys : Returns 3 ClosestKeysKinds.ps ClosestKeysKinds.r ClosestKeys.Post ClosestKeysSymbol.code ClosestKeysSymbol.name

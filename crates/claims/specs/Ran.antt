@@ -4,9 +4,11 @@ use contract.Lifetimes.{Lfts}
 use Rattle.std.specs.Borrow.{Bor, MutBor}
 use Rattle.model.specs.Table.{Answer}
 use Rattle.model.specs.Call.{Listing, Call, KeyCall}
+use Rattle.node.specs.declared.NodeStatus.{NodeStatus}
 use Rattle.node.specs.Node.{argument_of}
 use Rattle.on_key.specs.Answers.{update_answer}
-use Rattle.session.specs.Hours.{session_of}
+use Rattle.session.specs.declared.Hours.{Hours}
+use Rattle.session.specs.Hours.{hours_of}
 use Rattle.table.specs.Calls.{remove_answer, take_answer, new_answer}
 use Rattle.update.specs.Calls.{insert_or_update_answer}
 use Rattle.entry.specs.Kind.{entry_answer, insert_answer}
@@ -54,9 +56,9 @@ pub data Ran : (c : Call) (s : List ℕ) (a : Answer) (s' out' : List ℕ) → T
   update_node : (κs : Lfts 2) (s : Lent) (key : Slice) (s' : Lent) (value : _) (state time : ℕ) (a : _) (others : _)
       → UpdateNode.Post κs (s & key & value & state & time & tt) a (s' & others)
       → Ran (Call.on_key key.now (KeyCall.update_node (argument_of value) state time)) s.now (update_answer a) s'.now []
-  insert_or_update : (κs : Lfts 4) (s : Lent) (key windows closed : Slice) (s' : Lent) (value : _) (state direction time : ℕ) (moment : _) (a : _) (others : _)
-      → InsertOrUpdate.Post κs (s & key & value & state & direction & time & windows & closed & moment & tt) a (s' & others)
-      → Ran (Call.on_key key.now (KeyCall.insert_or_update (argument_of value) state direction time (session_of windows.now closed.now moment))) s.now (insert_or_update_answer a) s'.now []
+  insert_or_update : (κs : Lfts 3) (s : Lent) (key : Slice) (s' : Lent) (value : _) (status : NodeStatus) (time : ℕ) (hours : Hours) (a : _) (others : _)
+      → InsertOrUpdate.Post κs (s & key & value & status & time & hours & tt) a (s' & others)
+      → Ran (Call.on_key key.now (KeyCall.insert_or_update (argument_of value) status.state status.direction time (hours_of hours))) s.now (insert_or_update_answer a) s'.now []
   remove : (κs : Lfts 2) (s : Lent) (key : Slice) (s' : Lent) (time : ℕ) (a : _) (others : _)
       → Remove.Post κs (s & key & time & tt) a (s' & others)
       → Ran (Call.on_key key.now (KeyCall.remove time)) s.now (remove_answer a) s'.now []
@@ -66,12 +68,12 @@ pub data Ran : (c : Call) (s : List ℕ) (a : Answer) (s' out' : List ℕ) → T
   present_update : (κs : Lfts 2) (s : Lent) (key : Slice) (s' : Lent) (state direction : ℕ) (a : _) (others : _)
       → PresentUpdate.Post κs (s & key & state & direction & tt) a (s' & others)
       → Ran (Call.on_key key.now (KeyCall.present_update state direction)) s.now (update_answer a) s'.now []
-  pending_update : (κs : Lfts 2) (s : Lent) (key : Slice) (s' : Lent) (state direction : ℕ) (a : _) (others : _)
-      → PendingUpdate.Post κs (s & key & state & direction & tt) a (s' & others)
-      → Ran (Call.on_key key.now (KeyCall.pending_update state direction)) s.now (update_answer a) s'.now []
-  absent_insert : (κs : Lfts 4) (s : Lent) (key windows closed : Slice) (s' : Lent) (value : _) (state direction time : ℕ) (moment : _) (a : _) (others : _)
-      → AbsentInsert.Post κs (s & key & value & state & direction & time & windows & closed & moment & tt) a (s' & others)
-      → Ran (Call.on_key key.now (KeyCall.absent_insert (argument_of value) state direction time (session_of windows.now closed.now moment))) s.now (insert_answer a) s'.now []
+  pending_update : (κs : Lfts 2) (s : Lent) (key : Slice) (s' : Lent) (status : NodeStatus) (a : _) (others : _)
+      → PendingUpdate.Post κs (s & key & status & tt) a (s' & others)
+      → Ran (Call.on_key key.now (KeyCall.pending_update status.state status.direction)) s.now (update_answer a) s'.now []
+  absent_insert : (κs : Lfts 3) (s : Lent) (key : Slice) (s' : Lent) (value : _) (status : NodeStatus) (time : ℕ) (hours : Hours) (a : _) (others : _)
+      → AbsentInsert.Post κs (s & key & value & status & time & hours & tt) a (s' & others)
+      → Ran (Call.on_key key.now (KeyCall.absent_insert (argument_of value) status.state status.direction time (hours_of hours))) s.now (insert_answer a) s'.now []
   iter : (κs : Lfts 2) (s out s' out' : Lent) (n time n' time' : ℕ) (a : _)
       → Iter.Post κs (s & n & time & out & tt) a (s' & n' & time' & out' & tt)
       → Ran (Call.list Listing.iter n time out.now) s.now (list_answer a) s'.now out'.now

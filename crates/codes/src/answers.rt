@@ -13,16 +13,17 @@ ghost use Rattle.codes.specs.Codes.{refused_code, status_code, insert_code, inse
 
 use bucket_update::InsertResult;
 use entry::EntryKind;
-use node::{Code, NodeStatus, Refusal, Value};
+use node::{NodeStatus, Refusal, Value};
+use storage::Layout;
 
-// 2 * state + direction, no `From` either.
+// 2 * state + direction. Not a `From`, as reason_code.
 fn status_code(status: NodeStatus) -> u32
     ensures { (result ≡ status_code (eqb status.state 1) (eqb status.direction 1)) × (result ≤ 3) }
 {
     2 * u32::from(status.is_connected()) + u32::from(status.is_incoming())
 }
 
-// Internal: the number of an entry's kind, no `From` either.
+// Internal: the number of an entry's kind. Not a `From`, as reason_code.
 pub fn kind_code(kind: EntryKind) -> u32
     ensures { result ≡ entry_code (kind_of kind) }
 {
@@ -34,7 +35,7 @@ pub fn kind_code(kind: EntryKind) -> u32
     }
 }
 
-// Internal: how many entries were found, bytes a line has, or nodes were written or read.
+// Internal: the number of a count of at most 4,096: of entries found, bytes of a line, nodes written or read.
 pub fn count(n: usize) -> u32
     requires { n ≤ max_count }
     ensures { result ≡ n }
@@ -50,29 +51,30 @@ fn refused_short(asked: Result<(), Refusal>) -> u32
 }
 
 // Internal: what a call on the storage alone returns where its answer has no room.
+#[tactic(auto, using(on_key::proofs::Ended::size_fails), unfolding(on_key::specs::Answers::failed_of_two))]
 pub fn short_storage(s: &[u8]) -> u32
     ensures { result ≡ refused_code (given (failed_of_two s.now) 6) }
 {
+    let Some(s) = s.as_array() else {
+        return crate::refused(Refusal::Size);
+    };
     refused_short(on_key::asked_storage(s))
 }
 
 // Internal: what a call with a node returns where its answer has no room.
-pub fn short_node(
-    s: &[u8],
-    key: &[u8],
-    value: Value,
-    state: Code,
-    direction: Code,
-    time: u64,
-) -> u32
-    ensures { result ≡ refused_code (given (failed_of_five key.now (value_in_range (argument_of value) && (leb state 1 && leb direction 1)) (some time) s.now) 6) }
+#[tactic(auto, using(on_key::proofs::Ended::size_fails), unfolding(on_key::specs::Answers::failed_of_five))]
+pub fn short_node(s: &[u8], key: &[u8], value: Value, status: NodeStatus, time: u64) -> u32
+    ensures { result ≡ refused_code (given (failed_of_five key.now (value_in_range (argument_of value) && (leb status.state 1 && leb status.direction 1)) (some time) s.now) 6) }
 {
-    let codes = value.in_range() & ((state <= 1) & (direction <= 1));
+    let Some(s) = s.as_array() else {
+        return crate::refused(Refusal::Size);
+    };
+    let codes = value.in_range() & ((status.state <= 1) & (status.direction <= 1));
     refused_short(on_key::asked(s, key, codes, Some(time)))
 }
 
 // Internal: the number of an insert's result; the key that it names, put in the answer.
-#[tactic(auto, using(laws::proofs::Parts::splice_nil))]
+#[tactic(auto, using(crate::proofs::Put::key_put, laws::proofs::Parts::splice_nil))]
 pub fn put_insert(answer: &mut [u8], res: InsertResult) -> u32
     requires { answer_size ≤ length answer.old }
     ensures value { result ≡ insert_code (table_insert_result_of res) }
@@ -81,7 +83,7 @@ pub fn put_insert(answer: &mut [u8], res: InsertResult) -> u32
     match res {
         InsertResult::Inserted => 0,
         InsertResult::Pending(key) => {
-            key.store(answer, 0);
+            key.store(&mut answer[0..Layout::KEY]);
             1
         }
         InsertResult::StatusUpdated(promoted) => 2 + u32::from(promoted),

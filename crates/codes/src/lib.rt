@@ -44,7 +44,7 @@ pub fn reason_code(reason: FailureReason) -> u32
     }
 }
 
-// Internal: the number of an update's result, no `From` either.
+// Internal: the number of an update's result. Not a `From`, as reason_code.
 pub fn update_code(res: UpdateResult) -> u32
     ensures { result ≡ update_code (update_result_of res) }
 {
@@ -58,7 +58,7 @@ pub fn update_code(res: UpdateResult) -> u32
 }
 
 // Internal: the number of a bucket insert's result; the key that it names, put in the answer.
-#[tactic(auto, using(laws::proofs::Parts::splice_nil))]
+#[tactic(auto, using(crate::proofs::Put::key_put, laws::proofs::Parts::splice_nil))]
 pub fn put_bucket_insert(answer: &mut [u8], res: InsertResult) -> u32
     requires { answer_size ≤ length answer.old }
     ensures value { result ≡ bucket_insert_code (insert_result_of res) }
@@ -67,7 +67,7 @@ pub fn put_bucket_insert(answer: &mut [u8], res: InsertResult) -> u32
     match res {
         InsertResult::Inserted => 0,
         InsertResult::Pending(key) => {
-            key.store(answer, 0);
+            key.store(&mut answer[0..Layout::KEY]);
             1
         }
         InsertResult::FailedFilter => 2,
@@ -78,13 +78,18 @@ pub fn put_bucket_insert(answer: &mut [u8], res: InsertResult) -> u32
 }
 
 // Internal: 1 for a record, which is put in the answer, 0 for none.
-#[tactic(auto, using(crate::proofs::Put::applied_bytes_lem))]
+#[tactic(auto, using(crate::proofs::Put::record_put, crate::proofs::Put::none_put))]
 pub fn put_applied(answer: &mut [u8], applied: Option<EndedPending>) -> u32
     requires answer_size_in_bounds { answer_size ≤ length answer.old }
     requires applied_value { applied_codes applied ≡ true }
     ensures value { result ≡ applied_code (first (records_of applied)) }
     ensures answer_after { answer.new ≡ splice answer.old 0 (applied_bytes (first (records_of applied))) }
 {
-    header::store_record(answer, 0, applied);
-    u32::from(applied.is_some())
+    match applied {
+        None => 0,
+        Some(ended) => {
+            header::store_record(&mut answer[0..Layout::RECORD], ended);
+            1
+        }
+    }
 }

@@ -7,7 +7,7 @@ use Prim.Native.Nat.{ℕ, zero, suc, ◌+◌, ◌*◌, ◌≤◌}
 use native.Mathlib.Omega.{arith}
 use lib.ListN.{length, take, length-append}
 use lib.Dec.{eqb, leb}
-use borrow.Author.Tests.{leb-true, le-leb, eqb-true}
+use borrow.Author.Tests.{leb-true, le-leb, eqb-true, ne_eqb}
 use Rattle.model.specs.Base.{joined}
 use Rattle.model.specs.Bytes.{Bytes, splice}
 use Rattle.model.specs.Node.{Node}
@@ -33,9 +33,9 @@ use Rattle.visit.specs.Passes.{applied_in}
 use Rattle.visit.proofs.Applying.{Appliable, Applying, applying_done, applying_size, applying_header, applying_table, applying_formed}
 use Rattle.items.specs.Lists.{Lists}
 use Rattle.items.proofs.Asked.{asked_passes}
-use Rattle.distances.specs.Passes.{table_at, distance_pass, passed, Taken, Holds, listed_nodes}
+use Rattle.distances.specs.Passes.{table_after, distance_pass, passed, Taken, listed_nodes}
 use Rattle.distances.specs.Early.{early, failed_early}
-use Rattle.distances.proofs.Passes.{pass_appliable}
+use Rattle.distances.proofs.Passes.{Holds, pass_appliable}
 
 -- one item is as few as none
 most_few_is : (n : ℕ) → leb (at_least_one n) max_count ≡ leb n max_count
@@ -124,6 +124,10 @@ module _ (s : List ℕ) (ds : List ℕ) (n now : ℕ) (out : List ℕ) where
   unfolding failed_early
   refused_early q e = refused q (asked_are ∙ front_fails (early now n (length out) s) ((2, formed_buckets) ∷ (8, queue_fits c t) ∷ []) q e)
 
+  pub refused_size : (length s ≡ storage_size → ⊥) → Lists (Answer.Refused 1) s out (step_bytes c s)
+  unfolding failed_early
+  refused_size m = refused_early 1 (rw (ne_eqb (length s) storage_size m))
+
   abbrev left : Table
   left = (distance_pass now n 0 ds t).0
 
@@ -159,9 +163,9 @@ module _ (s : List ℕ) (ds : List ℕ) (n now : ℕ) (out : List ℕ) where
           → some m ≡ cond (leb (length t.queue + records) max_records) none (some 8) → Lists (Answer.Refused m) s out (step_bytes c s)
       refused_full g m h = refused m (asked_last ∙ rw (f, fits_are) (ap (λ (k : ℕ). cond (leb k max_records) none (some 8)) (sym (queue_asked g)) ∙ sym h))
 
-      module _ (h : length left.queue ≤ max_records) {taken records : ℕ} (k : Taken now n ds t taken records) where
+      module _ (h : length left.queue ≤ max_records) {taken : List ℕ} {records : ℕ} (k : Taken now n ds t taken records) where
         abbrev is : List ℕ
-        is = buckets_at (take taken ds)
+        is = buckets_at taken
 
         accepted : first_failed (all_questions c s) ≡ none
         accepted = asked_last ∙ rw (f, fits_are, le-leb (length left.queue) max_records h)
@@ -169,8 +173,8 @@ module _ (s : List ℕ) (ds : List ℕ) (n now : ℕ) (out : List ℕ) where
         pub taken_formed : buckets_formed s is ≡ true
         taken_formed = ap (buckets_formed s) k.buckets ∙ f
 
-        pub taken_room : length (table_at now ds taken t).queue ≤ max_records
-        unfolding table_at distance_pass
+        pub taken_room : length (table_after now taken t).queue ≤ max_records
+        unfolding table_after distance_pass
         taken_room = let q = ap (λ (js : List ℕ). length (apply_all now js t).0.queue) k.buckets in omega arith
 
         pub taken_records : records ≡ length (apply_all now is t).1
@@ -180,7 +184,7 @@ module _ (s : List ℕ) (ds : List ℕ) (n now : ℕ) (out : List ℕ) where
         -- the storage once the pass has been made
         module _ (b : Bytes s) {s' : List ℕ} (v : s' ≡ applied_in s now is) where
           p : Appliable s now is
-          p = let q = passed_early now n (length out) s e in pass_appliable s now ds taken b (record { size = q.size; header = q.header }) q.timely taken_formed taken_room
+          p = let q = passed_early now n (length out) s e in pass_appliable s now taken b (record { size = q.size; header = q.header }) q.timely taken_formed taken_room
 
           w : Applying s now is s' []
           w = applying_done s now is p v
@@ -195,7 +199,7 @@ module _ (s : List ℕ) (ds : List ℕ) (n now : ℕ) (out : List ℕ) where
           unfolding distance_pass
           there = applying_table s now is p s' [] w ∙ ap (λ (js : List ℕ). (apply_all now js t).0) (sym (append-nil w.done) ∙ sym w.all ∙ k.buckets)
 
-          found_is : listed_nodes (table_of s') (at_least_one n) (take taken ds) ≡ found l n now t
+          found_is : listed_nodes (table_of s') (at_least_one n) taken ≡ found l n now t
           unfolding listed_nodes distance_pass
           found_is =
               ap₂ (λ (u : Table) (js : List ℕ). take (at_least_one n) (joined (λ i. nodes (u.buckets i)) js)) there k.buckets
@@ -205,8 +209,8 @@ module _ (s : List ℕ) (ds : List ℕ) (n now : ℕ) (out : List ℕ) where
           unfolding item_bytes
           items_are ns = sym (joined_map item_bytes (item l) ns)
 
-          pub lists_found : {m : ℕ} {out' : List ℕ} → m ≡ length (listed_nodes (table_of s') (at_least_one n) (take taken ds))
-              → out' ≡ splice out 0 (joined node_bytes (listed_nodes (table_of s') (at_least_one n) (take taken ds))) → Lists (Answer.Found m) s' out' (step_bytes c s)
+          pub lists_found : {m : ℕ} {out' : List ℕ} → m ≡ length (listed_nodes (table_of s') (at_least_one n) taken)
+              → out' ≡ splice out 0 (joined node_bytes (listed_nodes (table_of s') (at_least_one n) taken)) → Lists (Answer.Found m) s' out' (step_bytes c s)
           unfolding step_bytes act applied_in
           lists_found {m} {out'} g o =
               let a : m ≡ length (found l n now t) = g ∙ ap length found_is in

@@ -1,18 +1,17 @@
 -- The buckets that the distances name, and what a bucket gives that was named before.
 use mathlib.Core.Path.{◌≡◌, refl, sym, ap, ◌∙◌, subst}
-use mathlib.Core.Bool.{Bool, true, false, cond, not, not-not, ◌&&◌, ◌||◌}
+use mathlib.Core.Bool.{Bool, true, false, cond, not, ◌&&◌, ◌||◌}
 use mathlib.Core.List.{List, [], ◌∷◌, ◌++◌}
 use mathlib.Core.Option.{Option, none, some}
 use Rattle.std.specs.List.{list_any}
-use Rattle.std.proofs.lemmas.List.Folds.{list_any_more}
-use Prim.Native.Nat.{ℕ, zero, suc, ◌+◌, ◌-◌, ◌≤◌, ◌<◌}
+use Prim.Native.Nat.{ℕ, ◌+◌, ◌-◌, ◌≤◌, ◌<◌}
 use native.Mathlib.Numerals.{add-one}
 use native.Mathlib.Omega.{arith}
 use lib.Dec.{eqb}
 use lib.ListN.{length, get_or, take}
 use lib.Seq.{take-suc}
 use borrow.Author.Tests.{ne_eqb, eqb-true, eqb-false, le-leb, lt-leb}
-use Rattle.model.specs.Base.{same, every, joined, all_below}
+use Rattle.model.specs.Base.{same, every, joined}
 use Rattle.model.specs.Bytes.{Bytes}
 use Rattle.model.specs.Layout.{table_of}
 use Rattle.model.specs.Node.{EndedPending, placed_of}
@@ -29,7 +28,7 @@ use Rattle.laws.proofs.Applied.{apply_again, apply_all_buckets, apply_all_append
 use Rattle.on_key.specs.Answers.{Ready}
 use Rattle.visit.specs.declared.Given.{Given}
 use Rattle.visit.specs.Passes.{GivenAt}
-use Rattle.distances.specs.Passes.{stands_before, records_at, held_at, Yields, next_table, table_at}
+use Rattle.distances.specs.Passes.{records_at, held_at, Yields, next_table, table_after}
 
 -- the index of a distance
 
@@ -45,21 +44,6 @@ module _ (d : ℕ) where
   pub index_in : 1 ≤ d → d ≤ 256 → index_at d ≡ some (d - 1)
   unfolding index_at
   index_in n h = rw (le-leb 1 d n, le-leb d 256 h)
-
--- a distance stands before place p
-
-one_more : (a b : Bool) → (not a || b) ≡ not (a && not b)
-one_more true true = refl
-one_more true false = refl
-one_more false b = refl
-
-pub stands_is : (ds : List ℕ) (d p : ℕ) → p ≤ length ds → list_any (λ (y : ℕ). eqb y d) (take p ds) ≡ stands_before ds p d
-unfolding stands_before all_below
-stands_is ds d zero h = refl
-stands_is ds d (suc p) h =
-    ap (λ (k : ℕ). list_any (λ (y : ℕ). eqb y d) (take k ds)) (sym (add-one p)) ∙ list_any_more (λ (y : ℕ). eqb y d) ds p 0 (omega arith)
-    ∙ ap (λ (a : Bool). a || eqb (get_or ds p 0) d) (stands_is ds d p (omega arith))
-    ∙ one_more (all_below p (λ (j : ℕ). not (eqb (get_or ds j 0) d))) (eqb (get_or ds p 0) d)
 
 -- what a bucket gives
 
@@ -104,37 +88,34 @@ module _ (d i : ℕ) (e : index_at d ≡ some i) where
   abbrev other : ℕ → Bool
   other j = not (same i j)
 
-  named_one : (x : ℕ) → every other (buckets_at (x ∷ [])) ≡ not (eqb x d)
-  unfolding joined
+  named_one : (x : ℕ) → every other (indices (index_at x)) ≡ not (eqb x d)
   named_one x =
       split (eqb x d)
-      (λ t. ap (λ (o : Option ℕ). every other (indices o ++ [])) (ap index_at (eqb-true x d t) ∙ e) ∙ rw (same_self i, t))
+      (λ t. ap (λ (o : Option ℕ). every other (indices o)) (ap index_at (eqb-true x d t) ∙ e) ∙ rw (same_self i, t))
       (λ t. by (index_at x) refl (eqb-false x d t) ∙ sym (ap not t))
     where
-      by : (o : Option ℕ) → index_at x ≡ o → (x ≡ d → ⊥) → every other (indices o ++ []) ≡ true
+      by : (o : Option ℕ) → index_at x ≡ o → (x ≡ d → ⊥) → every other (indices o) ≡ true
       by none f n = refl
       by (some j) f n =
           let p = distance_of x j f in
           let q = distance_of d i e in
           rw (same_not i j (λ (g : i ≡ j). n (omega (arith, p.more, q.more))))
 
-  named_before : (ds : List ℕ) (p : ℕ) → p ≤ length ds → every other (buckets_at (take p ds)) ≡ all_below p (λ j. not (eqb (get_or ds j 0) d))
-  unfolding all_below joined
-  named_before ds zero h = refl
-  named_before ds (suc p) h =
-      ap (λ (l : List ℕ). every other (buckets_at l)) (take-suc ds p 0 h) ∙ ap (every other) (joined_append (λ (x : ℕ). indices (index_at x)) (take p ds) (get_or ds p 0 ∷ []))
-      ∙ every_append other (buckets_at (take p ds)) (buckets_at (get_or ds p 0 ∷ []))
-      ∙ rw (named_before ds p (omega arith), named_one (get_or ds p 0))
+  named_before : (ds : List ℕ) → every other (buckets_at ds) ≡ not (list_any (λ (y : ℕ). eqb y d) ds)
+  unfolding joined
+  named_before [] = refl
+  named_before (x ∷ ds) =
+      every_append other (indices (index_at x)) (buckets_at ds) ∙ rw (named_one x, named_before ds) (both (eqb x d) (list_any (λ (y : ℕ). eqb y d) ds))
+    where
+      both : (a b : Bool) → (not a && not b) ≡ not (a || b)
+      both true b = refl
+      both false b = refl
 
--- what the table is, once the first p distances have been visited
+-- what the table is, once the buckets at some distances have been visited
 
 module _ (now : ℕ) (ds : List ℕ) (t : Table) where
-  pub table_none : table_at now ds 0 t ≡ t
-  unfolding table_at joined
-  table_none = refl
-
-  pub table_next : (p : ℕ) → p < length ds → table_at now ds (p + 1) t ≡ next_table now (table_at now ds p t) (index_at (get_or ds p 0))
-  unfolding table_at joined
+  pub table_next : (p : ℕ) → p < length ds → table_after now (take (p + 1) ds) t ≡ next_table now (table_after now (take p ds) t) (index_at (get_or ds p 0))
+  unfolding table_after joined
   table_next p h =
       let d : ℕ = get_or ds p 0 in
       let q : take (p + 1) ds ≡ take p ds ++ (d ∷ []) = ap (λ (k : ℕ). take k ds) (add-one p) ∙ take-suc ds p 0 h in
@@ -143,51 +124,53 @@ module _ (now : ℕ) (ds : List ℕ) (t : Table) where
       ∙ apply_all_append now (buckets_at (take p ds)) (buckets_at (d ∷ [])) t
       ∙ by (index_at d)
     where
-      by : (o : Option ℕ) → (apply_all now (indices o ++ []) (table_at now ds p t)).0 ≡ next_table now (table_at now ds p t) o
+      by : (o : Option ℕ) → (apply_all now (indices o ++ []) (table_after now (take p ds) t)).0 ≡ next_table now (table_after now (take p ds) t) o
       by none = refl
       by (some i) = refl
 
-  -- bucket i, named by the distance d at place p
-  module _ (d i p : ℕ) (e : index_at d ≡ some i) (h : p ≤ length ds) where
+  -- bucket i, at the distance d
+  module _ (d i : ℕ) (e : index_at d ≡ some i) where
     abbrev u : Table
-    u = table_at now ds p t
+    u = table_after now ds t
+
+    -- the distance stands among them
+    abbrev before : Bool
+    before = list_any (λ (y : ℕ). eqb y d) ds
 
     abbrev given : Table → Bucket × List EndedPending
     given x = apply_pending x.settings.bucket now (x.buckets i)
 
-    bucket_is : u.buckets i ≡ cond (not (stands_before ds p d)) (t.buckets i) (applied now t i)
-    unfolding table_at stands_before
-    bucket_is =
-        apply_all_buckets now (buckets_at (take p ds)) t i
-        ∙ ap (λ (b : Bool). cond b (t.buckets i) (applied now t i)) (named_before d i e ds p h ∙ sym (not-not (all_below p (λ j. not (eqb (get_or ds j 0) d)))))
+    bucket_is : u.buckets i ≡ cond (not before) (t.buckets i) (applied now t i)
+    unfolding table_after
+    bucket_is = apply_all_buckets now (buckets_at ds) t i ∙ ap (λ (b : Bool). cond b (t.buckets i) (applied now t i)) (named_before d i e ds)
 
     settings_is : u.settings ≡ t.settings
-    unfolding table_at
-    settings_is = apply_all_settings now (buckets_at (take p ds)) t
+    unfolding table_after
+    settings_is = apply_all_settings now (buckets_at ds) t
 
-    given_first : stands_before ds p d ≡ false → given u ≡ given t
+    given_first : before ≡ false → given u ≡ given t
     given_first f = rw (settings_is, bucket_is, f)
 
-    given_again : stands_before ds p d ≡ true → given u ≡ (applied now t i, [])
+    given_again : before ≡ true → given u ≡ (applied now t i, [])
     given_again f = rw (settings_is, bucket_is, f) (apply_again t.settings.bucket now (t.buckets i))
 
     -- what the bucket gives, where applying gives a
     abbrev Gives : Given → Bucket × List EndedPending → Type 0
     Gives g a = (g.records ≡ length a.1) × ((g.placed ≡ length (placed_of a.1)) × (g.count ≡ cond (not (eqb (length (placed_of a.1)) 0)) (num_entries a.0) 0))
 
-    pub yields_first : {g : Given} → Yields now t (some i) g → stands_before ds p d ≡ false → Yields now u (some i) g
+    pub yields_first : {g : Given} → Yields now t (some i) g → before ≡ false → Yields now u (some i) g
     yields_first {g} y f =
         let m : Gives g (given u) = subst (Gives g) (sym (given_first f)) (y.records, (y.placed, y.held)) in
         record { records = m.0; placed = m.1.0; held = m.1.1; one = y.one; few = y.few }
 
-    pub yields_again : (g : Given) → g.records ≡ 0 → g.placed ≡ 0 → g.count ≡ 0 → stands_before ds p d ≡ true → Yields now u (some i) g
+    pub yields_again : (g : Given) → g.records ≡ 0 → g.placed ≡ 0 → g.count ≡ 0 → before ≡ true → Yields now u (some i) g
     yields_again g r q c f =
         let m : Gives g (given u) = subst (Gives g) (sym (given_again f)) (r, (q, c)) in
         record { records = m.0; placed = m.1.0; held = m.1.1; one = omega arith; few = omega arith }
 
     pub yields_nothing : {g : Given} → Yields now t (some i) g → g.records ≡ 0 → Yields now u (some i) g
     yields_nothing {g} y r =
-        split (stands_before ds p d)
+        split (before)
         (λ f.
         let z : length (placed_of (records_at now t (some i))) ≡ 0 = none_placed (records_at now t (some i)) (sym y.records ∙ r) in
         yields_again g r (y.placed ∙ z) (y.held ∙ held_none now t (some i) z) f)

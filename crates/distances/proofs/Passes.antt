@@ -9,15 +9,16 @@ use native.Mathlib.Numerals.{add-one}
 use native.Mathlib.Omega.{arith}
 use lib.Dec.{eqb, leb}
 use lib.ListN.{length, get_or, take, drop, length-append, take-append-drop}
-use lib.Seq.{drop-cons, drop-length, take-suc}
+use lib.Seq.{drop-cons, drop-length, take-suc, take-length}
 use borrow.Author.Tests.{eqb-true, leb-false}
 use Rattle.model.specs.Base.{joined}
 use Rattle.model.specs.Bytes.{Bytes}
 use Rattle.model.specs.Node.{EndedPending}
 use Rattle.model.specs.Table.{Table, max_records}
 use Rattle.model.specs.Listing.{apply_all, applied_pass, index_at, indices, buckets_at}
+use Rattle.model.specs.Sizes.{storage_size}
 use Rattle.model.specs.Layout.{table_of}
-use Rattle.model.specs.Formed.{bucket_formed_at, buckets_formed}
+use Rattle.model.specs.Formed.{header_formed, bucket_formed_at, buckets_formed}
 use Rattle.laws.proofs.Tests.{split, and_left, and_right, and_none}
 use Rattle.laws.proofs.Lists.{joined_append, every_append}
 use Rattle.laws.proofs.Touched.{distance_of, distances_below}
@@ -26,8 +27,9 @@ use Rattle.on_key.specs.Answers.{Ready, Timely}
 use Rattle.visit.specs.declared.Given.{Given}
 use Rattle.visit.specs.Passes.{visit_one, applied_in}
 use Rattle.visit.proofs.Applying.{Appliable, Applying, applying_starts, applying_size, applying_bytes, applying_header, applying_timely, applying_rest, applying_room, applying_next, applying_ends, applying_nothing}
-use Rattle.distances.specs.Passes.{records_at, yields, held_at, Yields, next_table, table_at, distance_pass, passed, Taken, Told, Holds}
-use Rattle.distances.proofs.Named.{held_none, table_none, table_next}
+use Rattle.distances.specs.declared.pass.Tally.{Tally}
+use Rattle.distances.specs.Passes.{records_at, yields, held_at, Yields, next_table, table_after, distance_pass, passed, Taken, Told}
+use Rattle.distances.proofs.Named.{held_none, table_next}
 
 -- one distance further
 
@@ -98,8 +100,8 @@ pub record Counting (now n : ℕ) (ds s : List ℕ) (records seen p : ℕ) : Typ
   pub within : p ≤ length ds
   pub few : records ≤ p
   pub low : seen ≤ 4096
-  pub total : records + length (distance_pass now n seen (drop p ds) (table_at now ds p (table_of s))).1 ≡ length (distance_pass now n 0 ds (table_of s)).1
-  pub all : passed now n ds (table_of s) ≡ buckets_at (take p ds) ++ applied_pass now n seen (buckets_at (drop p ds)) (table_at now ds p (table_of s))
+  pub total : records + length (distance_pass now n seen (drop p ds) (table_after now (take p ds) (table_of s))).1 ≡ length (distance_pass now n 0 ds (table_of s)).1
+  pub all : passed now n ds (table_of s) ≡ buckets_at (take p ds) ++ applied_pass now n seen (buckets_at (drop p ds)) (table_after now (take p ds) (table_of s))
   pub asked : buckets_formed s (buckets_at (take p ds)) ≡ true
 
 module _ (now n : ℕ) (ds s : List ℕ) where
@@ -107,35 +109,26 @@ module _ (now n : ℕ) (ds s : List ℕ) where
   t = table_of s
 
   pub counting_starts : Counting now n ds s 0 0 0
-  unfolding joined
-  counting_starts =
-      record {
-        within = omega arith;
-        few = omega arith;
-        low = omega arith;
-        total = let e = ap (λ (x : Table). length (distance_pass now n 0 ds x).1) (table_none now ds t) in omega arith;
-        all = ap (λ (x : Table). applied_pass now n 0 (buckets_at ds) x) (sym (table_none now ds t));
-        asked = refl;
-      }
+  unfolding joined table_after
+  counting_starts = record { within = omega arith; few = omega arith; low = omega arith; total = omega arith; all = refl; asked = refl }
 
   -- the pass is at its end
-  told : {taken records : ℕ} → Taken now n ds t taken records → buckets_formed s (buckets_at (take taken ds)) ≡ true
-      → Told now n ds s (record { records = records; taken = taken })
-  told k f = record { formed = sym (ap (buckets_formed s) k.buckets) ∙ f; pass = k }
+  told : {taken : List ℕ} {y : Tally} → y.taken.now ≡ taken → Taken now n ds t taken y.records → buckets_formed s (buckets_at taken) ≡ true → Told now n ds s y
+  told {taken} {y} e k f = record { formed = sym (ap (buckets_formed s) k.buckets) ∙ f; pass = subst (λ (l : List ℕ). Taken now n ds t l y.records) (sym e) k }
 
   module _ {records seen p : ℕ} (w : Counting now n ds s records seen p) where
-    pub counting_ends : p ≡ length ds → Told now n ds s (record { records = records; taken = p })
+    pub counting_ends : p ≡ length ds → {y : Tally} → y.records ≡ records → y.taken.now ≡ ds → Told now n ds s y
     unfolding distance_pass joined
-    counting_ends e =
+    counting_ends e q l =
         let f : drop p ds ≡ [] = ap (λ (k : ℕ). drop k ds) e ∙ drop-length ds in
-        let g : length (distance_pass now n seen (drop p ds) (table_at now ds p t)).1 ≡ 0 = ap (λ (l : List ℕ). length (distance_pass now n seen l (table_at now ds p t)).1) f in
-        told
+        let g : length (distance_pass now n seen (drop p ds) (table_after now (take p ds) t)).1 ≡ 0 =
+        ap (λ (l : List ℕ). length (distance_pass now n seen l (table_after now (take p ds) t)).1) f in
+        told (l ∙ sym (ap (λ (k : ℕ). take k ds) e ∙ take-length ds))
         (record {
-          within = w.within;
           buckets =
               sym (append-nil (buckets_at (take p ds)))
-              ∙ ap (λ (l : List ℕ). buckets_at (take p ds) ++ applied_pass now n seen (buckets_at l) (table_at now ds p t)) (sym f) ∙ sym w.all;
-          given = omega (arith, w.total);
+              ∙ ap (λ (l : List ℕ). buckets_at (take p ds) ++ applied_pass now n seen (buckets_at l) (table_after now (take p ds) t)) (sym f) ∙ sym w.all;
+          given = omega (arith, w.total, q);
         })
         w.asked
 
@@ -147,7 +140,7 @@ module _ (now n : ℕ) (ds s : List ℕ) where
       o = index_at d
 
       abbrev u : Table
-      u = table_at now ds p t
+      u = table_after now (take p ds) t
 
       -- the buckets behind, with this one
       abbrev behind : List ℕ
@@ -176,16 +169,15 @@ module _ (now n : ℕ) (ds s : List ℕ) where
         there : length (distance_pass now n seen (drop p ds) u).1 ≡ length (distance_pass now n seen (d ∷ drop (suc p) ds) u).1
         there = ap (λ (l : List ℕ). length (distance_pass now n seen l u).1) (drop-cons ds p 0 h)
 
-        pub counting_stops : (not (eqb g.placed 0) && leb n (seen + g.count)) ≡ true → Told now n ds s (record { records = records + g.records; taken = p + 1 })
-        counting_stops e =
+        pub counting_stops : (not (eqb g.placed 0) && leb n (seen + g.count)) ≡ true → {r : Tally} → r.records ≡ records + g.records → r.taken.now ≡ take (p + 1) ds → Told now n ds s r
+        counting_stops e k l =
             let z = test_is now n seen u o true y e in
             let q = ap (λ (x : Table × List EndedPending). length x.1) (pass_stops now n seen d (drop (suc p) ds) u z) in
             let v = ap length (append-nil (records_at now u o)) in
-            told
+            told l
             (record {
-              within = omega arith;
               buckets = sym (all_then ∙ ap (λ (b : Bool). buckets_at (take (p + 1) ds) ++ cond b [] (applied_pass now n (seen + held_at now u o) (buckets_at (drop (suc p) ds)) (next_table now u o))) z ∙ append-nil (buckets_at (take (p + 1) ds)));
-              given = omega (arith, w.total, there, y.records);
+              given = omega (arith, w.total, there, y.records, k);
             })
             asked_then
 
@@ -199,7 +191,7 @@ module _ (now n : ℕ) (ds s : List ℕ) where
               few = omega (arith, w.few, y.one);
               low = low_next now n seen u o y m w.low e;
               total =
-                  let r : length (distance_pass now n (seen + g.count) (drop (p + 1) ds) (table_at now ds (p + 1) t)).1
+                  let r : length (distance_pass now n (seen + g.count) (drop (p + 1) ds) (table_after now (take (p + 1) ds) t)).1
                   ≡ length (distance_pass now n (seen + held_at now u o) (drop (suc p) ds) (next_table now u o)).1 =
                   rw (table_next now ds t p h, add-one, y.held) in
                   omega (arith, w.total, there, y.records);
@@ -208,10 +200,15 @@ module _ (now n : ℕ) (ds s : List ℕ) where
                   ∙ ap (λ (b : Bool). buckets_at (take (p + 1) ds) ++ cond b [] (applied_pass now n (seen + held_at now u o) (buckets_at (drop (suc p) ds)) (next_table now u o))) z
                   ∙ ap (λ (is : List ℕ). buckets_at (take (p + 1) ds) ++ is)
                   (let r : applied_pass now n (seen + held_at now u o) (buckets_at (drop (suc p) ds)) (next_table now u o)
-                  ≡ applied_pass now n (seen + g.count) (buckets_at (drop (p + 1) ds)) (table_at now ds (p + 1) t) =
+                  ≡ applied_pass now n (seen + g.count) (buckets_at (drop (p + 1) ds)) (table_after now (take (p + 1) ds) t) =
                   rw (table_next now ds t p h, add-one, y.held) in r);
               asked = asked_then;
             }
+
+-- storage whose settings and queue pass question 2
+pub record Holds (s : List ℕ) : Type 0 where
+  pub size : length s ≡ storage_size
+  pub header : header_formed s ≡ true
 
 -- one bucket of the applying pass
 
@@ -289,11 +286,10 @@ module _ (s₀ : List ℕ) (now : ℕ) (is : List ℕ) (a : Appliable s₀ now i
       subst (λ (x : List ℕ). Applying s₀ now is x rest) f w
   next_applying (some i) w s' e = applying_next s₀ now is a s i rest w s' e
 
-pub pass_appliable : (s₀ : List ℕ) (now : ℕ) (ds : List ℕ) (taken : ℕ) → Bytes s₀ → Holds s₀ → Timely s₀ now → buckets_formed s₀ (buckets_at (take taken ds)) ≡ true
-    → length (table_at now ds taken (table_of s₀)).queue ≤ max_records → Appliable s₀ now (buckets_at (take taken ds))
-unfolding table_at
-pass_appliable s₀ now ds taken h f c b q =
-    record { bytes = h; size = f.size; header = f.header; timely = c; below = distances_below (take taken ds); formed = b; room = q }
+pub pass_appliable : (s₀ : List ℕ) (now : ℕ) (ds : List ℕ) → Bytes s₀ → Holds s₀ → Timely s₀ now → buckets_formed s₀ (buckets_at ds) ≡ true
+    → length (table_after now ds (table_of s₀)).queue ≤ max_records → Appliable s₀ now (buckets_at ds)
+unfolding table_after
+pass_appliable s₀ now ds h f c b q = record { bytes = h; size = f.size; header = f.header; timely = c; below = distances_below ds; formed = b; room = q }
 
 -- the storage while the distances are visited
 pub record Passing (s₀ : List ℕ) (now : ℕ) (ds s : List ℕ) (p : ℕ) : Type 0 where

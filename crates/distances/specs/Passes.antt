@@ -1,22 +1,17 @@
 -- The passes of nodes_by_distances (01, "kbucket.rs (871)"), distance by distance.
-use Rattle.std.specs.Prelude.{ℕ, ◌≤◌, ◌≡◌, Bool, cond, not, List, [], length, get_or, take, eqb, MatchOption}
-use Rattle.std.specs.Prelude as code
+use Rattle.std.specs.Prelude.{ℕ, ◌≤◌, ◌≡◌, Bool, true, false, cond, not, List, [], length, take, eqb, Result, Ok, Err}
 use Rattle.std.proofs.Math.Option.{Option, none, some}
-use Rattle.model.specs.Base.{joined, all_below}
+use Rattle.model.specs.Base.{joined}
 use Rattle.model.specs.Node.{Node, EndedPending, placed_of}
 use Rattle.model.specs.Bucket.{max_nodes_per_bucket, nodes, num_entries, apply_pending}
 use Rattle.model.specs.Table.{Table}
-use Rattle.model.specs.Sizes.{storage_size}
 use Rattle.model.specs.Layout.{table_of}
-use Rattle.model.specs.Formed.{header_formed, buckets_formed}
+use Rattle.model.specs.Formed.{buckets_formed}
 use Rattle.model.specs.Listing.{apply_all, applied, applied_pass, buckets_at}
+use Rattle.node.specs.declared.Refusal.{Refusal}
 use Rattle.visit.specs.declared.Given.{Given}
 use Rattle.visit.specs.Passes.{visit_one}
 use Rattle.distances.specs.declared.pass.Tally.{Tally}
-
--- the distance d stands among the first p
-unfoldable pub stands_before : List ℕ → ℕ → ℕ → Bool
-stands_before ds p d = not (all_below p (λ j. not (eqb (get_or ds j 0) d)))
 
 -- the records that the bucket gives, and what it holds if it gives that of a placed pending
 abbrev pub records_at : ℕ → Table → Option ℕ → List EndedPending
@@ -42,9 +37,9 @@ abbrev pub next_table : ℕ → Table → Option ℕ → Table
 next_table now t none = t
 next_table now t (some i) = visit_one now i t
 
--- the table once the first p distances have been visited
-unfoldable pub table_at : ℕ → List ℕ → ℕ → Table → Table
-table_at now ds p t = (apply_all now (buckets_at (take p ds)) t).0
+-- the table once the buckets at the distances have been visited
+unfoldable pub table_after : ℕ → List ℕ → Table → Table
+table_after now ds t = (apply_all now (buckets_at ds) t).0
 
 -- the applying pass: the table that it leaves, and its records. seen: what the buckets that yielded the record of a placed pending hold so
 -- far.
@@ -55,24 +50,19 @@ distance_pass now n seen ds t = apply_all now (applied_pass now n seen (buckets_
 abbrev pub passed : ℕ → ℕ → List ℕ → Table → List ℕ
 passed now n ds t = applied_pass now n 0 (buckets_at ds) t
 
--- the pass takes the first distances, and gives so many records
-pub record Taken (now n : ℕ) (ds : List ℕ) (t : Table) (taken records : ℕ) : Type 0 where
-  pub within : taken ≤ length ds
-  pub buckets : buckets_at (take taken ds) ≡ passed now n ds t
+-- the pass takes these distances, and gives so many records
+pub record Taken (now n : ℕ) (ds : List ℕ) (t : Table) (taken : List ℕ) (records : ℕ) : Type 0 where
+  pub buckets : buckets_at taken ≡ passed now n ds t
   pub given : records ≡ length (distance_pass now n 0 ds t).1
 
 -- 02, slip 7: question 2 of the buckets of the pass, and where it passes how far the pass goes
 pub record Told (now n : ℕ) (ds s : List ℕ) (y : Tally) : Type 0 where
-  pub formed : buckets_formed s (passed now n ds (table_of s)) ≡ Bool.true
-  pub pass : Taken now n ds (table_of s) y.taken y.records
+  pub formed : buckets_formed s (passed now n ds (table_of s)) ≡ true
+  pub pass : Taken now n ds (table_of s) y.taken.now y.records
 
-abbrev pub Surveyed : ℕ → ℕ → List ℕ → List ℕ → code.Option Tally → Type 0
-Surveyed now n ds s r = MatchOption r (buckets_formed s (passed now n ds (table_of s)) ≡ Bool.false) (Told now n ds s)
-
--- storage whose settings and queue pass question 2
-pub record Holds (s : List ℕ) : Type 0 where
-  pub size : length s ≡ storage_size
-  pub header : header_formed s ≡ Bool.true
+abbrev pub Surveyed : ℕ → ℕ → List ℕ → List ℕ → Result Tally Refusal → Type 0
+Surveyed now n ds s (Ok y) = Told now n ds s y
+Surveyed now n ds s (Err r) = (buckets_formed s (passed now n ds (table_of s)) ≡ false) × (r ≡ Refusal.Form)
 
 -- the first n nodes of the buckets named
 unfoldable pub listed_nodes : Table → ℕ → List ℕ → List Node

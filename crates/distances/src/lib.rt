@@ -21,8 +21,8 @@ fn at_least_one(n: usize) -> usize
     n.max(1)
 }
 
-// Questions 1, 2 (the settings and the queue), 5 and 6. room: the bytes of output.
-fn asked_early(s: &[u8], n: usize, time: u64, room: usize) -> Result<(), Refusal>
+// Questions 2 (the settings and the queue), 5 and 6; 1 passes by the type. room: the bytes of output.
+fn asked_early(s: &[u8; Layout::STORAGE], n: usize, time: u64, room: usize) -> Result<(), Refusal>
     ensures { failed_of result ≡ failed_early time n room s.now }
 {
     on_key::asked_time(s, time)?;
@@ -41,10 +41,10 @@ pub fn nodes_by_distances(
 ) -> Result<usize, Refusal>
     ensures { Lists (list_answer result) s.new out.new (step_bytes (Call.list (Listing.nodes_by_distances distances.now) n time out.old) s.old) }
 {
+    let s = s.as_mut_array().ok_or(Refusal::Size)?;
     asked_early(s, n, time, out.len())?;
-    let tally = pass::survey(s, distances, n, time).ok_or(Refusal::Form)?;
-    items::asked_queue(s, tally.records)?;
-    pass::apply_pass(s, distances, tally.taken, time, tally.records);
-    let most = at_least_one(n);
-    Ok(pass::put_all(s, distances, tally.taken, out, most))
+    let tally = pass::survey(s, distances, n, time)?;
+    on_key::asked_queue(s, tally.records)?;
+    pass::apply_pass(s, tally, time);
+    Ok(pass::put_all(s, tally.taken, out, at_least_one(n)))
 }

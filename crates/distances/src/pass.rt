@@ -1,6 +1,6 @@
 // Internal: the passes of nodes_by_distances (kbucket.rs). A survey asks question 2 of the buckets of the applying pass and counts the
 // records that it would give, for question 8; the applying pass applies the due pendings in the storage; then the nodes are written.
-ghost use Rattle.std.specs.Prelude.{◌≡◌, true, [], ◌∷◌, ◌+◌, ◌-◌, ◌*◌, ◌≤◌, ◌<◌, length, get_or, take};
+ghost use Rattle.std.specs.Prelude.{◌≡◌, true, [], ◌∷◌, ◌+◌, ◌-◌, ◌*◌, ◌≤◌, ◌<◌, length};
 ghost use Rattle.std.proofs.Math.Option.{some};
 ghost use Rattle.model.specs.Base.{joined};
 ghost use Rattle.model.specs.Bytes.{splice};
@@ -9,24 +9,26 @@ ghost use Rattle.model.specs.Listing.{index_at, indices, buckets_at, apply_all};
 ghost use Rattle.model.specs.Question.{max_count};
 ghost use Rattle.model.specs.Sizes.{node_size};
 ghost use Rattle.model.specs.Layout.{node_bytes, table_of};
-ghost use Rattle.model.specs.Formed.{buckets_formed};
+ghost use Rattle.model.specs.Formed.{header_formed, buckets_formed};
 ghost use Rattle.key.specs.Answers.{option_of};
 ghost use Rattle.on_key.specs.Answers.{Ready, Timely};
 ghost use Rattle.visit.specs.Passes.{applied_in};
-ghost use Rattle.distances.specs.Passes.{stands_before, Yields, next_table, table_at, Surveyed, Holds, listed_nodes};
+ghost use Rattle.distances.specs.Passes.{Yields, next_table, table_after, Surveyed, listed_nodes};
 
 use items::Shape;
+use node::Refusal;
+use storage::Layout;
 use visit::Given;
 
 // The largest log2 distance, that of the last bucket.
 const MAX_DISTANCE: u64 = 256;
 
-// What the survey tells where every bucket of the applying pass passes question 2: how many records they give and how many distances the
-// pass takes. It is no visit::Tally, whose count is of nodes.
+// What the survey tells where every bucket of the applying pass passes question 2: how many records they give, and the distances that the
+// pass takes, the first of those given.
 #[derive(Clone, Copy)]
-pub struct Tally {
+pub struct Tally<'a> {
     pub records: usize,
-    pub taken: usize,
+    pub taken: &'a [u64],
 }
 
 // The index of the bucket at a distance from 1 to 256; none at any other.
@@ -39,16 +41,8 @@ fn index_at(d: u64) -> Option<usize>
     }
 }
 
-// The distance d stands before place p of the list.
-fn stands_before(distances: &[u64], p: usize, d: u64) -> bool
-    requires { p ≤ length distances.now }
-    ensures { result ≡ stands_before distances.now p d }
-{
-    distances[..p].contains(&d)
-}
-
 // What bucket i gives; the nodes that it holds are counted only where it gives the record of a placed pending.
-fn given_in(s: &[u8], i: usize, time: u64) -> Given
+fn given_in(s: &[u8; Layout::STORAGE], i: usize, time: u64) -> Given
     requires ready { Ready s.now i }
     requires timely { Timely s.now time }
     ensures { Yields time (table_of s.now) (some i) result }
@@ -63,15 +57,13 @@ fn given_in(s: &[u8], i: usize, time: u64) -> Given
     g
 }
 
-// What the bucket at place p of the list gives, those before it being visited. A bucket named before has given its record already.
-fn given_at(s: &[u8], distances: &[u64], p: usize, time: u64) -> Given
-    requires holds { Holds s.now }
+// What the bucket at distance d gives, those at the distances before it being visited. A bucket named before has given its record already.
+fn given_at(s: &[u8; Layout::STORAGE], before: &[u64], d: u64, time: u64) -> Given
+    requires header { header_formed s.now ≡ true }
     requires timely { Timely s.now time }
-    requires p_in_bounds { p < length distances.now }
-    requires p_value { buckets_formed s.now (indices (index_at (get_or distances.now p 0))) ≡ true }
-    ensures { Yields time (table_at time distances.now p (table_of s.now)) (index_at (get_or distances.now p 0)) result }
+    requires d_value { buckets_formed s.now (indices (index_at d)) ≡ true }
+    ensures { Yields time (table_after time before.now (table_of s.now)) (index_at d) result }
 {
-    let d = distances[p];
     let Some(i) = index_at(d) else {
         return Given::default();
     };
@@ -79,15 +71,15 @@ fn given_at(s: &[u8], distances: &[u64], p: usize, time: u64) -> Given
     if g.records == 0 {
         return g;
     }
-    if stands_before(distances, p, d) {
+    if before.contains(&d) {
         return Given::default();
     }
     g
 }
 
 // Question 2 of the bucket at distance d; it passes where there is none.
-fn is_formed(s: &[u8], d: u64) -> bool
-    requires { Holds s.now }
+fn is_formed(s: &[u8; Layout::STORAGE], d: u64) -> bool
+    requires { header_formed s.now ≡ true }
     ensures { result ≡ buckets_formed s.now (indices (index_at d)) }
 {
     match index_at(d) {
@@ -98,8 +90,13 @@ fn is_formed(s: &[u8], d: u64) -> bool
 
 // Internal: question 2 of each bucket that the applying pass comes to, the records that they would give, and how far the pass goes. Nothing
 // of a bucket is read before it is asked, and nothing is written.
-pub fn survey(s: &[u8], distances: &[u64], n: usize, time: u64) -> Option<Tally>
-    requires holds { Holds s.now }
+pub fn survey<'a>(
+    s: &[u8; Layout::STORAGE],
+    distances: &'a [u64],
+    n: usize,
+    time: u64,
+) -> Result<Tally<'a>, Refusal>
+    requires header { header_formed s.now ≡ true }
     requires timely { Timely s.now time }
     requires n_le_max_count { n ≤ max_count }
     ensures { Surveyed time n distances.now s.now result }
@@ -108,27 +105,27 @@ pub fn survey(s: &[u8], distances: &[u64], n: usize, time: u64) -> Option<Tally>
     let mut seen = 0;
     for p in 0..distances.len() {
         if !is_formed(s, distances[p]) {
-            return None;
+            return Err(Refusal::Form);
         }
-        let g = given_at(s, distances, p, time);
+        let g = given_at(s, &distances[..p], distances[p], time);
         records += g.records;
         seen += g.count;
         if (g.placed != 0) & (n <= seen) {
-            return Some(Tally {
+            return Ok(Tally {
                 records,
-                taken: p + 1,
+                taken: &distances[..p + 1],
             });
         }
     }
-    Some(Tally {
+    Ok(Tally {
         records,
-        taken: distances.len(),
+        taken: distances,
     })
 }
 
 // Applies the due pending of the bucket at distance d in the storage.
-fn apply_one(s: &mut [u8], d: u64, time: u64)
-    requires holds { Holds s.old }
+fn apply_one(s: &mut [u8; Layout::STORAGE], d: u64, time: u64)
+    requires header { header_formed s.old ≡ true }
     requires timely { Timely s.old time }
     requires d_value { buckets_formed s.old (indices (index_at d)) ≡ true }
     requires d_len_bound { length (next_table time (table_of s.old) (index_at d)).queue ≤ max_records }
@@ -139,28 +136,26 @@ fn apply_one(s: &mut [u8], d: u64, time: u64)
     }
 }
 
-// Internal: the applying pass over the storage, which takes the first distances. records: what the survey counted; where there is none,
-// none is due.
-pub fn apply_pass(s: &mut [u8], distances: &[u64], taken: usize, time: u64, records: usize)
-    requires holds { Holds s.old }
+// Internal: the applying pass over the storage. Where the survey counted no record, none is due.
+pub fn apply_pass(s: &mut [u8; Layout::STORAGE], tally: Tally, time: u64)
+    requires header { header_formed s.old ≡ true }
     requires timely { Timely s.old time }
-    requires taken_in_bounds { taken ≤ length distances.now }
-    requires distances_value { buckets_formed s.old (buckets_at (take taken distances.now)) ≡ true }
-    requires s_len_bound { length (table_at time distances.now taken (table_of s.old)).queue ≤ max_records }
-    requires records_value { records ≡ length (apply_all time (buckets_at (take taken distances.now)) (table_of s.old)).1 }
-    ensures { s.new ≡ applied_in s.old time (buckets_at (take taken distances.now)) }
+    requires taken_value { buckets_formed s.old (buckets_at tally.taken.now) ≡ true }
+    requires s_len_bound { length (table_after time tally.taken.now (table_of s.old)).queue ≤ max_records }
+    requires records_value { tally.records ≡ length (apply_all time (buckets_at tally.taken.now) (table_of s.old)).1 }
+    ensures { s.new ≡ applied_in s.old time (buckets_at tally.entry.taken.now) }
 {
-    if records == 0 {
+    if tally.records == 0 {
         return;
     }
-    for d in &distances[..taken] {
+    for d in tally.taken {
         apply_one(s, *d, time);
     }
 }
 
 // Writes the nodes of the bucket at distance d behind the k that are there, up to n; answers how many are there then.
-fn put_one(s: &[u8], d: u64, out: &mut [u8], k: usize, n: usize) -> usize
-    requires holds { Holds s.now }
+fn put_one(s: &[u8; Layout::STORAGE], d: u64, out: &mut [u8], k: usize, n: usize) -> usize
+    requires header { header_formed s.now ≡ true }
     requires d_value { buckets_formed s.now (indices (index_at d)) ≡ true }
     requires k_le_n { k ≤ n }
     requires n_le_max_count { n ≤ max_count }
@@ -174,18 +169,17 @@ fn put_one(s: &[u8], d: u64, out: &mut [u8], k: usize, n: usize) -> usize
     }
 }
 
-// Internal: writes the first n nodes of the buckets that the applying pass took; answers how many there are.
-pub fn put_all(s: &[u8], distances: &[u64], taken: usize, out: &mut [u8], n: usize) -> usize
-    requires holds { Holds s.now }
-    requires taken_in_bounds { taken ≤ length distances.now }
-    requires distances_value { buckets_formed s.now (buckets_at (take taken distances.now)) ≡ true }
+// Internal: writes the first n nodes of the buckets at the distances; answers how many there are.
+pub fn put_all(s: &[u8; Layout::STORAGE], distances: &[u64], out: &mut [u8], n: usize) -> usize
+    requires header { header_formed s.now ≡ true }
+    requires distances_value { buckets_formed s.now (buckets_at distances.now) ≡ true }
     requires n_le_max_count { n ≤ max_count }
     requires node_size_in_bounds { n * node_size ≤ length out.old }
-    ensures value { result ≡ length (listed_nodes (table_of s.now) n (take taken distances.now)) }
-    ensures out_after { out.new ≡ splice out.old 0 (joined node_bytes (listed_nodes (table_of s.now) n (take taken distances.now))) }
+    ensures value { result ≡ length (listed_nodes (table_of s.now) n distances.now) }
+    ensures out_after { out.new ≡ splice out.old 0 (joined node_bytes (listed_nodes (table_of s.now) n distances.now)) }
 {
     let mut k = 0;
-    for d in &distances[..taken] {
+    for d in distances {
         k = put_one(s, *d, out, k, n);
     }
     k

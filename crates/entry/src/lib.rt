@@ -1,28 +1,27 @@
 // The entry of a key (entry.rs): its kind and status, and the actions on it, which name the key again and apply no pending.
 #![tactic(auto)]
 
-ghost use Rattle.std.specs.Prelude.{◌≡◌, true, ◌+◌, ◌≤◌, length};
-ghost use Rattle.model.specs.Bytes.{part};
+ghost use Rattle.std.specs.Prelude.{◌≡◌, true};
 ghost use Rattle.model.specs.Table.{kind_of};
 ghost use Rattle.model.specs.Call.{Call, KeyCall};
-ghost use Rattle.model.specs.Sizes.{bucket_size};
+ghost use Rattle.model.specs.Layout.{bucket_in};
 ghost use Rattle.model.specs.StepBytes.{step_bytes};
 ghost use Rattle.key.specs.Key.{num};
 ghost use Rattle.node.specs.Node.{argument_of};
 ghost use Rattle.bucket.specs.Bucket.{bucket_of, Sound};
-ghost use Rattle.held.specs.Held.{Quiet, bucket_here};
+ghost use Rattle.held.specs.Held.{Quiet};
 ghost use Rattle.on_key.specs.Answers.{Answers, update_answer};
-ghost use Rattle.session.specs.Hours.{session_of};
+ghost use Rattle.session.specs.Hours.{hours_of};
 ghost use Rattle.entry.specs.Kind as kind;
 
-use bucket::{InsertResult, KBucket, UpdateResult};
+use bucket::{InsertResult, KBucket, Step, UpdateResult};
 use key::Key;
 use node::{Code, Node, NodeStatus, Refusal, Value};
-use session::Moment;
+use session::Hours;
 use storage::Layout;
 
 // The kind of a key's entry, with its status.
-#[derive(Clone, Copy)]
+#[derive(Clone, Copy, PartialEq, Eq)]
 pub enum EntryKind {
     Present(NodeStatus),
     Pending(NodeStatus),
@@ -36,7 +35,7 @@ pub fn kind_of(b: KBucket, key: Key) -> EntryKind
     ensures result_value { kind.kind_of result ≡ kind_of (num key) (bucket_of b) }
     ensures result_value_2 { kind.kind_codes result ≡ true }
 {
-    let pos = places::position(b.nodes, 0, b.count, key);
+    let pos = places::position(&b.nodes[..b.count], key);
     if pos < b.count {
         return EntryKind::Present(b.nodes[pos].status);
     }
@@ -46,16 +45,15 @@ pub fn kind_of(b: KBucket, key: Key) -> EntryKind
     }
 }
 
-// Internal: the same in the storage, of a bucket without a pending.
-pub fn kind_here(s: &[u8], at: usize, key: Key) -> EntryKind
-    requires { (at + bucket_size ≤ length s.now) × Quiet (part s.now at bucket_size) }
-    ensures result_value { kind.kind_of result ≡ kind_of (num key) (bucket_here s.now at) }
+// Internal: the same of the bytes of a bucket without a pending.
+pub fn kind_here(bucket: &[u8; Layout::BUCKET], key: Key) -> EntryKind
+    requires { Quiet bucket.now }
+    ensures result_value { kind.kind_of result ≡ kind_of (num key) (bucket_in bucket.now) }
     ensures result_value_2 { kind.kind_codes result ≡ true }
 {
-    let count = usize::from(s[at]);
-    let pos = held::position(s, at, count, key);
-    if pos < count {
-        let node = storage::load_node(s, at + (Layout::PLACES_AT + pos * Layout::NODE));
+    let pos = held::position(bucket, key);
+    if pos < usize::from(bucket[0]) {
+        let node = storage::load_node(storage::place(bucket, pos));
         return EntryKind::Present(node.status);
     }
     EntryKind::Absent
@@ -67,12 +65,13 @@ pub fn entry(s: &mut [u8], key: &[u8], time: u64) -> Result<EntryKind, Refusal>
     ensures answers { Answers (kind.entry_answer result) s.new (step_bytes (Call.on_key key.now (KeyCall.entry time)) s.old) }
     ensures result_value { kind.entry_codes result ≡ true }
 {
+    let s = s.as_mut_array().ok_or(Refusal::Size)?;
     let Some((k, i)) = on_key::begin(s, key, true, Some(time))? else {
         return Ok(EntryKind::SelfEntry);
     };
-    let at = Layout::HEADER + i * Layout::BUCKET;
-    if held::is_quiet(s, at) {
-        return Ok(kind_here(s, at, k));
+    let bucket = storage::bucket(s, i);
+    if held::is_quiet(bucket) {
+        return Ok(kind_here(bucket, k));
     }
     let applied = on_key::apply_at(s, i, time);
     let found = kind_of(applied.bucket, k);
@@ -89,42 +88,49 @@ pub fn present_update(
 ) -> Result<UpdateResult, Refusal>
     ensures { Answers (update_answer result) s.new (step_bytes (Call.on_key key.now (KeyCall.present_update state direction)) s.old) }
 {
+    let s = s.as_mut_array().ok_or(Refusal::Size)?;
     let codes = (state <= 1) & (direction <= 2);
     let (k, i) = on_key::begin(s, key, codes, None)?.ok_or(Refusal::Kind)?;
     let at = Layout::HEADER + i * Layout::BUCKET;
-    if held::is_quiet(s, at) {
-        let count = usize::from(s[at]);
-        if count <= held::position(s, at, count, k) {
+    let bucket = &s[at..at + Layout::BUCKET];
+    if held::is_quiet(bucket) {
+        let pos = held::position(bucket, k);
+        if usize::from(bucket[0]) <= pos {
             return Err(Refusal::Kind);
         }
-        return Ok(held::update_status(s, at, k, state, direction));
+        let settings = header::settings(s);
+        let bucket = &mut s[at..at + Layout::BUCKET];
+        return Ok(held::update_status_at(bucket, settings, pos, state, direction));
     }
-    let b = buckets::load_bucket(s, i);
-    let EntryKind::Present(_) = kind_of(b, k) else {
+    let stored = Step {
+        bucket: buckets::load_bucket(s, i),
+        result: None,
+    };
+    let EntryKind::Present(_) = kind_of(stored.bucket, k) else {
         return Err(Refusal::Kind);
     };
-    let step = b.update_status_sound(k, state, direction);
-    let record = on_key::record_of(None, b.pending, step.bucket.pending, k);
-    on_key::finish(s, i, record, step.bucket)?;
+    let step = stored.bucket.update_status_sound(k, state, direction);
+    on_key::end(s, i, &stored, step.bucket, k)?;
     Ok(step.result)
 }
 
 // Pending: sets the status of the pending.
-pub fn pending_update(
-    s: &mut [u8],
-    key: &[u8],
-    state: Code,
-    direction: Code,
-) -> Result<UpdateResult, Refusal>
-    ensures { Answers (update_answer result) s.new (step_bytes (Call.on_key key.now (KeyCall.pending_update state direction)) s.old) }
+pub fn pending_update(s: &mut [u8], key: &[u8], status: NodeStatus) -> Result<UpdateResult, Refusal>
+    ensures { Answers (update_answer result) s.new (step_bytes (Call.on_key key.now (KeyCall.pending_update status.state status.direction)) s.old) }
 {
-    let codes = (state <= 1) & (direction <= 1);
+    let s = s.as_mut_array().ok_or(Refusal::Size)?;
+    let codes = (status.state <= 1) & (status.direction <= 1);
     let (k, i) = on_key::begin(s, key, codes, None)?.ok_or(Refusal::Kind)?;
     let b = buckets::load_bucket(s, i);
     let EntryKind::Pending(_) = kind_of(b, k) else {
         return Err(Refusal::Kind);
     };
-    on_key::finish(s, i, None, b.update_pending_sound(state, direction))?;
+    on_key::finish(
+        s,
+        i,
+        None,
+        b.update_pending_sound(status.state, status.direction),
+    )?;
     Ok(UpdateResult::UpdatedPending)
 }
 
@@ -133,41 +139,37 @@ pub fn absent_insert(
     s: &mut [u8],
     key: &[u8],
     value: Value,
-    state: Code,
-    direction: Code,
+    status: NodeStatus,
     time: u64,
-    windows: &[u16],
-    closed: &[u16],
-    moment: Moment,
+    hours: Hours,
 ) -> Result<InsertResult, Refusal>
-    ensures { Answers (kind.insert_answer result) s.new (step_bytes (Call.on_key key.now (KeyCall.absent_insert (argument_of value) state direction time (session_of windows.now closed.now moment))) s.old) }
+    ensures { Answers (kind.insert_answer result) s.new (step_bytes (Call.on_key key.now (KeyCall.absent_insert (argument_of value) status.state status.direction time (hours_of hours.entry))) s.old) }
 {
-    let codes = value.in_range() & ((state <= 1) & (direction <= 1));
+    let s = s.as_mut_array().ok_or(Refusal::Size)?;
+    let codes = value.in_range() & ((status.state <= 1) & (status.direction <= 1));
     let (k, i) = on_key::begin(s, key, codes, Some(time))?.ok_or(Refusal::Kind)?;
     let node = Node {
         key: k,
         value,
-        status: NodeStatus { state, direction },
+        status,
     };
     let at = Layout::HEADER + i * Layout::BUCKET;
-    if held::is_quiet(s, at) {
-        let count = usize::from(s[at]);
-        let known = held::position(s, at, count, k) < count;
-        if known {
+    let bucket = &s[at..at + Layout::BUCKET];
+    if held::is_quiet(bucket) {
+        if held::position(bucket, k) < usize::from(bucket[0]) {
             return Err(Refusal::Kind);
         }
-        session::asked(windows, closed, moment, known)?;
-        return Ok(held::insert_new(s, at, count, node, time));
+        session::asked(hours, false)?;
+        let settings = header::settings(s);
+        let bucket = &mut s[at..at + Layout::BUCKET];
+        return Ok(held::insert_new(bucket, settings, node, time));
     }
     let b = buckets::load_bucket(s, i);
-    let EntryKind::Absent = kind_of(b, k) else {
-        return Err(Refusal::Kind);
-    };
-    let step = b.insert_sound(node, time);
-    if !on_key::has_room(s, None) {
-        return Err(Refusal::Queue);
+    match kind_of(b, k) {
+        EntryKind::Absent => session::asked(hours, false)?,
+        _ => return Err(Refusal::Kind),
     }
-    session::asked(windows, closed, moment, false)?;
-    on_key::write_back(s, i, None, step.bucket);
+    let step = b.insert_sound(node, time);
+    on_key::finish(s, i, None, step.bucket)?;
     Ok(step.result)
 }

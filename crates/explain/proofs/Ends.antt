@@ -2,16 +2,17 @@
 use Rattle.std.specs.Prelude as code
 use Rattle.std.specs.Prelude.{Result, Ok, Err}
 use Rattle.std.specs.Result.{IsErrAnd}
+use Rattle.std.specs.Option.{ok_or}
 use Rattle.std.proofs.lemmas.Result.{err_from_is_err_and}
 use Prim.Native.Nat.{ℕ, ◌+◌, ◌≤◌}
 use native.Mathlib.Nat.{add-zero}
-use mathlib.Core.Path.{◌≡◌, sym, ap, ◌∙◌, subst}
+use mathlib.Core.Path.{◌≡◌, sym, ap, ◌∙◌}
 use mathlib.Core.Bool.{Bool, true, false, cond, ◌&&◌, and-true}
 use mathlib.Core.List.{List, [], ◌∷◌, ◌++◌}
 use mathlib.Core.Option.{Option, none, some}
 use lib.ListN.{length, length-append}
 use lib.Dec.{leb}
-use borrow.Author.Tests.{leb-true}
+use borrow.Author.Tests.{leb-true, ne_eqb}
 use Rattle.model.specs.Sizes.{storage_size}
 use Rattle.model.specs.Bytes.{number, splice}
 use Rattle.model.specs.Value.{Value}
@@ -36,10 +37,12 @@ use Rattle.bucket.specs.Bucket.{bucket_of, settings_of, Becomes}
 use Rattle.on_key.specs.Answers.{Replies, first_five, failed_of_five, room_for}
 use Rattle.on_key.specs.Start.{key_formed, Located}
 use Rattle.on_key.proofs.Questions.{stricter_fails, passed_five}
+use Rattle.on_key.proofs.Stored.{no_room}
+use Rattle.on_key.proofs.Ended.{size_told}
 use Rattle.on_key.proofs.OneKey.{ReadFormed, hours, read_own, reads_none}
 use Rattle.on_key.proofs.Steps.{begun_at}
-use Rattle.explanation.specs.declared.Why.{Why}
-use Rattle.explanation.specs.Explanation.{why_of}
+use Rattle.explanation.specs.declared.Reason as declared
+use Rattle.explanation.specs.Explanation.{reason_of}
 use Rattle.reasons.specs.Reasons.{Tells}
 use Rattle.explain.specs.Calls.{Explains, failed_at_opening, Opened, last_asked}
 
@@ -50,9 +53,9 @@ refused_exit r e h a = let p = err_from_is_err_and r h in rw (p.1, p.2) a
 -- the last questions, in turn
 
 module _ (room : Bool) (hrs : Option ℕ) (l out : List ℕ) where
-  pub refused_queue : room ≡ false → Explains (Err Refusal.Queue) out (last_asked room hrs l out)
+  pub refused_queue : (r : Refusal) → some (number_of r) ≡ cond room none (some 8) → Explains (Err r) out (last_asked room hrs l out)
   unfolding last_asked
-  refused_queue q = record { answer = rw q; output = rw q }
+  refused_queue r e = let q = no_room room e in record { answer = rw (q.0, q.1); output = rw q.0 }
 
   module _ (q : room ≡ true) where
     pub refused_hours : (r : Refusal) → hrs ≡ some (number_of r) → Explains (Err r) out (last_asked room hrs l out)
@@ -83,11 +86,6 @@ module _ (s key : List ℕ) (codes : Bool) (now : Option ℕ) (room : Bool) wher
         opened_then ∙ ap (λ (b : Bool). first_failed ((6, b) ∷ (2, key_formed s key) ∷ [])) f ∙ ap (λ (b : Bool). cond b none (some 2)) l.1
         ∙ ap (λ (q : Refusal). some (number_of q)) (sym l.0)
     opened_at f (Ok x) l = (f, begun_at s key codes now e (Ok x) l)
-
--- a reason under another name
-pub as_reason : {r : Reply ℕ} {out' : List ℕ} (room : Bool) (hrs : Option ℕ) (d : Told) (out : List ℕ) {w w' : Reason} → w ≡ w'
-    → Replies r out' (last_asked room hrs (line (record { told = d; reason = w })) out) → Replies r out' (last_asked room hrs (line (record { told = d; reason = w' })) out)
-as_reason {r} {out'} room hrs d out e x = subst (λ (v : Reason). Replies r out' (last_asked room hrs (line (record { told = d; reason = v })) out)) e x
 
 -- a call on one key
 
@@ -128,9 +126,16 @@ module _ (s key : List ℕ) (c : KeyCall) (out : List ℕ) where
       ∙ stricter_fails (first_five key (key_arguments c).codes (key_arguments c).now s ++ ((6, room) ∷ [])) 2 (key_formed s key) (buckets_formed s (reads call t)) (late call t)
       (read_own s key c) (number_of r) e)
 
+  -- question 1
+  pub refused_size : {T : Type 0} {o : code.Option T} {q : Refusal} (r : Result ℕ Refusal) → ◌≡◌ {A = Result T Refusal} (Err q) (ok_or o Refusal.Size) → o ≡ code.None
+      → (length s ≡ storage_size → ⊥) → IsErrAnd r (λ x. x ≡ q) → Explains r out (explain_bytes key c out s)
+  unfolding failed_of_five
+  refused_size {q = q} r v n h e =
+      refused_exit r q e (rw (size_told v n) (refused_early Refusal.Size (opened_refused s key (key_arguments c).codes (key_arguments c).now room 1 (rw (ne_eqb (length s) storage_size h)))))
+
   -- what `ended_local` requires
-  pub own_ready : failed ≡ none → (length s ≡ storage_size) × (header_formed s ≡ true)
-  own_ready e = let p = passed_five s key (key_arguments c).codes (key_arguments c).now e in (p.size, p.header)
+  pub own_header : failed ≡ none → header_formed s ≡ true
+  own_header e = (passed_five s key (key_arguments c).codes (key_arguments c).now e).header
 
   -- the output has room, and questions 1 to 5 have passed
   module _ (h : room ≡ true) (e : failed ≡ none) where
@@ -197,9 +202,6 @@ pub low_codes : (st dr n : ℕ) → (leb st 1 && leb dr n) ≡ true → (st ≤ 
 low_codes st dr n e = (leb-true st 1 (and_left (leb st 1) (leb dr n) e), leb-true dr n (and_right (leb st 1) (leb dr n) e))
 
 -- the reason found on a bucket by value, as a reason on the model's bucket, with the key as the bytes that were given
-pub reason_told : {s : BucketSettings} {m : Bucket} {b : KBucket} {k n : ℕ} {w : Why} → Becomes s m b → (F : (ℕ → Bucket) → BucketSettings → ℕ → Bucket → Reason) → k ≡ n
-    → Tells (λ bs. F bs (settings_of b) k (bucket_of b)) w → (bs : ℕ → Bucket) → why_of bs w ≡ F bs s n m
-reason_told {s} {m} {b} {k} {n} {w} x F e r bs = r.reason bs ∙ told_by x (F bs) e
-  where
-    told_by : {s : BucketSettings} {m : Bucket} {b : KBucket} {k n : ℕ} → Becomes s m b → (G : BucketSettings → ℕ → Bucket → Reason) → k ≡ n → G (settings_of b) k (bucket_of b) ≡ G s n m
-    told_by x G e = rw (x.settings, x.bucket, e)
+pub reason_told : {s : BucketSettings} {m : Bucket} {b : KBucket} {k n : ℕ} {w : code.Option declared.Reason} → Becomes s m b → (F : BucketSettings → ℕ → Bucket → Reason) → k ≡ n
+    → Tells (F (settings_of b) k (bucket_of b)) w → (bs : ℕ → Bucket) → reason_of bs w ≡ F s n m
+reason_told x F e r bs = r.reason bs ∙ rw (x.settings, x.bucket, e)

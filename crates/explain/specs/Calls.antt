@@ -18,13 +18,13 @@ use Rattle.explain.specs.declared.PeerCall.{PeerCall}
 
 -- with the hours of a call that is given them
 abbrev pub call_of : PeerCall → Session → KeyCall
-call_of (PeerCall.InsertOrUpdate v state direction now) x = KeyCall.insert_or_update (argument_of v) state direction now x
+call_of (PeerCall.InsertOrUpdate v st now) x = KeyCall.insert_or_update (argument_of v) st.state st.direction now x
 call_of (PeerCall.UpdateNodeStatus state direction now) x = KeyCall.update_node_status state direction now
 call_of (PeerCall.UpdateNode v state now) x = KeyCall.update_node (argument_of v) state now
 call_of (PeerCall.Remove now) x = KeyCall.remove now
 call_of (PeerCall.PresentUpdate state direction) x = KeyCall.present_update state direction
-call_of (PeerCall.PendingUpdate state direction) x = KeyCall.pending_update state direction
-call_of (PeerCall.AbsentInsert v state direction now) x = KeyCall.absent_insert (argument_of v) state direction now x
+call_of (PeerCall.PendingUpdate st) x = KeyCall.pending_update st.state st.direction
+call_of (PeerCall.AbsentInsert v st now) x = KeyCall.absent_insert (argument_of v) st.state st.direction now x
 
 -- what the query answers: the length of the line
 abbrev pub explain_answer_of : Result ℕ Refusal → Reply ℕ

@@ -3,49 +3,47 @@
 #![tactic(auto)]
 
 ghost use Rattle.std.specs.Prelude.{◌≡◌, true, [], ◌≤◌, length, leb};
-ghost use Rattle.model.specs.Sizes.{storage_size};
 ghost use Rattle.model.specs.Layout.{table_of};
-ghost use Rattle.model.specs.Formed.{header_formed};
+ghost use Rattle.model.specs.Formed.{header_formed, formed};
 ghost use Rattle.model.specs.Call.{KeyCall};
 ghost use Rattle.model.specs.Explain as model;
 ghost use Rattle.model.specs.Explain.{explanation_room, line, explain_bytes};
 ghost use Rattle.key.specs.Answers.{option_of};
 ghost use Rattle.node.specs.Node.{argument_of};
 ghost use Rattle.node.specs.Refusal.{failed_of};
-ghost use Rattle.bucket.specs.Bucket.{Sound};
 ghost use Rattle.bucket.specs.Calls.{records_of};
 ghost use Rattle.on_key.specs.Answers.{room_for};
-ghost use Rattle.session.specs.Hours.{session_of};
-ghost use Rattle.explanation.specs.Explanation.{told_of, why_of, TableRead};
-ghost use Rattle.reasons.specs.Reasons.{Tells};
+ghost use Rattle.session.specs.Hours.{hours_of};
+ghost use Rattle.explanation.specs.Explanation.{told_of, reason_of, Reads};
 ghost use Rattle.explain.specs.Calls.{call_of, Explains, Opened, last_asked};
 
-use bucket::{EndedPending, FailureReason, KBucket};
+use bucket::{EndedPending, FailureReason};
 use entry::EntryKind;
-use explanation::{Reason, Told, Why};
+use explanation::{Reason, Told};
 use key::Key;
 use node::{Code, Node, NodeStatus, Refusal, Value};
-use session::Moment;
+use session::Hours;
+use storage::Layout;
 
-// A call on a peer's key, with its arguments: value, state, direction, time.
+// A call on a peer's key, with its arguments: value, state and direction, time.
 #[derive(Clone, Copy)]
 pub enum PeerCall {
-    InsertOrUpdate(Value, Code, Code, u64),
+    InsertOrUpdate(Value, NodeStatus, u64),
     UpdateNodeStatus(Code, Code, u64),
     UpdateNode(Value, Code, u64),
     Remove(u64),
     PresentUpdate(Code, Code),
-    PendingUpdate(Code, Code),
-    AbsentInsert(Value, Code, Code, u64),
+    PendingUpdate(NodeStatus),
+    AbsentInsert(Value, NodeStatus, u64),
 }
 
 // The bytes that an output has at the least.
 pub const ROOM: usize = 2048;
 
-// How an explanation starts: questions 1 to 4 and, where a time is given, 5; 6 of an output of `room` bytes; then 2 of the key's bucket. The key
+// How an explanation starts: questions 2 to 4 and, where a time is given, 5; 6 of an output of `room` bytes; then 2 of the key's bucket. The key
 // and its bucket, or none for the local key.
 fn begin(
-    s: &[u8],
+    s: &[u8; Layout::STORAGE],
     key: &[u8],
     codes: bool,
     time: Option<u64>,
@@ -60,65 +58,59 @@ fn begin(
     on_key::located(s, key)
 }
 
-// How an explanation ends: question 8, then 10 and 11, then the line, whose length it answers. `applied` is the record of the call, `hours` what 10
+// How an explanation ends: question 8, then 10 and 11, then the line, whose length it answers. `applied` is the record of the call, `asked` what 10
 // and 11 answered.
 fn ended(
-    s: &[u8],
+    s: &[u8; Layout::STORAGE],
     out: &mut [u8],
     applied: Option<EndedPending>,
-    hours: Result<(), Refusal>,
+    asked: Result<(), Refusal>,
     told: Told,
-    why: Why,
+    why: Option<Reason>,
 ) -> Result<usize, Refusal>
-    requires s_len { (length s.now ≡ storage_size) × (header_formed s.now ≡ true) × TableRead s.now why }
-    requires sound { Sound why.bucket }
+    requires header { header_formed s.now ≡ true }
+    requires reads { Reads (formed s.now ≡ true) why }
     requires explanation_room_in_bounds { explanation_room ≤ length out.old }
-    ensures { Explains result out.new (last_asked (room_for s.now (records_of applied)) (failed_of hours) (line (record { told = told_of told; reason = why_of (table_of s.now).buckets why })) out.old) }
+    ensures { Explains result out.new (last_asked (room_for s.now (records_of applied)) (failed_of asked) (line (record { told = told_of told; reason = reason_of (table_of s.now).buckets why })) out.old) }
 {
-    if !on_key::has_room(s, applied) {
-        return Err(Refusal::Queue);
-    }
-    hours?;
+    on_key::asked_queue(s, usize::from(applied.is_some()))?;
+    asked?;
     Ok(explanation::put_line(s, out, told, why))
-}
-
-// The reason of the local key.
-fn local_why() -> Why
-    ensures { Tells (λ _. model.Reason.LocalKey) result }
-{
-    Why {
-        reason: Some(Reason::LocalKey),
-        bucket: KBucket::empty(0, 0, 0),
-        value: Value::default(),
-    }
 }
 
 // How the explanation of a call on the local key ends: it looks at no bucket.
 fn ended_local(
-    s: &[u8],
+    s: &[u8; Layout::STORAGE],
     out: &mut [u8],
-    hours: Result<(), Refusal>,
+    asked: Result<(), Refusal>,
     told: Told,
 ) -> Result<usize, Refusal>
-    requires s_len { (length s.now ≡ storage_size) × (header_formed s.now ≡ true) }
+    requires header { header_formed s.now ≡ true }
     requires explanation_room_in_bounds { explanation_room ≤ length out.old }
-    ensures { Explains result out.new (last_asked (room_for s.now []) (failed_of hours) (line (record { told = told_of told; reason = model.Reason.LocalKey })) out.old) }
+    ensures { Explains result out.new (last_asked (room_for s.now []) (failed_of asked) (line (record { told = told_of told; reason = model.Reason.LocalKey })) out.old) }
 {
-    ended(s, out, None, hours, told, local_why())
+    ended(s, out, None, asked, told, Some(Reason::LocalKey))
 }
 
 // remove.
 pub fn explain_remove(s: &[u8], key: &[u8], time: u64, out: &mut [u8]) -> Result<usize, Refusal>
     ensures { Explains result out.new (explain_bytes key.now (KeyCall.remove time) out.old s.now) }
 {
+    let s = s.as_array().ok_or(Refusal::Size)?;
     let Some((k, i)) = begin(s, key, true, Some(time), out.len())? else {
         return ended_local(s, out, Ok(()), Told::Removed(false));
     };
     let applied = on_key::apply_at(s, i, time);
     let step = applied.bucket.remove_sound(k, time);
     let why = reasons::remove_reason(applied.bucket, k);
-    let told = Told::Removed(step.result);
-    ended(s, out, applied.result, Ok(()), told, why)
+    ended(
+        s,
+        out,
+        applied.result,
+        Ok(()),
+        Told::Removed(step.result),
+        why,
+    )
 }
 
 // update_node_status; direction 2 is none given.
@@ -132,6 +124,7 @@ pub fn explain_update_node_status(
 ) -> Result<usize, Refusal>
     ensures { Explains result out.new (explain_bytes key.now (KeyCall.update_node_status state direction time) out.old s.now) }
 {
+    let s = s.as_array().ok_or(Refusal::Size)?;
     let codes = (state <= 1) & (direction <= 2);
     let Some((k, i)) = begin(s, key, codes, Some(time), out.len())? else {
         return ended_local(s, out, Ok(()), Told::NotModified);
@@ -155,6 +148,7 @@ pub fn explain_update_node(
 ) -> Result<usize, Refusal>
     ensures { Explains result out.new (explain_bytes key.now (KeyCall.update_node (argument_of value) state time) out.old s.now) }
 {
+    let s = s.as_array().ok_or(Refusal::Size)?;
     let codes = value.in_range() & (state <= 2);
     let Some((k, i)) = begin(s, key, codes, Some(time), out.len())? else {
         return ended_local(s, out, Ok(()), Told::NotModified);
@@ -164,7 +158,11 @@ pub fn explain_update_node(
     let b = applied.bucket;
     let step = bucket_update::update_node_in(b, fails, k, value, state, time);
     let record = on_key::record_of(applied.result, b.pending, step.bucket.pending, k);
-    let why = reasons::update_node_why(b, fails, k, value, state);
+    let why = if fails {
+        Some(Reason::TableFilter(k, value))
+    } else {
+        reasons::update_node_reason(b, k, value, state)
+    };
     ended(s, out, record, Ok(()), Told::from(step.result), why)
 }
 
@@ -173,21 +171,18 @@ pub fn explain_insert_or_update(
     s: &[u8],
     key: &[u8],
     value: Value,
-    state: Code,
-    direction: Code,
+    status: NodeStatus,
     time: u64,
-    windows: &[u16],
-    closed: &[u16],
-    moment: Moment,
+    hours: Hours,
     out: &mut [u8],
 ) -> Result<usize, Refusal>
-    ensures { Explains result out.new (explain_bytes key.now (KeyCall.insert_or_update (argument_of value) state direction time (session_of windows.now closed.now moment)) out.old s.now) }
+    ensures { Explains result out.new (explain_bytes key.now (KeyCall.insert_or_update (argument_of value) status.state status.direction time (hours_of hours.entry)) out.old s.now) }
 {
-    let codes = value.in_range() & ((state <= 1) & (direction <= 1));
+    let s = s.as_array().ok_or(Refusal::Size)?;
+    let codes = value.in_range() & ((status.state <= 1) & (status.direction <= 1));
     let Some((k, i)) = begin(s, key, codes, Some(time), out.len())? else {
-        let hours = session::asked(windows, closed, moment, true);
         let told = Told::Failed(FailureReason::InvalidSelfUpdate);
-        return ended_local(s, out, hours, told);
+        return ended_local(s, out, session::asked(hours, true), told);
     };
     let fails = table_filter::asked_filter(s, i, k, value)?;
     let applied = on_key::apply_at(s, i, time);
@@ -195,13 +190,17 @@ pub fn explain_insert_or_update(
     let node = Node {
         key: k,
         value,
-        status: NodeStatus { state, direction },
+        status,
     };
     let step = bucket_update::insert_or_update_in(b, fails, node, time);
     let record = on_key::record_of(applied.result, b.pending, step.bucket.pending, k);
-    let hours = admission::asked(s, i, k, windows, closed, moment);
-    let why = reasons::insert_or_update_why(b, fails, node);
-    ended(s, out, record, hours, Told::from(step.result), why)
+    let asked = admission::asked(s, i, k, hours);
+    let why = if fails {
+        Some(Reason::TableFilter(node.key, node.value))
+    } else {
+        reasons::insert_or_update_reason(b, node)
+    };
+    ended(s, out, record, asked, Told::from(step.result), why)
 }
 
 // Present: update; direction 2 is none given. An entry action applies no pending.
@@ -214,6 +213,7 @@ pub fn explain_present_update(
 ) -> Result<usize, Refusal>
     ensures { Explains result out.new (explain_bytes key.now (KeyCall.present_update state direction) out.old s.now) }
 {
+    let s = s.as_array().ok_or(Refusal::Size)?;
     let codes = (state <= 1) & (direction <= 2);
     let (k, i) = begin(s, key, codes, None, out.len())?.ok_or(Refusal::Kind)?;
     let stored = buckets::load_bucket(s, i);
@@ -230,20 +230,19 @@ pub fn explain_present_update(
 pub fn explain_pending_update(
     s: &[u8],
     key: &[u8],
-    state: Code,
-    direction: Code,
+    status: NodeStatus,
     out: &mut [u8],
 ) -> Result<usize, Refusal>
-    ensures { Explains result out.new (explain_bytes key.now (KeyCall.pending_update state direction) out.old s.now) }
+    ensures { Explains result out.new (explain_bytes key.now (KeyCall.pending_update status.state status.direction) out.old s.now) }
 {
-    let codes = (state <= 1) & (direction <= 1);
+    let s = s.as_array().ok_or(Refusal::Size)?;
+    let codes = (status.state <= 1) & (status.direction <= 1);
     let (k, i) = begin(s, key, codes, None, out.len())?.ok_or(Refusal::Kind)?;
     let stored = buckets::load_bucket(s, i);
     let EntryKind::Pending(_) = entry::kind_of(stored, k) else {
         return Err(Refusal::Kind);
     };
-    let why = reasons::no_reason(stored);
-    ended(s, out, None, Ok(()), Told::UpdatedPending, why)
+    ended(s, out, None, Ok(()), Told::UpdatedPending, None)
 }
 
 // Absent: insert. The table filter is skipped.
@@ -251,17 +250,15 @@ pub fn explain_absent_insert(
     s: &[u8],
     key: &[u8],
     value: Value,
-    state: Code,
-    direction: Code,
+    status: NodeStatus,
     time: u64,
-    windows: &[u16],
-    closed: &[u16],
-    moment: Moment,
+    hours: Hours,
     out: &mut [u8],
 ) -> Result<usize, Refusal>
-    ensures { Explains result out.new (explain_bytes key.now (KeyCall.absent_insert (argument_of value) state direction time (session_of windows.now closed.now moment)) out.old s.now) }
+    ensures { Explains result out.new (explain_bytes key.now (KeyCall.absent_insert (argument_of value) status.state status.direction time (hours_of hours.entry)) out.old s.now) }
 {
-    let codes = value.in_range() & ((state <= 1) & (direction <= 1));
+    let s = s.as_array().ok_or(Refusal::Size)?;
+    let codes = value.in_range() & ((status.state <= 1) & (status.direction <= 1));
     let (k, i) = begin(s, key, codes, Some(time), out.len())?.ok_or(Refusal::Kind)?;
     let stored = buckets::load_bucket(s, i);
     let EntryKind::Absent = entry::kind_of(stored, k) else {
@@ -270,14 +267,12 @@ pub fn explain_absent_insert(
     let node = Node {
         key: k,
         value,
-        status: NodeStatus { state, direction },
+        status,
     };
     let step = stored.insert_sound(node, time);
-    let record = on_key::record_of(None, stored.pending, step.bucket.pending, k);
-    let hours = session::asked(windows, closed, moment, false);
     let why = reasons::insert_reason(stored, node);
-    let told = Told::from(step.result);
-    ended(s, out, record, hours, told, why)
+    let asked = session::asked(hours, false);
+    ended(s, out, None, asked, Told::from(step.result), why)
 }
 
 // The line of a call: what it would answer, and why. The hours are those of insert_or_update and of Absent's insert, and nothing to the others. The call
@@ -286,18 +281,14 @@ pub fn explain(
     s: &[u8],
     key: &[u8],
     call: PeerCall,
-    windows: &[u16],
-    closed: &[u16],
-    moment: Moment,
+    hours: Hours,
     out: &mut [u8],
 ) -> Result<usize, Refusal>
-    ensures { Explains result out.new (explain_bytes key.now (call_of call (session_of windows.now closed.now moment)) out.old s.now) }
+    ensures { Explains result out.new (explain_bytes key.now (call_of call (hours_of hours.entry)) out.old s.now) }
 {
     match call {
-        PeerCall::InsertOrUpdate(value, state, direction, time) => {
-            explain_insert_or_update(
-                s, key, value, state, direction, time, windows, closed, moment, out,
-            )
+        PeerCall::InsertOrUpdate(value, status, time) => {
+            explain_insert_or_update(s, key, value, status, time, hours, out)
         }
         PeerCall::UpdateNodeStatus(state, direction, time) => {
             explain_update_node_status(s, key, state, direction, time, out)
@@ -309,13 +300,9 @@ pub fn explain(
         PeerCall::PresentUpdate(state, direction) => {
             explain_present_update(s, key, state, direction, out)
         }
-        PeerCall::PendingUpdate(state, direction) => {
-            explain_pending_update(s, key, state, direction, out)
-        }
-        PeerCall::AbsentInsert(value, state, direction, time) => {
-            explain_absent_insert(
-                s, key, value, state, direction, time, windows, closed, moment, out,
-            )
+        PeerCall::PendingUpdate(status) => explain_pending_update(s, key, status, out),
+        PeerCall::AbsentInsert(value, status, time) => {
+            explain_absent_insert(s, key, value, status, time, hours, out)
         }
     }
 }

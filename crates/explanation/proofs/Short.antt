@@ -4,31 +4,33 @@ use mathlib.Core.Bool.{Bool, true, false}
 use mathlib.Core.Logic.{◌⊎◌, inl, inr}
 use Rattle.std.specs.Prelude.{Option, Some, None}
 use mathlib.Core.List.{List, [], ◌∷◌, ◌++◌, append_assoc}
-use Prim.Native.Nat.{ℕ, ◌+◌, ◌*◌, ◌≤◌}
+use Prim.Native.Nat.{ℕ, ◌+◌, ◌-◌, ◌*◌, ◌≤◌}
+use borrow.Rule.Slice.PartMut.{put_mid}
 use native.Mathlib.Omega.{arith}
-use lib.ListN.{length, take, length-append, length-map, length-take}
+use lib.ListN.{length, take, drop, length-append, length-map, length-take}
 use lib.Seq.{take_all}
 use Rattle.model.specs.Base.{select}
-use Rattle.model.specs.Bytes.{splice}
 use Rattle.model.specs.Value.{Value}
 use Rattle.model.specs.Node.{Node, connected_incoming}
 use Rattle.model.specs.Filter.{counted, max_nodes_per_subnet_table, max_nodes_per_subnet_bucket}
 use Rattle.model.specs.Result.{FailureReason}
 use Rattle.model.specs.Bucket.{Bucket, nodes, incoming_nodes}
 use Rattle.model.specs.Table.{other_nodes}
-use Rattle.model.specs.Explain.{Told, Explanation, space, line_feed, told_text, failure_text, flag_text, reason_text, reason_keys, keys_of, keys_text, filter_keys, explanation_room, line}
+use Rattle.model.specs.Explain.{Told, Explanation, space, line_feed, told_text, failure_text, flag_text, reason_text, reason_keys, keys_of, keys_text, filter_keys, line}
 use Rattle.laws.proofs.Tests.{split}
+use Rattle.key.specs.declared.Key.{Key}
 use Rattle.key.specs.Key.{num}
+use Rattle.node.specs.declared.Value as declared_value
+use Rattle.bucket.specs.declared.KBucket.{KBucket}
 use Rattle.node.specs.Node.{value_of}
 use Rattle.bucket.specs.Bucket.{bucket_of}
-use Rattle.explanation.specs.declared.Why.{Why}
 use Rattle.explanation.specs.declared.Reason.{Reason}
 use Rattle.explanation.specs.declared.Told as declared
 use Rattle.explanation.specs.declared.Told.TheVariants as told
 use Rattle.explanation.specs.declared.Reason.TheVariants as reason
-use Rattle.explanation.specs.Explanation.{told_of, told_detail, reason_of, why_of, why_text}
-use Rattle.explanation.specs.Put.{Put, spaced_key_size, longest_failure, longest_flag, longest_told}
-use Rattle.explanation.proofs.Text.{put_then, length_key_text}
+use Rattle.explanation.specs.Explanation.{told_of, told_detail, reason_of, Reads, why_text}
+use Rattle.explanation.specs.Put.{Put, PutKeys, key_room, spaced_key_size, longest_failure, longest_flag, longest_told, longest_reason}
+use Rattle.explanation.proofs.Text.{put_left, put_then, length_key_text}
 use Rattle.explanation.proofs.Keys.{length_keys_text, keys_text_none, held_few}
 
 pub failure_short : (r : FailureReason) → length (failure_text r) ≤ longest_failure
@@ -74,8 +76,8 @@ module _ (x : declared.Told) (a d : List ℕ) (e : told_text (told_of x) ≡ a +
   pub told_room : length a + length d ≤ longest_told
   told_room = omega (arith, told_short (told_of x), ap length e, ap length f, length-append a (told_detail (told_of x)))
 
-  pub told_put : {o t u : List ℕ} {n m : ℕ} → Put a o 0 t n → Put d t n u m → explanation_room ≤ length o → Put (told_text (told_of x)) o 0 u m
-  told_put p q h = rw (e, f) (put_then p q (omega (arith, told_room)))
+  pub told_put : {o t v : List ℕ} {n m : ℕ} → Put a o t n → Put d (take (length t - n) (drop n t)) v m → Put (told_text (told_of x)) o (put_mid n (length t - n) t v) (n + m)
+  told_put p q = rw (e, f) (put_then p q)
 
 -- keys behind a reason
 
@@ -90,41 +92,59 @@ select_few p (x ∷ xs) = split (p x) (λ e. rw e (omega (arith, select_few p xs
 incoming_few : (b : Bucket) → length (nodes b) ≤ 16 → length (keys_of (incoming_nodes (nodes b))) ≤ 16
 incoming_few b h = rw (length-map (incoming_nodes (nodes b)) _) (omega (arith, select_few connected_incoming (nodes b)))
 
--- the incoming limit's words and keys: the room holds them all
-pub incoming_text : {a o t u : List ℕ} {at n m : ℕ} (b : Bucket) → length (nodes b) ≤ 16 → Put a o at t n → Put (keys_text (take 16 (keys_of (incoming_nodes (nodes b))))) t n u m
-    → at + length a + 16 * spaced_key_size ≤ length o → Put (a ++ keys_text (keys_of (incoming_nodes (nodes b)))) o at u m
-incoming_text b h p q l =
-    let ks : List ℕ = keys_of (incoming_nodes (nodes b)) in
-    let f = incoming_few b h in
-    put_then p (rw (take_all 16 ks f) at q) (omega (arith, length_keys_text ks))
+-- the incoming limit's keys behind its words: the room holds them all
+pub incoming_put : {a o t u : List ℕ} {n m : ℕ} (b : Bucket) → length (nodes b) ≤ 16 → length a + 16 * spaced_key_size ≤ length o → Put a o t n
+    → PutKeys (keys_of (incoming_nodes (nodes b))) (take (length t - n) (drop n t)) u m → Put (a ++ keys_text (keys_of (incoming_nodes (nodes b)))) o (put_mid n (length t - n) t u) (n + m)
+incoming_put {a} {o} {t} {u} {n} b h l p q =
+    let f : length (keys_of (incoming_nodes (nodes b))) ≤ key_room (take (length t - n) (drop n t)) = omega (arith, incoming_few b h, put_left p (16 * spaced_key_size) l) in
+    put_then p (rw (take_all (key_room (take (length t - n) (drop n t))) (keys_of (incoming_nodes (nodes b))) f) at q.put)
 
-reason_short : (bs : ℕ → Bucket) (b : Bucket) (v : Value) (r : Option Reason) → length (nodes b) ≤ 16 → length (why_text (reason_of bs b v r)) ≤ 1054
+pub why_short : (bs : ℕ → Bucket) (F : Type 0) (r : Option Reason) → Reads F r → length (why_text (reason_of bs r)) ≤ longest_reason
 unfolding why_text
-reason_short bs b v None h = rw keys_text_none (omega arith)
-reason_short bs b v (Some (reason.TableFilter k)) h = let ks : List ℕ = filter_keys max_nodes_per_subnet_table v (other_nodes (num k) bs) in omega (arith, length_keys_text ks, filter_few max_nodes_per_subnet_table v (other_nodes (num k) bs))
-reason_short bs b v (Some reason.BucketFilter) h = let ks : List ℕ = filter_keys max_nodes_per_subnet_bucket v (nodes b) in omega (arith, length_keys_text ks, filter_few max_nodes_per_subnet_bucket v (nodes b))
-reason_short bs b v (Some reason.IncomingLimit) h = let ks : List ℕ = keys_of (incoming_nodes (nodes b)) in omega (arith, length_keys_text ks, incoming_few b h)
-reason_short bs b v (Some reason.NewcomerDisconnected) h = rw keys_text_none (omega arith)
-reason_short bs b v (Some reason.AllConnected) h = rw keys_text_none (omega arith)
-reason_short bs b v (Some (reason.Pending k)) h = omega (arith, length_keys_text (num k ∷ []))
-reason_short bs b v (Some reason.NoSuchKey) h = rw keys_text_none (omega arith)
-reason_short bs b v (Some reason.LocalKey) h = rw keys_text_none (omega arith)
+why_short bs F None h = rw keys_text_none (omega arith)
+why_short bs F (Some (reason.TableFilter k v)) h =
+    let ns : List Node = other_nodes (num k) bs in
+    omega (arith, length_keys_text (filter_keys max_nodes_per_subnet_table (value_of v) ns), filter_few max_nodes_per_subnet_table (value_of v) ns)
+why_short bs F (Some (reason.BucketFilter b v)) h =
+    let ns : List Node = nodes (bucket_of b) in
+    omega (arith, length_keys_text (filter_keys max_nodes_per_subnet_bucket (value_of v) ns), filter_few max_nodes_per_subnet_bucket (value_of v) ns)
+why_short bs F (Some (reason.IncomingLimit b)) h =
+    let ks : List ℕ = keys_of (incoming_nodes (nodes (bucket_of b))) in
+    omega (arith, length_keys_text ks, incoming_few (bucket_of b) (held_few b h.few))
+why_short bs F (Some reason.NewcomerDisconnected) h = rw keys_text_none (omega arith)
+why_short bs F (Some reason.AllConnected) h = rw keys_text_none (omega arith)
+why_short bs F (Some (reason.Pending k)) h = omega (arith, length_keys_text (num k ∷ []))
+why_short bs F (Some reason.NoSuchKey) h = rw keys_text_none (omega arith)
+why_short bs F (Some reason.LocalKey) h = rw keys_text_none (omega arith)
 
-pub why_short : (bs : ℕ → Bucket) (w : Why) → w.bucket.count ≤ 16 → length (why_text (why_of bs w)) ≤ 1054
-unfolding why_of
-why_short bs w h = reason_short bs (bucket_of w.bucket) (value_of w.value) w.reason (held_few w.bucket h)
+-- a reason's words, and the keys behind them
+module _ (bs : ℕ → Bucket) (r : Option Reason) {a : List ℕ} (e : reason_text (reason_of bs r) ≡ a) where
+  pub words_short : (F : Type 0) → Reads F r → length a ≤ longest_reason
+  unfolding why_text
+  words_short F h = omega (arith, why_short bs F r h, ap length e, length-append (reason_text (reason_of bs r)) (keys_text (reason_keys (reason_of bs r))))
+
+  pub why_put : {o u : List ℕ} {m : ℕ} → Put (a ++ keys_text (reason_keys (reason_of bs r))) o u m → Put (why_text (reason_of bs r)) o u m
+  unfolding why_text
+  why_put p = rw e p
+
+-- a reason that names no nodes
+pub no_keys : (bs : ℕ → Bucket) (r : Reason) → ((k : Key) (v : declared_value.Value) → r ≡ reason.TableFilter k v → ⊥) → ((b : KBucket) (v : declared_value.Value) → r ≡ reason.BucketFilter b v → ⊥)
+    → ((b : KBucket) → r ≡ reason.IncomingLimit b → ⊥) → ((k : Key) → r ≡ reason.Pending k → ⊥) → keys_text (reason_keys (reason_of bs (Some r))) ≡ []
+no_keys bs (reason.TableFilter k v) f g h i = absurd (f k v refl)
+no_keys bs (reason.BucketFilter b v) f g h i = absurd (g b v refl)
+no_keys bs (reason.IncomingLimit b) f g h i = absurd (h b refl)
+no_keys bs reason.NewcomerDisconnected f g h i = keys_text_none
+no_keys bs reason.AllConnected f g h i = keys_text_none
+no_keys bs (reason.Pending k) f g h i = absurd (i k refl)
+no_keys bs reason.NoSuchKey f g h i = keys_text_none
+no_keys bs reason.LocalKey f g h i = keys_text_none
 
 -- the line, piece by piece
-pub line_text : {o t u w x : List ℕ} {n m : ℕ} (e : Explanation) → Put (told_text e.told) o 0 t n → u ≡ splice t n (space ∷ []) → Put (why_text e.reason) u (n + 1) w m
-    → x ≡ splice w m (line_feed ∷ []) → length (told_text e.told) + length (why_text e.reason) + 2 ≤ length o → Put (line e) o 0 x (m + 1)
+pub line_text : {o u : List ℕ} {n : ℕ} (e : Explanation) → Put (((told_text e.told ++ (space ∷ [])) ++ why_text e.reason) ++ (line_feed ∷ [])) o u n → Put (line e) o u n
 unfolding line why_text
-line_text {o} {t} {u} {w} {x} {n} {m} e p f q g h =
+line_text e p =
     let a : List ℕ = told_text e.told in
     let b : List ℕ = reason_text e.reason in
     let k : List ℕ = keys_text (reason_keys e.reason) in
-    let l : length (why_text e.reason) ≡ length b + length k = length-append b k in
-    let sp : Put (space ∷ []) t n u (n + 1) = record { output = f; next = refl } in
-    let lf : Put (line_feed ∷ []) w m x (m + 1) = record { output = g; next = refl } in
-    let r = put_then (put_then (put_then p sp (omega arith)) q (simp length-append (omega arith))) lf (simp length-append (omega arith)) in
     let s : ((a ++ (space ∷ [])) ++ (b ++ k)) ++ (line_feed ∷ []) ≡ a ++ (space ∷ (b ++ (k ++ (line_feed ∷ [])))) = simp append_assoc in
-    rw s at r
+    rw s at p

@@ -1,20 +1,16 @@
 -- What the types stand for.
-use Rattle.std.specs.Prelude.{Option, Some, None, ℕ, ◌≡◌, Bool, true, false, List, [], ◌++◌}
-use Rattle.model.specs.Value as model
+use Rattle.std.specs.Prelude.{Option, Some, None, ℕ, List, [], ◌++◌}
 use Rattle.model.specs.Bucket.{Bucket}
-use Rattle.model.specs.Layout.{table_of}
-use Rattle.model.specs.Formed.{formed}
 use Rattle.model.specs.Explain as explain
 use Rattle.model.specs.Explain.{table_filter_reason, bucket_filter_reason, incoming_limit_reason, key_text, failure_text, flag_text, reason_text, reason_keys, keys_text}
 use Rattle.key.specs.Key.{num}
 use Rattle.node.specs.Node.{value_of}
-use Rattle.bucket.specs.Bucket.{bucket_of}
+use Rattle.bucket.specs.Bucket.{bucket_of, Sound}
 use Rattle.bucket.specs.Calls.{failure_reason_of}
 use Rattle.explanation.specs.declared.Told.{Told}
 use Rattle.explanation.specs.declared.Told.TheVariants as told
 use Rattle.explanation.specs.declared.Reason.{Reason}
 use Rattle.explanation.specs.declared.Reason.TheVariants as reason
-use Rattle.explanation.specs.declared.Why.{Why}
 
 abbrev pub told_of : Told → explain.Told
 told_of told.Inserted = explain.Told.Inserted
@@ -51,36 +47,29 @@ told_detail explain.Told.Full = []
 told_detail explain.Told.NodeExists = []
 told_detail (explain.Told.Removed r) = flag_text r
 
--- the reason with its keys, or none: bs is the table's buckets, for the table filter; b and v are the bucket and the value that were tested
-abbrev pub reason_of : (ℕ → Bucket) → Bucket → model.Value → Option Reason → explain.Reason
-reason_of bs b v None = explain.Reason.None
-reason_of bs b v (Some (reason.TableFilter k)) = table_filter_reason (num k) v bs
-reason_of bs b v (Some reason.BucketFilter) = bucket_filter_reason v b
-reason_of bs b v (Some reason.IncomingLimit) = incoming_limit_reason b
-reason_of bs b v (Some reason.NewcomerDisconnected) = explain.Reason.NewcomerDisconnected
-reason_of bs b v (Some reason.AllConnected) = explain.Reason.AllConnected
-reason_of bs b v (Some (reason.Pending k)) = explain.Reason.Pending (num k)
-reason_of bs b v (Some reason.NoSuchKey) = explain.Reason.NoSuchKey
-reason_of bs b v (Some reason.LocalKey) = explain.Reason.LocalKey
+-- the reason with its keys, or none: bs is the table's buckets, for the table filter
+abbrev pub reason_of : (ℕ → Bucket) → Option Reason → explain.Reason
+reason_of bs None = explain.Reason.None
+reason_of bs (Some (reason.TableFilter k v)) = table_filter_reason (num k) (value_of v) bs
+reason_of bs (Some (reason.BucketFilter b v)) = bucket_filter_reason (value_of v) (bucket_of b)
+reason_of bs (Some (reason.IncomingLimit b)) = incoming_limit_reason (bucket_of b)
+reason_of bs (Some reason.NewcomerDisconnected) = explain.Reason.NewcomerDisconnected
+reason_of bs (Some reason.AllConnected) = explain.Reason.AllConnected
+reason_of bs (Some (reason.Pending k)) = explain.Reason.Pending (num k)
+reason_of bs (Some reason.NoSuchKey) = explain.Reason.NoSuchKey
+reason_of bs (Some reason.LocalKey) = explain.Reason.LocalKey
 
-unfoldable pub why_of : (ℕ → Bucket) → Why → explain.Reason
-why_of bs w = reason_of bs (bucket_of w.bucket) (value_of w.value) w.reason
-
--- the reason whose keys are those of the whole table
-abbrev pub of_table : explain.Reason → Bool
-of_table explain.Reason.None = false
-of_table (explain.Reason.TableFilter ks) = true
-of_table (explain.Reason.BucketFilter ks) = false
-of_table (explain.Reason.IncomingLimit ks) = false
-of_table explain.Reason.NewcomerDisconnected = false
-of_table explain.Reason.AllConnected = false
-of_table (explain.Reason.Pending k) = false
-of_table explain.Reason.NoSuchKey = false
-of_table explain.Reason.LocalKey = false
-
--- 02, slip 7: the whole table is read for that reason alone, and has passed question 2
-abbrev pub TableRead : List ℕ → Why → Type 0
-TableRead s w = of_table (why_of (table_of s).buckets w) ≡ true → formed s ≡ true
+-- what is known where a reason's keys are looked for: of the table, which is read for the table filter alone (02, slip 7), F; else the bucket is sound
+abbrev pub Reads : Type 0 → Option Reason → Type 0
+Reads F None = Unit
+Reads F (Some (reason.TableFilter k v)) = F
+Reads F (Some (reason.BucketFilter b v)) = Sound b
+Reads F (Some (reason.IncomingLimit b)) = Sound b
+Reads F (Some reason.NewcomerDisconnected) = Unit
+Reads F (Some reason.AllConnected) = Unit
+Reads F (Some (reason.Pending k)) = Unit
+Reads F (Some reason.NoSuchKey) = Unit
+Reads F (Some reason.LocalKey) = Unit
 
 -- the text of a reason and its keys
 unfoldable pub why_text : explain.Reason → List ℕ

@@ -1,5 +1,5 @@
--- Text put into the output, and keys one behind the other.
-use Rattle.std.specs.Prelude.{ℕ, ◌+◌, ◌-◌, ◌≡◌, Bool, List, length, take}
+-- Text put at the front of an output, and keys one behind the other.
+use Rattle.std.specs.Prelude.{ℕ, ◌/◌, ◌≡◌, ◌≤◌, Bool, List, length, take}
 use Rattle.model.specs.Bytes.{splice}
 use Rattle.model.specs.Node.{Node, connected_incoming}
 use Rattle.model.specs.Filter.{counts}
@@ -7,7 +7,6 @@ use Rattle.model.specs.Explain.{keys_text}
 use Rattle.key.specs.Key.{num}
 use Rattle.node.specs.Node.{value_of}
 use Rattle.table_filter.specs.Counted.{counts_other}
-use Rattle.explanation.specs.declared.Room.{Room}
 use Rattle.explanation.specs.declared.Test.{Test}
 use Rattle.explanation.specs.declared.Test.TheVariants.{Counts, CountsOther, Incoming}
 
@@ -18,7 +17,7 @@ key_text_size = 64
 abbrev pub spaced_key_size : ℕ
 spaced_key_size = 65
 
--- the longest texts: InvalidSelfUpdate, false, and Pending with its key
+-- the longest texts: InvalidSelfUpdate, false, Pending with its key, and the incoming limit with 16 keys
 abbrev pub longest_failure : ℕ
 longest_failure = 17
 
@@ -28,15 +27,22 @@ longest_flag = 5
 abbrev pub longest_told : ℕ
 longest_told = 72
 
--- u is the output o with the text from place `at` on, and m the place behind it
-pub record Put (text o : List ℕ) (at : ℕ) (u : List ℕ) (m : ℕ) : Type 0 where
-  pub output : u ≡ splice o at text
-  pub next : m ≡ at + length text
+abbrev pub longest_reason : ℕ
+longest_reason = 1054
 
--- u is the output o with the first of the keys, as many as there was room for, and q the room that is left
-pub record PutKeys (ks o : List ℕ) (r : Room) (u : List ℕ) (q : Room) : Type 0 where
-  pub text : Put (keys_text (take r.left ks)) o r.at u q.at
-  pub left : q.left ≡ r.left - length ks
+-- u is the output o with the text at the front, of m bytes
+pub record Put (text o u : List ℕ) (m : ℕ) : Type 0 where
+  pub output : u ≡ splice o 0 text
+  pub next : m ≡ length text
+  pub within : m ≤ length u
+
+-- how many keys an output has room for
+abbrev pub key_room : List ℕ → ℕ
+key_room o = length o / spaced_key_size
+
+-- u is the output o with the first of the keys at the front, as many as there is room for, of m bytes
+pub record PutKeys (ks o u : List ℕ) (m : ℕ) : Type 0 where
+  pub put : Put (keys_text (take (key_room o) ks)) o u m
 
 -- a reason names the node
 abbrev pub passes : Test → Node → Bool

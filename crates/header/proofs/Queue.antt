@@ -1,13 +1,14 @@
 -- What pushing a record and dropping the oldest do to the header's bytes, and a record as it is read.
 use mathlib.Core.Path.{◌≡◌, refl, sym, ap, ◌∙◌}
-use mathlib.Core.Bool.{true, false}
+use mathlib.Core.Bool.{true}
 use mathlib.Core.List.{List, [], ◌∷◌, ◌++◌, append_assoc, append-nil}
 use mathlib.Core.Option.{some}
 use Prim.Native.Nat.{ℕ, ◌+◌, ◌*◌, ◌-◌, ◌≤◌, ◌<◌}
 use native.Mathlib.Omega.{arith}
 use borrow.Author.Tests.{ne_eqb}
-use Rattle.std.specs.Prelude.{Option, Some, None, is_some}
-use lib.ListN.{length, take, drop, get_or, length-append, length-take, length-drop, take-append-drop}
+use Rattle.std.specs.Prelude.{Some, None}
+use borrow.Rule.Slice.PartMut.{put_mid}
+use lib.ListN.{length, take, drop, get_or, set, length-append, length-take, length-drop, length-replicate, take-append-drop}
 use lib.Seq.{take-suc}
 use Rattle.model.specs.Base.{joined, tabulate}
 use Rattle.model.specs.Bytes.{number, bytes, part, splice, zeros, Bytes}
@@ -17,15 +18,16 @@ use Rattle.model.specs.Sizes.{key_size, node_size, record_size, record_count_at,
 use Rattle.model.specs.Layout.{evicting_kind, ending_kind, evicted_bytes, record_bytes, header_bytes, ending_of, ending_in, record_in, record_part, table_of}
 use Rattle.model.specs.Formed.{record_formed, header_formed}
 use Rattle.laws.proofs.Lists.{joined_snoc, length_tabulate, get_d_tabulate}
-use Rattle.laws.proofs.Parts.{length_part, length_splice, splice_part, splice_nil, splice_next, part_part, part_zero, part_between, get_d_part}
+use Rattle.laws.proofs.Parts.{length_part, length_splice, set_splice, splice_part, splice_next, part_part, part_between}
 use Rattle.laws.proofs.Shifts.{splice_between}
-use Rattle.laws.proofs.Tests.{clash}
 use Rattle.laws.proofs.Bytes.{length_bytes}
 use Rattle.laws.proofs.NodeBytes.{length_evicted, length_record}
 use Rattle.laws.proofs.HeaderBytes.{length_records, length_header}
 use Rattle.laws.proofs.HeaderBack.{checked_header, header_back, queue_fits_lem, length_queue}
 use Rattle.key.specs.declared.Key.{Key}
 use Rattle.key.specs.Key.{num}
+use Rattle.key.proofs.Bytes.{splice_all}
+use Rattle.words.proofs.Words.{set_more, put_mid_splice}
 use Rattle.node.specs.declared.Node as stored
 use Rattle.node.specs.Node.{node_of, node_codes}
 use Rattle.bucket.specs.declared.Ending as code
@@ -39,23 +41,22 @@ use Rattle.header.specs.Queue.{requeued}
 use Rattle.header.proofs.Runs.{splice_front, blank, blank_is, blank_add, length_blank}
 use Rattle.header.proofs.Header.{front_bytes, length_front, parts_of, header_parts}
 
--- a further record: v is what is written of it, the rest of its bytes is zero as it was
-module _ (s : Settings) (q : List EndedPending) (r : EndedPending) (v : List ℕ) (rest : ℕ) (e : record_bytes r ≡ v ++ blank rest) (n : ℕ) (m : n ≡ length q) (l : n < max_records) where
-  parts_pushed : splice (splice (parts_of s q) (record_at n) v) record_count_at ((n + 1) ∷ []) ≡ parts_of s (q ++ (r ∷ []))
+-- a further record
+module _ (s : Settings) (q : List EndedPending) (r : EndedPending) (n : ℕ) (m : n ≡ length q) (l : n < max_records) where
+  parts_pushed : splice (splice (parts_of s q) (record_at n) (record_bytes r)) record_count_at ((n + 1) ∷ []) ≡ parts_of s (q ++ (r ∷ []))
   parts_pushed =
+      let v : List ℕ = record_bytes r in
       let f : List ℕ = front_bytes s in
       let j : List ℕ = blank padding_size ++ joined record_bytes q in
       let k : ℕ = (max_records - (n + 1)) * record_size in
-      let w : length v + rest ≡ record_size = rw (length-append v (blank rest), length_blank rest) at (sym (ap length e) ∙ length_record r) in
-      let z : blank ((max_records - n) * record_size) ≡ blank (length v) ++ (blank rest ++ blank k) =
-      ap blank (omega arith) ∙ blank_add (length v) (rest + k) ∙ ap (λ (x : List ℕ). blank (length v) ++ x) (blank_add rest k) in
+      let z : blank ((max_records - n) * record_size) ≡ blank record_size ++ blank k = ap blank (omega arith) ∙ blank_add record_size k in
       let a : length (f ++ ((n ∷ []) ++ j)) ≡ record_at n = simp (length-append, length_bytes, length_blank) (omega (arith, length_records q)) in
-      let h : parts_of s q ≡ (f ++ ((n ∷ []) ++ j)) ++ (blank (length v) ++ (blank rest ++ blank k)) = rw (← m, z) (simp append_assoc) in
-      let g : parts_of s (q ++ (r ∷ [])) ≡ f ++ (((n + 1) ∷ []) ++ (j ++ (v ++ (blank rest ++ blank k)))) =
-      rw (length-append q (r ∷ []), ← m, joined_snoc record_bytes q r, e) (simp append_assoc) in
+      let h : parts_of s q ≡ (f ++ ((n ∷ []) ++ j)) ++ (blank record_size ++ blank k) = rw (← m, z) (simp append_assoc) in
+      let g : parts_of s (q ++ (r ∷ [])) ≡ f ++ (((n + 1) ∷ []) ++ (j ++ (v ++ blank k))) =
+      rw (length-append q (r ∷ []), ← m, joined_snoc record_bytes q r) (simp append_assoc) in
       ap (λ (x : List ℕ). splice (splice x (record_at n) v) record_count_at ((n + 1) ∷ [])) h
-      ∙ ap (λ (x : List ℕ). splice x record_count_at ((n + 1) ∷ [])) (splice_between (f ++ ((n ∷ []) ++ j)) (blank (length v)) (blank rest ++ blank k) v (record_at n) a (length_blank (length v)) ∙ simp append_assoc)
-      ∙ splice_between f (n ∷ []) (j ++ (v ++ (blank rest ++ blank k))) ((n + 1) ∷ []) record_count_at (length_front s) refl
+      ∙ ap (λ (x : List ℕ). splice x record_count_at ((n + 1) ∷ [])) (splice_between (f ++ ((n ∷ []) ++ j)) (blank record_size) (blank k) v (record_at n) a (length_blank record_size ∙ sym (length_record r)) ∙ simp append_assoc)
+      ∙ splice_between f (n ∷ []) (j ++ (v ++ blank k)) ((n + 1) ∷ []) record_count_at (length_front s) refl
       ∙ sym g
 
 -- the queue without its first record: the others stand a record further to the front, and z stands in the place that they leave
@@ -98,27 +99,35 @@ one_joined : (r : EndedPending) → joined record_bytes (r ∷ []) ≡ record_by
 unfolding joined
 one_joined r = append-nil (record_bytes r)
 
--- the record of an ended pending, as it is put: key, kind, and then the evicted node or zero bytes
-pub record_put : (s : List ℕ) (at : ℕ) (e : ended.EndedPending) (w : List ℕ) → w ≡ evicted_bytes (evicted_in (calls.ending_of e.ending)) → at + record_size ≤ length s
-    → splice (splice (splice s at (bytes key_size (num e.key))) (at + key_size) (ending_kind (calls.ending_of e.ending) ∷ [])) (at + (key_size + 1)) w
-    ≡ splice s at (joined record_bytes (records_of (Some e)))
-unfolding record_bytes
-record_put s at e w h l =
-    let b : List ℕ = bytes key_size (num e.key) in
-    let x : ℕ = ending_kind (calls.ending_of e.ending) in
-    let n : length w ≡ node_size = ap length h ∙ length_evicted (evicted_in (calls.ending_of e.ending)) in
-    rw (
-      splice_next s at key_size b (x ∷ []) (length_bytes key_size (num e.key)) (omega arith),
-      splice_next s at (key_size + 1) (b ++ (x ∷ [])) w (simp (length-append, length_bytes)) (omega arith),
-      h,
-      one_joined (record { key = num e.key; ending = calls.ending_of e.ending }),
-    )
-    (simp append_assoc)
+-- the record of an ended pending, as it is put into a run that is as long: key, kind, and then the evicted node or zero bytes
+module _ (s : List ℕ) (e : ended.EndedPending) (l : length s ≡ record_size) {k : List ℕ} {x : ℕ} (ek : k ≡ bytes key_size (num e.key)) (ex : x ≡ ending_kind (calls.ending_of e.ending)) where
+  abbrev kind_put : List ℕ
+  kind_put = set (put_mid 0 32 s k) 32 x
 
-pub none_put : (s : List ℕ) (at : ℕ) (o : Option ended.EndedPending) → ((e : ended.EndedPending) → o ≡ Some e → ⊥) → s ≡ splice s at (joined record_bytes (records_of o))
-unfolding joined
-none_put s at None n = sym (splice_nil s at)
-none_put s at (Some e) n = absurd (n e refl)
+  kind_is : kind_put ≡ splice s 0 (bytes key_size (num e.key) ++ (x ∷ []))
+  kind_is = set_more s 0 32 (bytes key_size (num e.key)) x (put_mid_splice s 0 32 ek (length_bytes key_size _)) (length_bytes key_size _) (omega arith)
+
+  pub record_put : {v w : List ℕ} → v ≡ w → w ≡ evicted_bytes (evicted_in (calls.ending_of e.ending)) → put_mid 33 47 kind_put v ≡ joined record_bytes (records_of (Some e))
+  unfolding record_bytes
+  record_put {v} {w} ev ew =
+      let b : List ℕ = bytes key_size (num e.key) in
+      let r : EndedPending = record { key = num e.key; ending = calls.ending_of e.ending } in
+      let n : length w ≡ node_size = ap length ew ∙ length_evicted (evicted_in r.ending) in
+      put_mid_splice kind_put 33 47 ev n
+      ∙ ap (λ (t : List ℕ). splice t 33 w) kind_is
+      ∙ splice_next s 0 33 (b ++ (x ∷ [])) w (simp (length-append, length_bytes)) (omega arith)
+      ∙ ap (splice s 0) (rw (ex, ew) (simp append_assoc))
+      ∙ splice_all s (record_bytes r) (l ∙ sym (length_record r))
+      ∙ sym (one_joined r)
+
+  pub plain_put : {v : List ℕ} → v ≡ zeros (length (take 47 (drop 33 kind_put))) → zeros node_size ≡ evicted_bytes (evicted_in (calls.ending_of e.ending))
+      → put_mid 33 47 kind_put v ≡ joined record_bytes (records_of (Some e))
+  plain_put ev ew =
+      let b : List ℕ = bytes key_size (num e.key) ++ (x ∷ []) in
+      let m : length b ≡ 33 = simp (length-append, length_bytes) in
+      let n : length kind_put ≡ record_size = ap length kind_is ∙ length_splice s 0 b (omega arith) ∙ l in
+      let o : length (take 47 (drop 33 kind_put)) ≡ node_size = simp (length-take, length-drop) (omega arith) in
+      record_put (ev ∙ ap zeros o) ew
 
 -- an ending that names no node
 pub no_evicted : (e : code.Ending) → ((n : stored.Node) → e ≡ ending.Placed (Some n) → ⊥) → zeros node_size ≡ evicted_bytes (evicted_in (calls.ending_of e))
@@ -131,24 +140,22 @@ no_evicted ending.Inserted h = refl
 no_evicted ending.FirstConfirmed h = refl
 
 -- a record as it is read
-module _ (s : List ℕ) (at : ℕ) where
-  pub loaded : (k : Key) → num k ≡ number (part s at key_size) → (x : Ending) → x ≡ ending_in (part s at record_size)
-      → ◌≡◌ {A = List EndedPending} (record { key = num k; ending = x } ∷ []) (record_in (part s at record_size) ∷ [])
+module _ (bs : List ℕ) where
+  pub loaded : (k : Key) → num k ≡ number (part bs 0 key_size) → (x : Ending) → x ≡ ending_in bs
+      → ◌≡◌ {A = List EndedPending} (record { key = num k; ending = x } ∷ []) (record_in bs ∷ [])
   unfolding record_in
-  loaded k e x o = rw (part_zero s at record_size key_size (omega arith), e, o)
+  loaded k e x o = rw (e, o)
 
   -- of a kind without an evicted node
-  pub loaded_plain : (get_or s (at + key_size) 0 ≡ evicting_kind → ⊥) → ending_of (get_or s (at + key_size) 0) ≡ ending_in (part s at record_size)
-  loaded_plain n = rw (get_d_part s at record_size key_size (omega arith), ne_eqb (get_or s (at + key_size) 0) evicting_kind n)
+  pub loaded_plain : (get_or bs key_size 0 ≡ evicting_kind → ⊥) → ending_of (get_or bs key_size 0) ≡ ending_in bs
+  loaded_plain n = rw (ne_eqb (get_or bs key_size 0) evicting_kind n)
 
   -- of the kind with one
-  pub loaded_evicted : (v : stored.Node) → v ≡ read_node (part s (at + (key_size + 1)) node_size) → get_or s (at + key_size) 0 ≡ evicting_kind → record_formed (part s at record_size) ≡ true
-      → (Ending.Placed (some (node_of v)) ≡ ending_in (part s at record_size)) × (node_codes v ≡ true)
+  pub loaded_evicted : (v : stored.Node) → v ≡ read_node (part bs (key_size + 1) node_size) → get_or bs key_size 0 ≡ evicting_kind → record_formed bs ≡ true
+      → (Ending.Placed (some (node_of v)) ≡ ending_in bs) × (node_codes v ≡ true)
   unfolding record_formed
   loaded_evicted v o n h =
-      let g : get_or (part s at record_size) key_size 0 ≡ evicting_kind = get_d_part s at record_size key_size (omega arith) ∙ n in
-      let p : part (part s at record_size) (key_size + 1) node_size ≡ part s (at + (key_size + 1)) node_size = part_part s at record_size (key_size + 1) node_size (omega arith) in
-      (rw (g, p, o, node_of_read (part s (at + (key_size + 1)) node_size)), rw (o, codes_read (part s (at + (key_size + 1)) node_size)) (rw (g, p) at h))
+      (rw (n, o, node_of_read (part bs (key_size + 1) node_size)), rw (o, codes_read (part bs (key_size + 1) node_size)) (rw n at h))
 
 -- on formed storage
 module _ (s : List ℕ) (l : length s ≡ storage_size) (h : Bytes s) (f : header_formed s ≡ true) where
@@ -170,33 +177,34 @@ module _ (s : List ℕ) (l : length s ≡ storage_size) (h : Bytes s) (f : heade
   front_back : splice s 0 header ≡ s
   front_back = rw header_is (splice_part s 0 header_size (omega arith))
 
-  pushed : (r : EndedPending) (v : List ℕ) (rest : ℕ) → record_bytes r ≡ v ++ blank rest → (n : ℕ) → n ≡ length (table_of s).queue → n < max_records
-      → splice (splice s (record_at n) v) record_count_at ((n + 1) ∷ []) ≡ requeued ((table_of s).queue ++ (r ∷ [])) s
-  pushed r v rest e n m i =
-      let w : length v ≤ record_size = omega (arith, ap length e, length-append v (blank rest), length_record r) in
+  pushed : (r : EndedPending) (n : ℕ) → n ≡ length (table_of s).queue → n < max_records
+      → splice (splice s (record_at n) (record_bytes r)) record_count_at ((n + 1) ∷ []) ≡ requeued ((table_of s).queue ++ (r ∷ [])) s
+  pushed r n m i =
+      let v : List ℕ = record_bytes r in
+      let w : length v ≡ record_size = length_record r in
       let g : length (splice header (record_at n) v) ≡ header_size = length_splice header (record_at n) v (omega (arith, length_of_header)) ∙ length_of_header in
       ap (λ (x : List ℕ). splice (splice x (record_at n) v) record_count_at ((n + 1) ∷ [])) (sym front_back)
       ∙ ap (λ (x : List ℕ). splice x record_count_at ((n + 1) ∷ [])) (splice_front s header (record_at n) v (omega (arith, length_of_header)) fits)
       ∙ splice_front s (splice header (record_at n) v) record_count_at ((n + 1) ∷ []) (omega arith) (omega arith)
       ∙ ap (splice s 0)
       (ap (λ (x : List ℕ). splice (splice x (record_at n) v) record_count_at ((n + 1) ∷ [])) (header_parts (table_of s))
-      ∙ parts_pushed (table_of s).settings (table_of s).queue r v rest e n m i ∙ sym (header_parts (with_queue ((table_of s).queue ++ (r ∷ [])) (table_of s))))
+      ∙ parts_pushed (table_of s).settings (table_of s).queue r n m i ∙ sym (header_parts (with_queue ((table_of s).queue ++ (r ∷ [])) (table_of s))))
 
-  -- one record, or none
-  pub pushed_record : (o : Option ended.EndedPending) → is_some o ≡ true → (n : ℕ) → n ≡ length (table_of s).queue → n + length (records_of o) ≤ max_records
-      → splice (splice s (record_at n) (joined record_bytes (records_of o))) record_count_at ((n + 1) ∷ []) ≡ requeued ((table_of s).queue ++ records_of o) s
-  unfolding blank
-  pushed_record None i n m f = clash i refl
-  pushed_record (Some e) i n m f =
+  -- the record of an ended pending, put behind the others and counted
+  pub pushed_record : (e : ended.EndedPending) (n at to : ℕ) {v : List ℕ} → n ≡ length (table_of s).queue → n < max_records → at ≡ record_at n → to - at ≡ record_size
+      → v ≡ joined record_bytes (records_of (Some e))
+      → set (put_mid at (to - at) s v) record_count_at (n + 1) ≡ requeued ((table_of s).queue ++ records_of (Some e)) s
+  pushed_record e n at to {v} m i j k ev =
       let r : EndedPending = record { key = num e.key; ending = calls.ending_of e.ending } in
-      ap (λ (x : List ℕ). splice (splice s (record_at n) x) record_count_at ((n + 1) ∷ [])) (one_joined r)
-      ∙ pushed r (record_bytes r) 0 (sym (append-nil (record_bytes r))) n m (omega arith)
+      let p : put_mid at (to - at) s v ≡ splice s (record_at n) (record_bytes r) =
+      put_mid_splice s at (to - at) (ev ∙ one_joined r) (length_record r ∙ sym k) ∙ ap (λ (x : ℕ). splice s x (record_bytes r)) j in
+      let w : length (splice s (record_at n) (record_bytes r)) ≡ length s = length_splice s (record_at n) (record_bytes r) (omega (arith, length_record r)) in
+      rw p (set_splice (splice s (record_at n) (record_bytes r)) record_count_at (n + 1) (omega arith) ∙ pushed r n m i)
 
-  pub pushed_nothing : (o : Option ended.EndedPending) → is_some o ≡ false → s ≡ requeued ((table_of s).queue ++ records_of o) s
-  pushed_nothing None i = sym front_back ∙ ap (λ (q : List EndedPending). requeued q s) (sym (append-nil (table_of s).queue))
-  pushed_nothing (Some e) i = clash refl i
+  pub pushed_nothing : s ≡ requeued ((table_of s).queue ++ []) s
+  pushed_nothing = sym front_back ∙ ap (λ (q : List EndedPending). requeued q s) (sym (append-nil (table_of s).queue))
 
-  pub dropped : (n : ℕ) → n + 1 ≡ length (table_of s).queue → n < max_records
+  dropped : (n : ℕ) → n + 1 ≡ length (table_of s).queue → n < max_records
       → splice (splice (splice s records_at (part s (records_at + record_size) (n * record_size))) (record_at n) (zeros record_size)) record_count_at (n ∷ [])
       ≡ requeued (drop 1 (table_of s).queue) s
   dropped n m i =
@@ -216,6 +224,25 @@ module _ (s : List ℕ) (l : length s ≡ storage_size) (h : Bytes s) (f : heade
       ∙ ap (splice s 0)
       (ap (λ (x : List ℕ). splice (splice (splice x records_at (part x (records_at + record_size) (n * record_size))) (record_at n) (zeros record_size)) record_count_at (n ∷ [])) (header_parts (table_of s))
       ∙ parts_dropped (table_of s).settings (table_of s).queue n m i (zeros record_size) (blank_is record_size) ∙ sym (header_parts (with_queue (drop 1 (table_of s).queue) (table_of s)))))
+
+  -- the records behind the first moved down, the place that they leave zero, and one less counted
+  pub dropped_first : (n at to : ℕ) (d z : List ℕ) → n + 1 ≡ length (table_of s).queue → n < max_records → at ≡ record_at n → to ≡ at + record_size
+      → put_mid records_at (to - records_at) s d ≡ splice s records_at (part s (records_at + record_size) (to - records_at - record_size))
+      → z ≡ zeros (length (take (to - at) (drop at (put_mid records_at (to - records_at) s d))))
+      → set (put_mid at (to - at) (put_mid records_at (to - records_at) s d) z) record_count_at n ≡ requeued (drop 1 (table_of s).queue) s
+  dropped_first n at to d z m i j k e f =
+      let p : List ℕ = part s (records_at + record_size) (n * record_size) in
+      let a : List ℕ = splice s records_at p in
+      let w : length p ≡ n * record_size = length_part s (records_at + record_size) (n * record_size) (omega arith) in
+      let x : length a ≡ length s = length_splice s records_at p (omega arith) in
+      let c : to - records_at - record_size ≡ n * record_size = omega arith in
+      let e0 : put_mid records_at (to - records_at) s d ≡ a = e ∙ ap (λ (y : ℕ). splice s records_at (part s (records_at + record_size) y)) c in
+      let b : List ℕ = splice a (record_at n) (zeros record_size) in
+      let g : length (take (to - at) (drop at a)) ≡ record_size = simp (length-take, length-drop) (omega arith) in
+      let h : z ≡ zeros record_size = rw e0 at f ∙ ap zeros g in
+      let e1 : put_mid at (to - at) a z ≡ b = put_mid_splice a at (to - at) h (length-replicate {A = ℕ} record_size 0 ∙ omega arith) ∙ ap (λ (y : ℕ). splice a y (zeros record_size)) j in
+      let y : length b ≡ length a = length_splice a (record_at n) (zeros record_size) (omega arith) in
+      rw (e0, e1) (set_splice b record_count_at n (omega arith) ∙ dropped n m i)
 
   -- the oldest record
   pub oldest : 0 < length (table_of s).queue → take 1 (table_of s).queue ≡ record_in (part s records_at record_size) ∷ []

@@ -1,10 +1,10 @@
 -- Laws of runs of bytes: what is put within the front, and zero bytes.
 use mathlib.Core.Path.{◌≡◌, refl, sym, ap, ◌∙◌}
-use mathlib.Core.List.{List, [], ◌++◌, append-nil}
+use mathlib.Core.List.{List, [], ◌++◌}
 use Prim.Native.Nat.{ℕ, ◌+◌, ◌≤◌}
 use native.Mathlib.Nat.{zero-add}
 use native.Mathlib.Omega.{arith}
-use lib.ListN.{length, length-replicate, replicate-append-replicate, drop_of_length-le}
+use lib.ListN.{length, length-replicate, replicate-append-replicate}
 use Rattle.model.specs.Bytes.{splice, zeros}
 use Rattle.laws.proofs.Shifts.{splice_between, splice_inside}
 
@@ -27,12 +27,6 @@ blank_add i j = sym (replicate-append-replicate {A = ℕ} i j 0)
 pub length_blank : (k : ℕ) → length (blank k) ≡ k
 unfolding blank
 length_blank k = length-replicate {A = ℕ} k 0
-
-pub zeros_over : (s : List ℕ) (n : ℕ) → length s ≡ n → splice s 0 (zeros n) ≡ blank n
-unfolding splice blank
-zeros_over s n e =
-    let h : length s ≤ 0 + n = omega arith in
-    rw (length-replicate {A = ℕ} n 0, drop_of_length-le s h) (append-nil (zeros n))
 
 pub blank_front : (v : List ℕ) (n k : ℕ) → n ≡ length v + k → splice (blank n) 0 v ≡ v ++ blank k
 blank_front v n k e = rw (e, blank_add (length v) k) (splice_between [] (blank (length v)) (blank k) v 0 refl (length_blank (length v)))

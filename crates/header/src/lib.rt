@@ -3,77 +3,87 @@
 
 ghost use Rattle.std.specs.Prelude.{◌≡◌, Some, true, [], ◌∷◌, ◌++◌, ◌+◌, ◌≤◌, ◌<◌, leb, length, take, drop};
 ghost use Rattle.model.specs.Base.{joined};
-ghost use Rattle.model.specs.Bytes.{part, splice};
+ghost use Rattle.model.specs.Bucket.{max_nodes_per_bucket};
 ghost use Rattle.model.specs.Table.{empty_table, max_records};
 ghost use Rattle.model.specs.Sizes.{record_size, storage_size};
 ghost use Rattle.model.specs.Layout.{record_bytes, bytes_of, ending_of, record_in, table_of};
 ghost use Rattle.model.specs.Formed.{record_formed, header_formed};
+ghost use Rattle.model.specs.Step as step;
 ghost use Rattle.key.specs.Key.{num};
-ghost use Rattle.model.specs.Step.{settings_of};
 ghost use Rattle.bucket.specs.Calls as code;
 ghost use Rattle.bucket.specs.Calls.{records_of, ending_codes, applied_codes};
+ghost use Rattle.bucket.specs.Settings.{settings_of};
 ghost use Rattle.header.specs.Queue.{requeued};
 
-use bucket::{EndedPending, Ending};
+use bucket::{EndedPending, Ending, Settings};
 use key::Key;
 use node::Code;
 use storage::Layout;
 
 // Internal: the table's own key.
-pub fn local_key(s: &[u8]) -> Key
-    requires { length s.now ≡ storage_size }
+#[tactic(auto, unfolding(model::specs::Layout::table_of, model::specs::Layout::settings_in, model::specs::Bytes::part))]
+pub fn local_key(s: &[u8; Layout::STORAGE]) -> Key
     ensures { num result ≡ (table_of s.now).settings.local_key }
 {
-    Key::load(s, 0)
+    Key::load(&s[0..Layout::KEY])
 }
 
 // Internal: how long a new pending waits, in milliseconds.
-pub fn pending_timeout(s: &[u8]) -> u64
-    requires { length s.now ≡ storage_size }
+#[tactic(auto, unfolding(model::specs::Layout::table_of, model::specs::Layout::settings_in, model::specs::Bytes::part))]
+pub fn pending_timeout(s: &[u8; Layout::STORAGE]) -> u64
     ensures { result ≡ (table_of s.now).settings.bucket.pending_timeout }
 {
-    words::get_u64(s, Layout::TIMEOUT_AT)
+    words::get_u64(&s[Layout::TIMEOUT_AT..Layout::TIMEOUT_AT + Layout::TIME])
+}
+
+// Internal: the settings of all buckets.
+#[tactic(auto, unfolding(model::specs::Layout::table_of, model::specs::Layout::settings_in, model::specs::Bytes::part))]
+pub fn settings(s: &[u8; Layout::STORAGE]) -> Settings
+    ensures settings { settings_of result ≡ (table_of s.now).settings.bucket }
+    ensures in_range { header_formed s.now ≡ true → (result.max_incoming ≤ max_nodes_per_bucket) × (result.filter ≤ 1) }
+{
+    Settings {
+        pending_timeout: pending_timeout(s),
+        max_incoming: usize::from(s[Layout::MAX_INCOMING_AT]),
+        filter: s[Layout::BUCKET_FILTER_AT],
+    }
 }
 
 // Internal: how many records the queue holds.
-pub fn record_count(s: &[u8]) -> usize
-    requires { length s.now ≡ storage_size }
+pub fn record_count(s: &[u8; Layout::STORAGE]) -> usize
     ensures { result ≡ length (table_of s.now).queue }
 {
     usize::from(s[Layout::RECORD_COUNT_AT])
 }
 
-// Internal: the bytes of the record of an ended pending, if there is one, put at `at`.
-pub fn store_record(s: &mut [u8], at: usize, ended: Option<EndedPending>)
-    requires record_size_in_bounds { at + record_size ≤ length s.old }
-    requires ended_value { applied_codes ended ≡ true }
-    ensures { s.new ≡ splice s.old at (joined record_bytes (records_of ended)) }
+// Internal: the bytes become the record of an ended pending.
+pub fn store_record(s: &mut [u8], ended: EndedPending)
+    requires { (length s.old ≡ record_size) × (ending_codes ended.ending ≡ true) }
+    ensures { s.new ≡ joined record_bytes (records_of (Some ended)) }
 {
-    let Some(record) = ended else {
-        return;
-    };
-    record.key.store(s, at);
-    words::put_byte(s, at + Layout::KEY, record.ending.kind());
-    match record.ending {
-        Ending::Placed(Some(evicted)) => storage::store_node(s, at + (Layout::KEY + 1), evicted),
-        _ => words::put_zeros(s, at + (Layout::KEY + 1), Layout::NODE),
+    ended.key.store(&mut s[0..Layout::KEY]);
+    s[Layout::KEY] = ended.ending.kind();
+    let evicted = &mut s[Layout::KEY + 1..Layout::RECORD];
+    match ended.ending {
+        Ending::Placed(Some(node)) => storage::store_node(evicted, node),
+        _ => words::put_zeros(evicted),
     }
 }
 
 // Internal: the record of an ended pending, if there is one, behind the others.
-pub fn push_record(s: &mut [u8], ended: Option<EndedPending>)
-    requires s_len { length s.old ≡ storage_size }
+pub fn push_record(s: &mut [u8; Layout::STORAGE], ended: Option<EndedPending>)
     requires s_value { header_formed s.old ≡ true }
     requires ended_len_bound { length (table_of s.old).queue + length (records_of ended) ≤ max_records }
     requires ended_value { applied_codes ended ≡ true }
     ensures { s.new ≡ requeued ((table_of s.old).queue ++ records_of ended) s.old }
 {
-    if ended.is_none() {
+    let Some(ended) = ended else {
         return;
-    }
+    };
     let count = record_count(s);
-    store_record(s, Layout::RECORDS_AT + count * Layout::RECORD, ended);
-    words::put_byte(s, Layout::RECORD_COUNT_AT, (count + 1) as u8);
+    let at = Layout::RECORDS_AT + count * Layout::RECORD;
+    store_record(&mut s[at..at + Layout::RECORD], ended);
+    s[Layout::RECORD_COUNT_AT] = (count + 1) as u8;
 }
 
 // The ending of a kind. No `From<u8>`: the kind of a record with an evicted node is not among them, since the ending names that node.
@@ -91,43 +101,43 @@ fn ending_of(kind: u8) -> Ending
     }
 }
 
-// The record whose bytes stand at `at`.
-fn load_record(s: &[u8], at: usize) -> EndedPending
-    requires record_size_in_bounds { at + record_size ≤ length s.now }
-    requires record_size_value { record_formed (part s.now at record_size) ≡ true }
-    ensures result_value { records_of (Some result) ≡ record_in (part s.now at record_size) ∷ [] }
+// The record of its bytes.
+fn load_record(s: &[u8]) -> EndedPending
+    requires { (length s.now ≡ record_size) × (record_formed s.now ≡ true) }
+    ensures result_value { records_of (Some result) ≡ record_in s.now ∷ [] }
     ensures result_value_2 { applied_codes (Some result) ≡ true }
 {
-    let kind = s[at + Layout::KEY];
+    let kind = s[Layout::KEY];
     let ending = if kind == Layout::EVICTING_KIND {
-        Ending::Placed(Some(storage::load_node(s, at + (Layout::KEY + 1))))
+        Ending::Placed(Some(storage::load_node(&s[Layout::KEY + 1..Layout::RECORD])))
     } else {
         ending_of(kind)
     };
     EndedPending {
-        key: Key::load(s, at),
+        key: Key::load(&s[0..Layout::KEY]),
         ending,
     }
 }
 
 // The queue without its oldest record: the others move down, and the place that they leave is zero.
-fn drop_record(s: &mut [u8], n: usize)
-    requires s_len { length s.old ≡ storage_size }
+fn drop_record(s: &mut [u8; Layout::STORAGE], n: usize)
     requires s_value { header_formed s.old ≡ true }
     requires n_value { n + 1 ≡ length (table_of s.old).queue }
     requires n_lt_max_records { n < max_records }
     ensures { s.new ≡ requeued (drop 1 (table_of s.old).queue) s.old }
 {
-    let rest = n * Layout::RECORD;
-    words::shift_down(s, Layout::RECORDS_AT, Layout::RECORD, rest);
-    words::put_zeros(s, Layout::RECORDS_AT + rest, Layout::RECORD);
-    words::put_byte(s, Layout::RECORD_COUNT_AT, n as u8);
+    let last = Layout::RECORDS_AT + n * Layout::RECORD;
+    words::shift_down(
+        &mut s[Layout::RECORDS_AT..last + Layout::RECORD],
+        Layout::RECORD,
+    );
+    words::put_zeros(&mut s[last..last + Layout::RECORD]);
+    s[Layout::RECORD_COUNT_AT] = n as u8;
 }
 
 // Internal: the oldest record, taken out of the queue; none where the queue is empty.
-pub fn take_record(s: &mut [u8]) -> Option<EndedPending>
-    requires s_len { length s.old ≡ storage_size }
-    requires s_value { header_formed s.old ≡ true }
+pub fn take_record(s: &mut [u8; Layout::STORAGE]) -> Option<EndedPending>
+    requires { header_formed s.old ≡ true }
     ensures result_value { records_of result ≡ take 1 (table_of s.old).queue }
     ensures result_value_2 { applied_codes result ≡ true }
     ensures s_after { s.new ≡ requeued (drop 1 (table_of s.old).queue) s.old }
@@ -136,30 +146,31 @@ pub fn take_record(s: &mut [u8]) -> Option<EndedPending>
     if n == 0 {
         return None;
     }
-    let oldest = load_record(s, Layout::RECORDS_AT);
+    let oldest = load_record(&s[Layout::RECORDS_AT..Layout::RECORDS_AT + Layout::RECORD]);
     drop_record(s, n - 1);
     Some(oldest)
 }
 
 // Internal: the storage of a new table, whatever it held before.
 pub fn clear(
-    s: &mut [u8],
+    s: &mut [u8; Layout::STORAGE],
     local: Key,
     pending_timeout: u64,
     max_incoming: u8,
     table_filter: Code,
     bucket_filter: Code,
 )
-    requires s_len { length s.old ≡ storage_size }
     requires table_filter_value { leb table_filter 1 ≡ true }
     requires bucket_filter_value { leb bucket_filter 1 ≡ true }
-    ensures { s.new ≡ bytes_of (empty_table (settings_of (num local) pending_timeout max_incoming table_filter bucket_filter)) }
+    ensures { s.new ≡ bytes_of (empty_table (step.settings_of (num local) pending_timeout max_incoming table_filter bucket_filter)) }
 {
-    let n = s.len();
-    words::put_zeros(s, 0, n);
-    local.store(s, 0);
-    words::put_u64(s, Layout::TIMEOUT_AT, pending_timeout);
-    words::put_byte(s, Layout::MAX_INCOMING_AT, max_incoming);
-    words::put_byte(s, Layout::TABLE_FILTER_AT, table_filter);
-    words::put_byte(s, Layout::BUCKET_FILTER_AT, bucket_filter);
+    words::put_zeros(s);
+    local.store(&mut s[0..Layout::KEY]);
+    words::put_u64(
+        &mut s[Layout::TIMEOUT_AT..Layout::TIMEOUT_AT + Layout::TIME],
+        pending_timeout,
+    );
+    s[Layout::MAX_INCOMING_AT] = max_incoming;
+    s[Layout::TABLE_FILTER_AT] = table_filter;
+    s[Layout::BUCKET_FILTER_AT] = bucket_filter;
 }

@@ -1,4 +1,4 @@
--- Laws of a bucket in the storage's bytes.
+-- Laws of a bucket in its bytes.
 pub mod Quiet
 pub mod Places
 pub mod Moves

@@ -3,30 +3,28 @@ use mathlib.Core.Path.{◌≡◌, refl, sym, ap, ◌∙◌}
 use mathlib.Core.Bool.{Bool, true, false, not, ◌&&◌, and-true, and-false}
 use mathlib.Core.List.{List, [], ◌∷◌, ◌++◌, append-nil, append_assoc}
 use mathlib.Core.Logic.{⊎_elim}
-use Prim.Native.Nat.{ℕ, zero, suc, ◌+◌, ◌*◌, ◌≤◌, ◌<◌}
+use Prim.Native.Nat.{ℕ, zero, suc, ◌+◌, ◌≤◌, ◌<◌}
 use native.Mathlib.Omega.{arith}
 use lib.Dec.{eqb}
-use lib.ListN.{length, length-append, drop_of_length-le}
+use lib.ListN.{length, get_or, length-append, drop_of_length-le}
 use mir.Val.{bool_byte}
 use lib.Seq.{take_all, take-append-le, drop-append-le}
 use borrow.Author.Tests.{eqb-true, eqb-false}
 use Rattle.model.specs.Base.{select, tabulate}
 use Rattle.model.specs.Bytes.{part}
 use Rattle.model.specs.Node.{Node}
-use Rattle.model.specs.Sizes.{key_size, value_size, node_size, bucket_size}
-use Rattle.model.specs.Bucket.{max_nodes_per_bucket}
-use Rattle.model.specs.Layout.{node_in}
+use Rattle.model.specs.Sizes.{key_size, value_size}
+use Rattle.model.specs.Layout.{node_in, place_in}
 use Rattle.laws.proofs.Tests.{split}
 use Rattle.laws.proofs.Lists.{lt_or_le, length_tabulate, tabulate_one_more}
-use Rattle.laws.proofs.Parts.{part_part}
 use Rattle.laws.proofs.KeepLists.{more, length_select_insert}
 use Rattle.places.specs.Places.{remove_at}
 use Rattle.node.specs.Node.{value_of}
 use Rattle.storage.specs.Read.{read_value}
 use Rattle.storage.proofs.Nodes.{value_of_read}
 use Rattle.well_formed.specs.Tests.{node_at, nodes_here}
-use Rattle.well_formed.proofs.Places.{place_part}
 use Rattle.held.specs.Held.{others}
+use Rattle.held.proofs.Quiet.{nodes_are}
 
 -- one place left out
 
@@ -81,21 +79,21 @@ count_more {A} p f skip j =
     apart : j ≤ skip → (j ≡ skip → ⊥) → j < skip
     apart h n = omega (arith, h, n)
 
-pub count_none : (p : Node → Bool) (s : List ℕ) (at skip : ℕ) → 0 ≡ length (select p (others s at 0 skip))
-unfolding others nodes_here tabulate
-count_none p s at zero = refl
-count_none p s at (suc skip) = refl
+pub count_none : (p : Node → Bool) (bs : List ℕ) (skip : ℕ) → 0 ≡ length (select p (remove_at skip (nodes_here bs 0)))
+unfolding nodes_here tabulate
+count_none p bs zero = refl
+count_none p bs (suc skip) = refl
 
-pub others_more : (p : Node → Bool) (s : List ℕ) (at skip j : ℕ)
-    → length (select p (others s at (j + 1) skip)) ≡ length (select p (others s at j skip)) + bool_byte (p (node_at (part s at bucket_size) j) && not (eqb j skip))
-unfolding others nodes_here
-others_more p s at skip j = count_more p (node_at (part s at bucket_size)) skip j
+pub count_next : (p : Node → Bool) (bs : List ℕ) (skip j : ℕ)
+    → length (select p (remove_at skip (nodes_here bs (j + 1)))) ≡ length (select p (remove_at skip (nodes_here bs j))) + bool_byte (p (node_in (place_in bs j)) && not (eqb j skip))
+unfolding nodes_here node_at
+count_next p bs skip j = count_more p (node_at bs) skip j
 
--- the value of place j
-pub place_value : (s : List ℕ) (at j : ℕ) → j < max_nodes_per_bucket
-    → value_of (read_value (part s (at + (2 + j * node_size + (key_size + 2))) value_size)) ≡ (node_at (part s at bucket_size) j).value
-unfolding node_at node_in
-place_value s at j h =
-    let a : at + (2 + j * node_size + (key_size + 2)) ≡ at + (2 + j * node_size) + (key_size + 2) = omega arith in
-    value_of_read (part s (at + (2 + j * node_size + (key_size + 2))) value_size)
-    ∙ rw (a, place_part s at j h, part_part s (at + (2 + j * node_size)) node_size (key_size + 2) value_size (omega arith))
+pub others_are : (bs : List ℕ) (skip : ℕ) → remove_at skip (nodes_here bs (get_or bs 0 0)) ≡ others bs skip
+unfolding others
+others_are bs skip = ap (remove_at skip) (nodes_are bs)
+
+-- the value of a node
+pub value_is : (bs : List ℕ) → value_of (read_value (part bs (key_size + 2) value_size)) ≡ (node_in bs).value
+unfolding node_in
+value_is bs = value_of_read (part bs (key_size + 2) value_size)

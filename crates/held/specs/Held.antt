@@ -1,44 +1,37 @@
--- A bucket without a pending in the storage's bytes, and the nodes of its places.
-use Rattle.std.specs.Prelude.{ℕ, ◌≤◌, ◌≡◌, List, length}
+-- A bucket without a pending in its bytes, and its nodes but one.
+use Rattle.std.specs.Prelude.{ℕ, ◌≤◌, ◌≡◌, List, length, get_or}
 use Rattle.std.proofs.Math.Option.{none}
-use Rattle.model.specs.Bytes.{part, splice}
 use Rattle.model.specs.Node.{Node}
 use Rattle.model.specs.Result.{BucketInsertResult, UpdateResult}
-use Rattle.model.specs.Bucket.{Bucket, BucketSettings, max_nodes_per_bucket, nodes, num_entries, put, take_out, reinsert, status_result, insert_full}
+use Rattle.model.specs.Bucket.{Bucket, BucketSettings, max_nodes_per_bucket, nodes, put, take_out, reinsert, status_result, insert_full}
 use Rattle.model.specs.Sizes.{bucket_size}
-use Rattle.model.specs.Layout.{bucket_bytes, bucket_in, settings_in}
+use Rattle.model.specs.Layout.{bucket_bytes, bucket_in}
 use Rattle.model.specs.Fits.{Different}
 use Rattle.places.specs.Places.{insert_at, remove_at}
-pub use Rattle.well_formed.specs.Tests.{nodes_here, place}
-
--- the bucket whose bytes stand at `at`
-abbrev pub bucket_here : List ℕ → ℕ → Bucket
-bucket_here s at = bucket_in (part s at bucket_size)
+pub use Rattle.well_formed.specs.Tests.{place}
 
 -- what question 2 says of a bucket's bytes (law: `quiet_if` of proofs/Quiet), and there is no pending
 pub record Quiet (bs : List ℕ) : Type 0 where
+  pub size : length bs ≡ bucket_size
   pub exact : bs ≡ bucket_bytes (bucket_in bs)
-  pub few : num_entries (bucket_in bs) ≤ max_nodes_per_bucket
+  pub few : get_or bs 0 0 ≤ max_nodes_per_bucket
+  pub first : get_or bs 1 0 ≤ get_or bs 0 0
   pub different : Different (nodes (bucket_in bs))
   pub pending : (bucket_in bs).pending ≡ none
 
--- the nodes of the first count places of the bucket at `at` with one place left out; a place past the count leaves out none
-unfoldable pub others : List ℕ → ℕ → ℕ → ℕ → List Node
-others s at count skip = remove_at skip (nodes_here s at count)
+-- the nodes of the bucket but the one at place `skip`; a place past them leaves out none
+unfoldable pub others : List ℕ → ℕ → List Node
+others bs skip = remove_at skip (nodes (bucket_in bs))
 
 -- n goes to place `to` of the bucket b, and the first connected place is `first` then
 pub record Goes (n : Node) (to first : ℕ) (b : Bucket) : Type 0 where
   pub there : nodes (put n b) ≡ insert_at to n (nodes b)
   pub until : first ≡ length (put n b).disconnected
 
--- the answer of the step x on the bucket at `at`, and the bytes that it leaves
-pub record Does {A : Type 0} (x : A × Bucket) (at : ℕ) (s : List ℕ) (answer : A) (left : List ℕ) : Type 0 where
+-- the answer of the step x on the bucket, and the bytes that it leaves
+pub record Does {A : Type 0} (x : A × Bucket) (answer : A) (left : List ℕ) : Type 0 where
   pub answers : answer ≡ x.0
-  pub leaves : left ≡ splice s at (bucket_bytes x.1)
-
--- the settings that the storage holds
-abbrev pub settings_here : List ℕ → BucketSettings
-settings_here s = (settings_in s).bucket
+  pub leaves : left ≡ bucket_bytes x.1
 
 -- the status step of a node that is held: m as it was, n as it is, of one key
 abbrev pub restated : BucketSettings → Node → Node → Bucket → UpdateResult × Bucket

@@ -1,227 +1,213 @@
-// Internal: a bucket of the lent storage that has no pending, changed in place: its nodes are found, moved and written as bytes. What is
-// left are the bytes of the bucket that the model's step leaves. `count` is the bucket's count, read by the caller.
-#![tactic(auto)]
+// Internal: a bucket of the lent storage that has no pending, by its bytes, and changed in place: its nodes are found, moved and written as bytes.
+// What is left are the bytes of the bucket that the model's step leaves.
+#![tactic(auto, unfolding(model::specs::Bytes::part))]
 
-ghost use Rattle.std.specs.Prelude.{◌≡◌, Bool, true, cond, ◌&&◌, List, [], ◌∷◌, ◌++◌, ℕ, ◌+◌, ◌-◌, ◌^◌, ◌≤◌, ◌<◌, eqb, leb, length, get_or};
+ghost use Rattle.std.specs.Prelude.{◌≡◌, Bool, true, ◌&&◌, List, ◌++◌, ℕ, ◌+◌, ◌-◌, ◌^◌, ◌≤◌, ◌<◌, leb, length, get_or};
+ghost use Rattle.std.specs.Fn.{FnReturnsAt};
 ghost use Rattle.model.specs.Base.{select};
-ghost use Rattle.model.specs.Bytes.{number, part, splice, zeros};
+ghost use Rattle.model.specs.Bytes.{part, zeros};
 ghost use Rattle.model.specs.Node.{connected_incoming};
 ghost use Rattle.model.specs.Call.{is_one, optional};
 ghost use Rattle.model.specs.Filter.{counted, ip_filter_fails, max_nodes_per_subnet_bucket};
-ghost use Rattle.model.specs.Bucket.{BucketSettings, max_nodes_per_bucket, nodes, incoming_nodes, put, take_out, insert, update_status, update_value, remove};
-ghost use Rattle.model.specs.Sizes.{node_size, time_size, place_at, bucket_size, timeout_at, max_incoming_at, bucket_filter_at};
-ghost use Rattle.model.specs.Layout.{node_bytes, bucket_bytes};
+ghost use Rattle.model.specs.Bucket.{BucketSettings, nodes, incoming_nodes, max_nodes_per_bucket, put, take_out, insert, update_status, update_value, remove};
+ghost use Rattle.model.specs.Sizes.{node_size, bucket_size};
+ghost use Rattle.model.specs.Layout.{node_in, node_bytes, bucket_bytes, bucket_in};
 ghost use Rattle.model.specs.Formed.{bucket_formed};
 ghost use Rattle.key.specs.Key.{num};
 ghost use Rattle.node.specs.Node.{value_of, node_of, value_codes, node_codes};
-ghost use Rattle.well_formed.specs.Tests.{node_at, nodes_here, place};
+ghost use Rattle.bucket.specs.Settings.{settings_of};
 ghost use Rattle.bucket.specs.Calls.{insert_result_of, update_result_of};
-ghost use Rattle.held.specs.Held.{bucket_here, Quiet, others, Goes, Does, settings_here, restated, inserted_full};
+ghost use Rattle.held.specs.Held.{Quiet, place, others, Goes, Does, restated, inserted_full};
 
-use bucket::{FailureReason, InsertResult, PendingNode, UpdateResult};
+use bucket::{FailureReason, InsertResult, PendingNode, Settings, UpdateResult};
 use key::Key;
 use node::{Code, Node, Value};
 use storage::Layout;
-pub use well_formed::position;
 
-// Internal: the bucket at `at` has no pending. Where its bytes pass question 2 too, the calls of this crate may be made on it.
-pub fn is_quiet(s: &[u8], at: usize) -> bool
-    requires { at + bucket_size ≤ length s.now }
-    ensures { (p : ℕ → Bool) (m : ℕ) → bucket_formed p m (part s.now at bucket_size) ≡ true → result ≡ true
-        → Quiet (part s.now at bucket_size) }
+// Internal: the bucket has no pending. Where its bytes pass question 2 too, the calls of this crate may be made on it.
+pub fn is_quiet(bucket: &[u8]) -> bool
+    requires { length bucket.now ≡ bucket_size }
+    ensures { (p : ℕ → Bool) (m : ℕ) → bucket_formed p m bucket.now ≡ true → result ≡ true → Quiet bucket.now }
 {
-    s[at + Layout::PENDING_AT] == 0
+    bucket[Layout::PENDING_AT] == 0
 }
 
-// The n bytes behind the node at `at` go down over it, and zero bytes stand behind them. This and the two that follow make two calls each:
-// one function for them would take the shift and the write as closures, and be longer than they are.
-fn close_place(s: &mut [u8], at: usize, n: usize)
-    requires { at + node_size + n ≤ length s.old }
-    ensures { s.new ≡ splice s.old at (part s.old (at + node_size) n ++ zeros node_size) }
+// Internal: the place of the key, or the count where no place has it.
+pub fn position(bucket: &[u8], key: Key) -> usize
+    requires { Quiet bucket.now }
+    ensures { result ≡ place (num key) (nodes (bucket_in bucket.now)) }
 {
-    words::shift_down(s, at, Layout::NODE, n);
-    words::put_zeros(s, at + n, Layout::NODE);
+    well_formed::position(bucket.as_array().unwrap(), usize::from(bucket[0]), key)
 }
 
-// The n bytes behind the node at `at` go down over it, and the node stands behind them.
-fn put_behind(s: &mut [u8], at: usize, n: usize, node: Node)
-    requires { (at + node_size + n ≤ length s.old) × (node_codes node ≡ true) }
-    ensures { s.new ≡ splice s.old at (part s.old (at + node_size) n ++ node_bytes (node_of node)) }
+// The first node of the run goes, the others go down over it, and zero bytes stand behind them. This and the two that follow make two calls
+// each: one function for them would take the shift and the write as closures, and be longer than they are.
+fn close_place(run: &mut [u8])
+    requires { node_size ≤ length run.old }
+    ensures { run.new ≡ part run.old node_size (length run.old - node_size) ++ zeros node_size }
 {
-    words::shift_down(s, at, Layout::NODE, n);
-    storage::store_node(s, at + n, node);
+    words::shift_down(run, Layout::NODE);
+    let rest = run.len() - Layout::NODE;
+    words::put_zeros(&mut run[rest..]);
 }
 
-// The n bytes at `at` go up by one node, and the node stands before them.
-fn put_before(s: &mut [u8], at: usize, n: usize, node: Node)
-    requires { (at + node_size + n ≤ length s.old) × (node_codes node ≡ true) }
-    ensures { s.new ≡ splice s.old at (node_bytes (node_of node) ++ part s.old at n) }
+// The first node of the run goes, the others go down over it, and this one stands behind them.
+fn put_behind(run: &mut [u8], node: Node)
+    requires { (node_size ≤ length run.old) × (node_codes node ≡ true) }
+    ensures { run.new ≡ part run.old node_size (length run.old - node_size) ++ node_bytes (node_of node) }
 {
-    words::shift_up(s, at, Layout::NODE, n);
-    storage::store_node(s, at, node);
+    words::shift_down(run, Layout::NODE);
+    let rest = run.len() - Layout::NODE;
+    storage::store_node(&mut run[rest..], node);
 }
 
-// The count and the first connected place of the bucket at `at`.
-fn put_counts(s: &mut [u8], at: usize, count: usize, first: usize)
-    requires { (at + 2 ≤ length s.old) × (count < 256) × (first < 256) }
-    ensures { s.new ≡ splice s.old at (count ∷ first ∷ []) }
+// The last node of the run goes, the others go up over it, and this one stands before them.
+fn put_before(run: &mut [u8], node: Node)
+    requires { (node_size ≤ length run.old) × (node_codes node ≡ true) }
+    ensures { run.new ≡ node_bytes (node_of node) ++ part run.old 0 (length run.old - node_size) }
 {
-    words::put_byte(s, at, count as u8);
-    words::put_byte(s, at + 1, first as u8);
+    words::shift_up(run, Layout::NODE);
+    storage::store_node(&mut run[0..Layout::NODE], node);
 }
 
 // Internal: the node at place pos goes, and the gap is closed.
-pub fn take_out(s: &mut [u8], at: usize, count: usize, pos: usize)
-    requires bucket_size_in_bounds { (at + bucket_size ≤ length s.old) × (count ≤ max_nodes_per_bucket) × (pos < count) }
-    requires count_value { (count ≡ get_or s.old at 0) × Quiet (part s.old at bucket_size) }
-    ensures { (k : ℕ) → place k (nodes (bucket_here s.old at)) ≡ pos
-        → s.new ≡ splice s.old at (bucket_bytes (take_out k (bucket_here s.old at))) }
+pub fn take_out(bucket: &mut [u8], pos: usize)
+    requires quiet { Quiet bucket.old }
+    requires held { pos < get_or bucket.old 0 0 }
+    ensures { (k : ℕ) → place k (nodes (bucket_in bucket.old)) ≡ pos → bucket.new ≡ bucket_bytes (take_out k (bucket_in bucket.old)) }
 {
-    let first = usize::from(s[at + 1]);
-    close_place(
-        s,
-        at + (Layout::PLACES_AT + pos * Layout::NODE),
-        (count - 1 - pos) * Layout::NODE,
-    );
-    put_counts(s, at, count - 1, first - usize::from(pos < first));
+    let count = usize::from(bucket[0]);
+    let first = usize::from(bucket[1]);
+    let from = Layout::PLACES_AT + pos * Layout::NODE;
+    let end = Layout::PLACES_AT + count * Layout::NODE;
+    close_place(&mut bucket[from..end]);
+    bucket[0] = (count - 1) as u8;
+    bucket[1] = (first - usize::from(pos < first)) as u8;
 }
 
 // Internal: the node is placed where there is room: connected at the end, disconnected just before the first connected.
-pub fn place(s: &mut [u8], at: usize, count: usize, node: Node)
-    requires bucket_size_in_bounds { (at + bucket_size ≤ length s.old) × (count < max_nodes_per_bucket) × (node_codes node ≡ true) }
-    requires count_value { (count ≡ get_or s.old at 0) × Quiet (part s.old at bucket_size) }
-    ensures { s.new ≡ splice s.old at (bucket_bytes (put (node_of node) (bucket_here s.old at))) }
+pub fn place(bucket: &mut [u8], node: Node)
+    requires quiet { Quiet bucket.old }
+    requires room { get_or bucket.old 0 0 < max_nodes_per_bucket }
+    requires codes { node_codes node ≡ true }
+    ensures { bucket.new ≡ bucket_bytes (put (node_of node) (bucket_in bucket.old)) }
 {
-    let first = usize::from(s[at + 1]);
-    if node.is_connected() {
-        put_before(s, at + (Layout::PLACES_AT + count * Layout::NODE), 0, node);
-        put_counts(s, at, count + 1, first);
+    let count = usize::from(bucket[0]);
+    let first = usize::from(bucket[1]);
+    let (to, first) = if node.is_connected() {
+        (count, first)
     } else {
-        put_before(
-            s,
-            at + (Layout::PLACES_AT + first * Layout::NODE),
-            (count - first) * Layout::NODE,
-            node,
-        );
-        put_counts(s, at, count + 1, first + 1);
-    }
+        (first, first + 1)
+    };
+    let from = Layout::PLACES_AT + to * Layout::NODE;
+    let end = Layout::PLACES_AT + (count + 1) * Layout::NODE;
+    put_before(&mut bucket[from..end], node);
+    bucket[0] = (count + 1) as u8;
+    bucket[1] = first as u8;
 }
 
 // The node at place pos goes, and one of its key is put at place `to` of the others; `first` is the first connected place then.
-fn replace_at(
-    s: &mut [u8],
-    at: usize,
-    count: usize,
-    pos: usize,
-    to: usize,
-    first: usize,
-    node: Node,
-)
-    requires bucket_size_in_bounds { (at + bucket_size ≤ length s.old) × (count ≤ max_nodes_per_bucket) × (pos < count) × (to < count) × (first ≤ count) }
-    requires count_value { (count ≡ get_or s.old at 0) × Quiet (part s.old at bucket_size) }
-    requires node_value { (node_codes node ≡ true) × (place (num node.key) (nodes (bucket_here s.old at)) ≡ pos) }
-    ensures { Goes (node_of node) to first (take_out (num node.key) (bucket_here s.old at))
-        → s.new ≡ splice s.old at (bucket_bytes (put (node_of node) (take_out (num node.key) (bucket_here s.old at)))) }
+fn replace_at(bucket: &mut [u8], pos: usize, to: usize, first: usize, node: Node)
+    requires quiet { Quiet bucket.old }
+    requires places { (pos < get_or bucket.old 0 0) × (to < get_or bucket.old 0 0) × (first ≤ get_or bucket.old 0 0) }
+    requires node { (node_codes node ≡ true) × (place (num node.key) (nodes (bucket_in bucket.old)) ≡ pos) }
+    requires goes { Goes (node_of node) to first (take_out (num node.key) (bucket_in bucket.old)) }
+    ensures { bucket.new ≡ bucket_bytes (put (node_of node) (take_out (num node.key) (bucket_in bucket.old))) }
 {
     if pos < to {
-        put_behind(
-            s,
-            at + (Layout::PLACES_AT + pos * Layout::NODE),
-            (to - pos) * Layout::NODE,
-            node,
-        );
+        let from = Layout::PLACES_AT + pos * Layout::NODE;
+        let end = Layout::PLACES_AT + (to + 1) * Layout::NODE;
+        put_behind(&mut bucket[from..end], node);
     } else {
-        put_before(
-            s,
-            at + (Layout::PLACES_AT + to * Layout::NODE),
-            (pos - to) * Layout::NODE,
-            node,
-        );
+        let from = Layout::PLACES_AT + to * Layout::NODE;
+        let end = Layout::PLACES_AT + (pos + 1) * Layout::NODE;
+        put_before(&mut bucket[from..end], node);
     }
-    put_counts(s, at, count, first);
+    bucket[1] = first as u8;
 }
 
 // Internal: the node at place pos goes, and one of its key is placed.
-pub fn replace(s: &mut [u8], at: usize, count: usize, pos: usize, node: Node)
-    requires bucket_size_in_bounds { (at + bucket_size ≤ length s.old) × (count ≤ max_nodes_per_bucket) × (pos < count) }
-    requires count_value { (count ≡ get_or s.old at 0) × Quiet (part s.old at bucket_size) }
-    requires node_value { (node_codes node ≡ true) × (place (num node.key) (nodes (bucket_here s.old at)) ≡ pos) }
-    ensures { s.new ≡ splice s.old at (bucket_bytes (put (node_of node) (take_out (num node.key) (bucket_here s.old at)))) }
+pub fn replace(bucket: &mut [u8], pos: usize, node: Node)
+    requires quiet { Quiet bucket.old }
+    requires held { pos < get_or bucket.old 0 0 }
+    requires node { (node_codes node ≡ true) × (place (num node.key) (nodes (bucket_in bucket.old)) ≡ pos) }
+    ensures { bucket.new ≡ bucket_bytes (put (node_of node) (take_out (num node.key) (bucket_in bucket.old))) }
 {
-    let first = usize::from(s[at + 1]);
+    let count = usize::from(bucket[0]);
+    let first = usize::from(bucket[1]);
     let rest = first - usize::from(pos < first);
     if node.is_connected() {
-        replace_at(s, at, count, pos, count - 1, rest, node);
+        replace_at(bucket, pos, count - 1, rest, node);
     } else {
-        replace_at(s, at, count, pos, rest, rest + 1, node);
+        replace_at(bucket, pos, rest, rest + 1, node);
     }
 }
 
-// Of the first count places of the bucket at `at` but `skip`, those that pass the test, which takes where a place stands.
-fn count_others<F: Fn(usize) -> bool>(at: usize, count: usize, skip: usize, passes: F) -> usize
-    requires in_bounds { (at + bucket_size < 2 ^ 64) × (count ≤ max_nodes_per_bucket) }
-    requires callable { (j : ℕ) → j < count → F.pre passes (at + place_at j) }
-    ensures { (s : List ℕ) (p : _)
-        → ((j : ℕ) (r : Bool) → j < count → F.post passes (at + place_at j) r → r ≡ p (node_at (part s at bucket_size) j))
-        → result ≡ length (select p (others s at count skip)) }
+// Of the nodes but the one at place `skip`, those that pass the test, which takes a node's bytes.
+fn count_others<F: Fn(&[u8; Layout::NODE]) -> bool>(bucket: &[u8], skip: usize, passes: F) -> usize
+    requires quiet { Quiet bucket.now }
+    requires callable { F.IsAlwaysCallable passes }
+    ensures { (p : _) → ((bytes : List ℕ) (r : Bool) → FnReturnsAt F.Fn passes bytes r → r ≡ p (node_in bytes))
+        → result ≡ length (select p (others bucket.now skip)) }
 {
+    let places = bucket.as_array().unwrap();
     let mut n: usize = 0;
-    for j in 0..count {
-        n += usize::from(passes(at + (Layout::PLACES_AT + j * Layout::NODE)) & (j != skip));
+    for j in 0..usize::from(bucket[0]) {
+        n += usize::from(passes(storage::place(places, j)) & (j != skip));
     }
     n
 }
 
-// Of the first count places but `skip`, those that are connected and incoming.
-fn incoming(s: &[u8], at: usize, count: usize, skip: usize) -> usize
-    requires { (at + bucket_size ≤ length s.now) × (count ≤ max_nodes_per_bucket) }
-    ensures { result ≡ length (incoming_nodes (others s.now at count skip)) }
+// Of the nodes but the one at place `skip`, those that are connected and incoming.
+fn incoming(bucket: &[u8], skip: usize) -> usize
+    requires { Quiet bucket.now }
+    ensures { result ≡ length (incoming_nodes (others bucket.now skip)) }
 {
-    count_others(at, count, skip, |place| well_formed::is_incoming(s, place))
+    count_others(bucket, skip, |node| well_formed::is_incoming(node))
 }
 
-// Of the first count places but `skip`, those whose values count against this one.
-fn counted(s: &[u8], at: usize, count: usize, skip: usize, value: Value) -> usize
-    requires { (at + bucket_size ≤ length s.now) × (count ≤ max_nodes_per_bucket) }
-    ensures { result ≡ length (counted (value_of value) (others s.now at count skip)) }
+// Of the nodes but the one at place `skip`, those whose values count against this one.
+fn counted(bucket: &[u8], skip: usize, value: Value) -> usize
+    requires { Quiet bucket.now }
+    ensures { result ≡ length (counted (value_of value) (others bucket.now skip)) }
 {
-    count_others(at, count, skip, |place| {
-        node::filter::counts(value, storage::load_value(s, place + Layout::VALUE_AT))
+    count_others(bucket, skip, |node| {
+        node::filter::counts(
+            value,
+            storage::load_value(&node[Layout::VALUE_AT..Layout::NODE]),
+        )
     })
 }
 
 // Internal: the node is connected and incoming, with max_incoming such nodes at other places than `skip`.
-pub fn is_max_incoming(s: &[u8], at: usize, count: usize, skip: usize, node: Node) -> bool
-    requires { (at + bucket_size ≤ length s.now) × (count ≤ max_nodes_per_bucket) }
+pub fn is_max_incoming(bucket: &[u8], settings: Settings, skip: usize, node: Node) -> bool
+    requires { Quiet bucket.now }
     ensures { result ≡ (connected_incoming (node_of node)
-        && leb (get_or s.now max_incoming_at 0) (length (incoming_nodes (others s.now at count skip)))) }
+        && leb settings.max_incoming (length (incoming_nodes (others bucket.now skip)))) }
 {
-    node.is_connected_incoming()
-        && usize::from(s[Layout::MAX_INCOMING_AT]) <= incoming(s, at, count, skip)
+    node.is_connected_incoming() && settings.max_incoming <= incoming(bucket, skip)
 }
 
 // Internal: the bucket filter fails for the value, with the values at other places than `skip`.
-pub fn fails_filter(s: &[u8], at: usize, count: usize, skip: usize, value: Value) -> bool
-    requires { (at + bucket_size ≤ length s.now) × (count ≤ max_nodes_per_bucket) }
-    ensures { result ≡ (eqb (get_or s.now bucket_filter_at 0) 1
-        && ip_filter_fails max_nodes_per_subnet_bucket (value_of value) (others s.now at count skip)) }
+pub fn fails_filter(bucket: &[u8], settings: Settings, skip: usize, value: Value) -> bool
+    requires { Quiet bucket.now }
+    ensures { result ≡ ((settings_of settings).filter
+        && ip_filter_fails max_nodes_per_subnet_bucket (value_of value) (others bucket.now skip)) }
 {
-    if s[Layout::BUCKET_FILTER_AT] == 1 && value.flag == 1 {
-        return node::filter::MAX_NODES_PER_SUBNET_BUCKET <= counted(s, at, count, skip, value);
+    if settings.filter == 1 && value.flag == 1 {
+        return node::filter::MAX_NODES_PER_SUBNET_BUCKET <= counted(bucket, skip, value);
     }
     false
 }
 
-// Internal: remove, on a bucket without a pending: no pending can be applied, so the answer is the same at any time.
-pub fn remove(s: &mut [u8], at: usize, key: Key) -> bool
-    requires { (at + bucket_size ≤ length s.old) × Quiet (part s.old at bucket_size) }
-    ensures { (c : BucketSettings) (time : ℕ)
-        → Does (remove c time (num key) (bucket_here s.old at)) at s.old result s.new }
+// Internal: remove. No pending can be applied, so the answer is the same at any time.
+pub fn remove(bucket: &mut [u8], key: Key) -> bool
+    requires { Quiet bucket.old }
+    ensures { (c : BucketSettings) (time : ℕ) → Does (remove c time (num key) (bucket_in bucket.old)) result bucket.new }
 {
-    let count = usize::from(s[at]);
-    let pos = position(s, at, count, key);
-    if pos < count {
-        take_out(s, at, count, pos);
+    let pos = position(bucket, key);
+    if pos < usize::from(bucket[0]) {
+        take_out(bucket, pos);
         return true;
     }
     false
@@ -229,164 +215,154 @@ pub fn remove(s: &mut [u8], at: usize, key: Key) -> bool
 
 // Internal: the status step on the node at place pos: it was `old` and becomes `node`, of the same key.
 pub fn step(
-    s: &mut [u8],
-    at: usize,
-    count: usize,
+    bucket: &mut [u8],
+    settings: Settings,
     pos: usize,
     old: Node,
     node: Node,
 ) -> UpdateResult
-    requires bucket_size_in_bounds { (at + bucket_size ≤ length s.old) × (count ≤ max_nodes_per_bucket) × (pos < count) }
-    requires count_value { (count ≡ get_or s.old at 0) × Quiet (part s.old at bucket_size) }
-    requires node_value { (node_codes node ≡ true) × (place (num node.key) (nodes (bucket_here s.old at)) ≡ pos) }
-    ensures { Does (restated (settings_here s.old) (node_of old) (node_of node) (bucket_here s.old at)) at s.old
-        (update_result_of result) s.new }
+    requires quiet { Quiet bucket.old }
+    requires held { pos < get_or bucket.old 0 0 }
+    requires node { (node_codes node ≡ true) × (place (num node.key) (nodes (bucket_in bucket.old)) ≡ pos) }
+    ensures { Does (restated (settings_of settings) (node_of old) (node_of node) (bucket_in bucket.old)) (update_result_of result) bucket.new }
 {
-    if fails_filter(s, at, count, pos, node.value) {
-        take_out(s, at, count, pos);
+    if fails_filter(bucket, settings, pos, node.value) {
+        take_out(bucket, pos);
         return UpdateResult::Failed(FailureReason::BucketFilter);
     }
-    if is_max_incoming(s, at, count, pos, node) {
-        take_out(s, at, count, pos);
+    if is_max_incoming(bucket, settings, pos, node) {
+        take_out(bucket, pos);
         return UpdateResult::Failed(FailureReason::TooManyIncoming);
     }
-    replace(s, at, count, pos, node);
+    replace(bucket, pos, node);
     bucket::status_result(old, node)
 }
 
-// Internal: update_status of the node at place pos, on a bucket without a pending.
+// Internal: update_status of the node at place pos.
 pub fn update_status_at(
-    s: &mut [u8],
-    at: usize,
-    count: usize,
+    bucket: &mut [u8],
+    settings: Settings,
     pos: usize,
     state: Code,
     direction: Code,
 ) -> UpdateResult
-    requires bucket_size_in_bounds { (at + bucket_size ≤ length s.old) × (count ≤ max_nodes_per_bucket) × (pos < count) }
-    requires count_value { (count ≡ get_or s.old at 0) × Quiet (part s.old at bucket_size) }
-    requires state_bound { (state ≤ 1) × (direction ≤ 2) }
-    ensures { (k : ℕ) → place k (nodes (bucket_here s.old at)) ≡ pos
-        → Does (update_status (settings_here s.old) k (is_one state) (optional direction) (bucket_here s.old at))
-        at s.old (update_result_of result) s.new }
+    requires quiet { Quiet bucket.old }
+    requires held { pos < get_or bucket.old 0 0 }
+    requires codes { (state ≤ 1) × (direction ≤ 2) }
+    ensures { (k : ℕ) → place k (nodes (bucket_in bucket.old)) ≡ pos
+        → Does (update_status (settings_of settings) k (is_one state) (optional direction) (bucket_in bucket.old)) (update_result_of result) bucket.new }
 {
-    let old = storage::load_node(s, at + (Layout::PLACES_AT + pos * Layout::NODE));
-    let node = old.with_status(state, direction);
-    step(s, at, count, pos, old, node)
+    let at = Layout::PLACES_AT + pos * Layout::NODE;
+    let old = storage::load_node(&bucket[at..at + Layout::NODE]);
+    step(
+        bucket,
+        settings,
+        pos,
+        old,
+        old.with_status(state, direction),
+    )
 }
 
-// Internal: update_status, on a bucket without a pending.
+// Internal: update_status.
 pub fn update_status(
-    s: &mut [u8],
-    at: usize,
+    bucket: &mut [u8],
+    settings: Settings,
     key: Key,
     state: Code,
     direction: Code,
 ) -> UpdateResult
-    requires bucket_size_in_bounds { (at + bucket_size ≤ length s.old) × Quiet (part s.old at bucket_size) }
-    requires state_bound { (state ≤ 1) × (direction ≤ 2) }
-    ensures { Does (update_status (settings_here s.old) (num key) (is_one state) (optional direction) (bucket_here s.old at))
-        at s.old (update_result_of result) s.new }
+    requires quiet { Quiet bucket.old }
+    requires codes { (state ≤ 1) × (direction ≤ 2) }
+    ensures { Does (update_status (settings_of settings) (num key) (is_one state) (optional direction) (bucket_in bucket.old)) (update_result_of result) bucket.new }
 {
-    let count = usize::from(s[at]);
-    let pos = position(s, at, count, key);
-    if pos < count {
-        return update_status_at(s, at, count, pos, state, direction);
+    let pos = position(bucket, key);
+    if pos < usize::from(bucket[0]) {
+        return update_status_at(bucket, settings, pos, state, direction);
     }
     UpdateResult::Failed(FailureReason::KeyNonExistent)
 }
 
-// Internal: update_value, on a bucket without a pending.
-pub fn update_value(s: &mut [u8], at: usize, key: Key, value: Value) -> UpdateResult
-    requires bucket_size_in_bounds { (at + bucket_size ≤ length s.old) × Quiet (part s.old at bucket_size) }
-    requires value_value { value_codes value ≡ true }
-    ensures { Does (update_value (settings_here s.old) (num key) (value_of value) (bucket_here s.old at)) at s.old
-        (update_result_of result) s.new }
+// Internal: update_value of the node at place pos.
+pub fn value_at(bucket: &mut [u8], settings: Settings, pos: usize, value: Value) -> UpdateResult
+    requires quiet { Quiet bucket.old }
+    requires held { pos < get_or bucket.old 0 0 }
+    requires codes { value_codes value ≡ true }
+    ensures { (k : ℕ) → place k (nodes (bucket_in bucket.old)) ≡ pos
+        → Does (update_value (settings_of settings) k (value_of value) (bucket_in bucket.old)) (update_result_of result) bucket.new }
 {
-    let count = usize::from(s[at]);
-    let pos = position(s, at, count, key);
-    if pos < count {
-        return value_at(s, at, count, pos, value);
-    }
-    UpdateResult::Failed(FailureReason::KeyNonExistent)
-}
-
-// Internal: update_value of the node at place pos, on a bucket without a pending.
-pub fn value_at(s: &mut [u8], at: usize, count: usize, pos: usize, value: Value) -> UpdateResult
-    requires bucket_size_in_bounds { (at + bucket_size ≤ length s.old) × (count ≤ max_nodes_per_bucket) × (pos < count) }
-    requires count_value { (count ≡ get_or s.old at 0) × Quiet (part s.old at bucket_size) × (value_codes value ≡ true) }
-    ensures { (k : ℕ) → place k (nodes (bucket_here s.old at)) ≡ pos
-        → Does (update_value (settings_here s.old) k (value_of value) (bucket_here s.old at)) at s.old
-        (update_result_of result) s.new }
-{
-    let old = storage::load_value(
-        s,
-        at + (Layout::PLACES_AT + pos * Layout::NODE + Layout::VALUE_AT),
-    );
-    if old.eq(value) {
+    let at = Layout::PLACES_AT + pos * Layout::NODE + Layout::VALUE_AT;
+    if storage::load_value(&bucket[at..at + Layout::VALUE]).eq(value) {
         return UpdateResult::NotModified;
     }
-    if fails_filter(s, at, count, pos, value) {
-        take_out(s, at, count, pos);
+    if fails_filter(bucket, settings, pos, value) {
+        take_out(bucket, pos);
         return UpdateResult::Failed(FailureReason::BucketFilter);
     }
-    storage::store_value(
-        s,
-        at + (Layout::PLACES_AT + pos * Layout::NODE + Layout::VALUE_AT),
-        value,
-    );
+    storage::store_value(&mut bucket[at..at + Layout::VALUE], value);
     UpdateResult::Updated
 }
 
-// insert of a node of a new key that passed the filter and the maximum, on a full bucket without a pending.
-fn insert_full(s: &mut [u8], at: usize, node: Node, time: u64) -> InsertResult
-    requires bucket_size_in_bounds { (at + bucket_size ≤ length s.old) × Quiet (part s.old at bucket_size) }
-    requires node_value { (node_codes node ≡ true) × (time + number (part s.old timeout_at time_size) < 2 ^ 64) }
-    ensures { Does (inserted_full (settings_here s.old) time (node_of node) (bucket_here s.old at)) at s.old
-        (insert_result_of result) s.new }
+// Internal: update_value.
+pub fn update_value(bucket: &mut [u8], settings: Settings, key: Key, value: Value) -> UpdateResult
+    requires quiet { Quiet bucket.old }
+    requires codes { value_codes value ≡ true }
+    ensures { Does (update_value (settings_of settings) (num key) (value_of value) (bucket_in bucket.old)) (update_result_of result) bucket.new }
 {
-    if node.is_connected() && 0 < s[at + 1] {
-        let deadline = time + words::get_u64(s, Layout::TIMEOUT_AT);
-        let key = Key::load(s, at + Layout::PLACES_AT);
+    let pos = position(bucket, key);
+    if pos < usize::from(bucket[0]) {
+        return value_at(bucket, settings, pos, value);
+    }
+    UpdateResult::Failed(FailureReason::KeyNonExistent)
+}
+
+// insert of a node of a new key that passed the filter and the maximum, on a full bucket.
+fn insert_full(bucket: &mut [u8], settings: Settings, node: Node, time: u64) -> InsertResult
+    requires quiet { Quiet bucket.old }
+    requires codes { node_codes node ≡ true }
+    requires deadline { time + settings.pending_timeout < 2 ^ 64 }
+    ensures { Does (inserted_full (settings_of settings) time (node_of node) (bucket_in bucket.old)) (insert_result_of result) bucket.new }
+{
+    if node.is_connected() && 0 < bucket[1] {
+        let deadline = time + settings.pending_timeout;
+        let key = Key::load(&bucket[Layout::PLACES_AT..Layout::PLACES_AT + Layout::KEY]);
         let pending = Some(PendingNode { node, deadline });
-        buckets::store_pending(s, at + Layout::PENDING_AT, pending);
+        buckets::store_pending(&mut bucket[Layout::PENDING_AT..Layout::BUCKET], pending);
         return InsertResult::Pending(key);
     }
     InsertResult::Full
 }
 
-// Internal: insert of a node of a key that is not held, on a bucket without a pending.
-pub fn insert_new(s: &mut [u8], at: usize, count: usize, node: Node, time: u64) -> InsertResult
-    requires bucket_size_in_bounds { (at + bucket_size ≤ length s.old) × (count ≡ get_or s.old at 0) × Quiet (part s.old at bucket_size) }
-    requires node_value { (node_codes node ≡ true) × (time + number (part s.old timeout_at time_size) < 2 ^ 64) }
-    requires count_le_max_nodes_per_bucket { (count ≤ max_nodes_per_bucket) × (place (num node.key) (nodes (bucket_here s.old at)) ≡ count) }
-    ensures { Does (insert (settings_here s.old) time (node_of node) (bucket_here s.old at)) at s.old
-        (insert_result_of result) s.new }
+// Internal: insert of a node of a key that is not held.
+pub fn insert_new(bucket: &mut [u8], settings: Settings, node: Node, time: u64) -> InsertResult
+    requires quiet { Quiet bucket.old }
+    requires codes { node_codes node ≡ true }
+    requires deadline { time + settings.pending_timeout < 2 ^ 64 }
+    requires absent { get_or bucket.old 0 0 ≤ place (num node.key) (nodes (bucket_in bucket.old)) }
+    ensures { Does (insert (settings_of settings) time (node_of node) (bucket_in bucket.old)) (insert_result_of result) bucket.new }
 {
-    if fails_filter(s, at, count, count, node.value) {
+    let count = usize::from(bucket[0]);
+    if fails_filter(bucket, settings, count, node.value) {
         return InsertResult::FailedFilter;
     }
-    if is_max_incoming(s, at, count, count, node) {
+    if is_max_incoming(bucket, settings, count, node) {
         return InsertResult::TooManyIncoming;
     }
     if count < model::MAX_NODES_PER_BUCKET {
-        place(s, at, count, node);
+        place(bucket, node);
         return InsertResult::Inserted;
     }
-    insert_full(s, at, node, time)
+    insert_full(bucket, settings, node, time)
 }
 
-// Internal: insert, on a bucket without a pending.
-pub fn insert(s: &mut [u8], at: usize, node: Node, time: u64) -> InsertResult
-    requires bucket_size_in_bounds { (at + bucket_size ≤ length s.old) × Quiet (part s.old at bucket_size) }
-    requires node_value { (node_codes node ≡ true) × (time + number (part s.old timeout_at time_size) < 2 ^ 64) }
-    ensures { Does (insert (settings_here s.old) time (node_of node) (bucket_here s.old at)) at s.old
-        (insert_result_of result) s.new }
+// Internal: insert.
+pub fn insert(bucket: &mut [u8], settings: Settings, node: Node, time: u64) -> InsertResult
+    requires quiet { Quiet bucket.old }
+    requires codes { node_codes node ≡ true }
+    requires deadline { time + settings.pending_timeout < 2 ^ 64 }
+    ensures { Does (insert (settings_of settings) time (node_of node) (bucket_in bucket.old)) (insert_result_of result) bucket.new }
 {
-    let count = usize::from(s[at]);
-    let pos = position(s, at, count, node.key);
-    if pos < count {
+    if position(bucket, node.key) < usize::from(bucket[0]) {
         return InsertResult::NodeExists;
     }
-    insert_new(s, at, count, node, time)
+    insert_new(bucket, settings, node, time)
 }

@@ -4,7 +4,6 @@ use mathlib.Core.Path.{◌≡◌, refl, sym, ap, ◌∙◌}
 use mathlib.Core.Bool.{Bool, true, false}
 use mathlib.Core.List.{List}
 use mathlib.Core.Option.{Option, none, some}
-use Rattle.model.specs.Bytes.{splice}
 use Rattle.model.specs.Value.{Value}
 use Rattle.model.specs.Node.{Node, with_status, with_value}
 use Rattle.model.specs.Result.{FailureReason, BucketInsertResult, UpdateResult, InsertResult, is_failed}
@@ -16,28 +15,22 @@ use Rattle.bucket.proofs.Rules.{reinsert_filter}
 use Rattle.bucket_update.specs.Again.{value_result}
 use Rattle.bucket_update.proofs.Rules.{both_failed, node_filtered, node_failed}
 use Rattle.bucket_update.proofs.Again.{held_steps, insert_steps, node_again, node_refused}
-use Rattle.held.specs.Held.{Does, bucket_here, settings_here, restated}
+use Rattle.held.specs.Held.{Does, restated}
 use Rattle.held.proofs.Steps.{does, does_as, cleared_none, placed_none, taken_none}
 
-module _ (s : List ℕ) (at : ℕ) where
-  abbrev b : Bucket
-  b = bucket_here s at
-
-  abbrev c : BucketSettings
-  c = settings_here s
-
+module _ (c : BucketSettings) (b : Bucket) where
   -- insert_or_update
 
   module _ (n : Node) (time : ℕ) where
-    pub filtered_does : {f : Bool} {a : Bool} {left : List ℕ} → f ≡ true → Does (remove c time n.key b) at s a left
-        → Does (insert_or_update_in c f time n b) at s (Answer.InsertOrUpdate (InsertResult.Failed FailureReason.TableFilter)) left
+    pub filtered_does : {f : Bool} {a : Bool} {left : List ℕ} → f ≡ true → Does (remove c time n.key b) a left
+        → Does (insert_or_update_in c f time n b) (Answer.InsertOrUpdate (InsertResult.Failed FailureReason.TableFilter)) left
     filtered_does e x = record { answers = rw e; leaves = x.leaves ∙ (rw e) }
 
-    pub held_does : {f : Bool} {a : Answer} {left : List ℕ} → f ≡ false → Does (insert_or_update_in c false time n b) at s a left → Does (insert_or_update_in c f time n b) at s a left
+    pub held_does : {f : Bool} {a : Answer} {left : List ℕ} → f ≡ false → Does (insert_or_update_in c false time n b) a left → Does (insert_or_update_in c f time n b) a left
     held_does e x = does_as (ap (λ (f : Bool). insert_or_update_in c f time n b) e) x
 
-    pub inserted_does : {f : Bool} {a : BucketInsertResult} {r : InsertResult} {left : List ℕ} → f ≡ false → holds n.key b ≡ false → r ≡ inserts a → Does (insert c time n b) at s a left
-        → Does (insert_or_update_in c f time n b) at s (Answer.InsertOrUpdate r) left
+    pub inserted_does : {f : Bool} {a : BucketInsertResult} {r : InsertResult} {left : List ℕ} → f ≡ false → holds n.key b ≡ false → r ≡ inserts a → Does (insert c time n b) a left
+        → Does (insert_or_update_in c f time n b) (Answer.InsertOrUpdate r) left
     inserted_does e h p x =
         record { answers = ap Answer.InsertOrUpdate (p ∙ ap inserts x.answers) ∙ (rw (e, h)); leaves = x.leaves ∙ (rw (e, h)) }
 
@@ -52,41 +45,41 @@ module _ (s : List ℕ) (at : ℕ) where
       steps : given ≡ held_steps c m n left
       steps = insert_steps c time b m n g k ∙ ap (held_steps c m n) (taken_none b p n.key n.connected)
 
-      pub old_refused : fails_bucket_filter c m.value left ≡ true → {t : List ℕ} → t ≡ splice s at (bucket_bytes left)
-          → Does given at s (Answer.InsertOrUpdate (InsertResult.Failed FailureReason.TooManyIncoming)) t
-      old_refused f {t} e = does given at s _ left t (steps ∙ rw f) e
+      pub old_refused : fails_bucket_filter c m.value left ≡ true → {t : List ℕ} → t ≡ bucket_bytes left
+          → Does given (Answer.InsertOrUpdate (InsertResult.Failed FailureReason.TooManyIncoming)) t
+      old_refused f {t} e = does (steps ∙ rw f) e
 
       module _ (f : fails_bucket_filter c m.value left ≡ false) where
-        pub held_many : is_max_incoming c n left ≡ true → {t : List ℕ} → t ≡ splice s at (bucket_bytes left)
-            → Does given at s (Answer.InsertOrUpdate (InsertResult.Failed FailureReason.TooManyIncoming)) t
-        held_many h {t} e = does given at s _ left t (steps ∙ rw (f, h)) e
+        pub held_many : is_max_incoming c n left ≡ true → {t : List ℕ} → t ≡ bucket_bytes left
+            → Does given (Answer.InsertOrUpdate (InsertResult.Failed FailureReason.TooManyIncoming)) t
+        held_many h {t} e = does (steps ∙ rw (f, h)) e
 
         module _ (h : is_max_incoming c n left ≡ false) where
-          pub new_refused : fails_bucket_filter c n.value left ≡ true → {t : List ℕ} → t ≡ splice s at (bucket_bytes left)
-              → Does given at s (Answer.InsertOrUpdate (InsertResult.Failed FailureReason.BucketFilter)) t
+          pub new_refused : fails_bucket_filter c n.value left ≡ true → {t : List ℕ} → t ≡ bucket_bytes left
+              → Does given (Answer.InsertOrUpdate (InsertResult.Failed FailureReason.BucketFilter)) t
           new_refused i {t} e =
-              does given at s _ left t
+              does
               (steps ∙ rw (f, h, i) (ap (λ (x : Bucket). (Answer.InsertOrUpdate (InsertResult.Failed FailureReason.BucketFilter), x)) (cleared_none left p n.key))) e
 
           pub held_put : fails_bucket_filter c n.value left ≡ false → {a : InsertResult} → a ≡ insert_updates (value_result m.value n.value) (status_result m n none)
-              → {t : List ℕ} → t ≡ splice s at (bucket_bytes (put n left)) → Does given at s (Answer.InsertOrUpdate a) t
+              → {t : List ℕ} → t ≡ bucket_bytes (put n left) → Does given (Answer.InsertOrUpdate a) t
           held_put i {a} r {t} e =
               let told : InsertResult = insert_updates (value_result m.value n.value) (status_result m n none) in
-              let d = does given at s (Answer.InsertOrUpdate told) (put n left) t (steps ∙ rw (f, h, i) (ap (λ (x : Bucket). (Answer.InsertOrUpdate told, x)) (placed_none left p n))) e in
+              let d : Does given (Answer.InsertOrUpdate told) t = does (steps ∙ rw (f, h, i) (ap (λ (x : Bucket). (Answer.InsertOrUpdate told, x)) (placed_none left p n))) e in
               record { answers = ap Answer.InsertOrUpdate r ∙ d.answers; leaves = d.leaves }
 
   -- update_node
 
   module _ (time k : ℕ) (v : Value) (u : Option Bool) where
-    pub out_does : {f : Bool} → f ≡ true → {a : Bool} {left : List ℕ} → Does (remove c time k b) at s a left
-        → Does (update_node_in c f time k v u b) at s (Answer.Update (UpdateResult.Failed FailureReason.TableFilter)) left
+    pub out_does : {f : Bool} → f ≡ true → {a : Bool} {left : List ℕ} → Does (remove c time k b) a left
+        → Does (update_node_in c f time k v u b) (Answer.Update (UpdateResult.Failed FailureReason.TableFilter)) left
     out_does {f} e x = does_as (node_filtered c f time k v u b e) (record { answers = refl; leaves = x.leaves })
 
-    pub kept_does : {f : Bool} → f ≡ false → {a : Answer} {left : List ℕ} → Does (update_node_in c false time k v u b) at s a left → Does (update_node_in c f time k v u b) at s a left
+    pub kept_does : {f : Bool} → f ≡ false → {a : Answer} {left : List ℕ} → Does (update_node_in c false time k v u b) a left → Does (update_node_in c f time k v u b) a left
     kept_does e x = does_as (ap (λ (f : Bool). update_node_in c f time k v u b) e) x
 
     -- the value's step failed
-    pub value_failed : {a : UpdateResult} {left : List ℕ} → Does (update_value c k v b) at s a left → is_failed a ≡ true → Does (update_node_in c false time k v u b) at s (Answer.Update a) left
+    pub value_failed : {a : UpdateResult} {left : List ℕ} → Does (update_value c k v b) a left → is_failed a ≡ true → Does (update_node_in c false time k v u b) (Answer.Update a) left
     value_failed x f = does_as (node_failed c false time k v u b refl (ap is_failed (sym x.answers) ∙ f)) (record { answers = ap Answer.Update x.answers; leaves = x.leaves })
 
   -- the node m of key k is held, there is no pending, and a state is given: the status's step on the node with the new value answers for both
@@ -111,5 +104,5 @@ module _ (s : List ℕ) (at : ℕ) where
         node_again c time b m k g own o u e v f
         ∙ ap (λ (y : Bucket). both (status_result m changed (reinsert c changed y).0, (reinsert c changed y).1)) (taken_none b p m.key u))
 
-    pub both_do : {a r : UpdateResult} {t : List ℕ} → Does (restated c m changed b) at s a t → r ≡ both_updates (value_result m.value v) a → Does (update_node_in c false time k v o b) at s (Answer.Update r) t
+    pub both_do : {a r : UpdateResult} {t : List ℕ} → Does (restated c m changed b) a t → r ≡ both_updates (value_result m.value v) a → Does (update_node_in c false time k v o b) (Answer.Update r) t
     both_do x q = does_as both_steps (record { answers = ap Answer.Update (q ∙ ap (both_updates (value_result m.value v)) x.answers); leaves = x.leaves })

@@ -1,12 +1,11 @@
--- What the test of one question tells, what `ok_or` tells of a survey, and the exit of a `?`.
-use mathlib.Core.Path.{◌≡◌, refl, subst}
+-- What the test of one question tells, and the exit of a `?`.
+use mathlib.Core.Path.{◌≡◌, refl}
 use mathlib.Core.Bool.{Bool, true, false, cond}
 use mathlib.Core.List.{List}
 use mathlib.Core.Option as math
 use mathlib.Core.Option.{none, some}
 use Prim.Native.Nat.{ℕ}
-use Rattle.std.specs.Prelude.{Option, Some, None, Result, Ok, Err, MatchOption}
-use Rattle.std.specs.Option.{ok_or}
+use Rattle.std.specs.Prelude.{Result}
 use Rattle.std.specs.Result.{IsErrAnd}
 use Rattle.std.proofs.lemmas.Result.{err_from_is_err_and}
 use Rattle.model.specs.Table.{Answer}
@@ -22,16 +21,6 @@ asked_fails q m false e = (refl, cc)
 pub asked_passes : (q : ℕ) (b : Bool) → ◌≡◌ {A = math.Option ℕ} none (cond b none (some q)) → b ≡ true
 asked_passes q true e = refl
 asked_passes q false e = absurd (cc)
-
--- what was surveyed, by what `ok_or` made of it
-
-pub told_some : {A : Type 0} (P : Type 0) (Q : A → Type 0) (o : Option A) {y : A} → ◌≡◌ {A = Result A Refusal} (Ok y) (ok_or o Refusal.Form) → MatchOption o P Q → Q y
-told_some P Q None e w = absurd (cc)
-told_some {A} P Q (Some x) {y} e w = let f : x ≡ y = cc in subst Q f w
-
-pub told_none : {A : Type 0} (P : Type 0) (Q : A → Type 0) (o : Option A) {r : Refusal} → ◌≡◌ {A = Result A Refusal} (Err r) (ok_or o Refusal.Form) → MatchOption o P Q → P × (r ≡ Refusal.Form)
-told_none P Q None e w = (w, cc)
-told_none P Q (Some x) e w = absurd (cc)
 
 -- the exit of a `?`: the listing answers the refusal that was met
 pub lists_refused : (r : Result ℕ Refusal) (e : Refusal) → IsErrAnd r (λ x. x ≡ e) → {s out : List ℕ} {o : BytesOutcome} → Lists (Answer.Refused (number_of e)) s out o

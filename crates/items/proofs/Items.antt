@@ -1,13 +1,13 @@
--- What is written of one node: bytes copied, and the bytes of an item by those of the node.
+-- What is written of one node: the bytes of an item by those of the node.
 use mathlib.Core.Path.{◌≡◌, refl, sym, ap, ◌∙◌}
 use mathlib.Core.Bool.{Bool, true, false, cond, ◌&&◌}
-use mathlib.Core.List.{List, [], ◌∷◌, ◌++◌, map, map-append, append_assoc}
+use mathlib.Core.List.{List, ◌∷◌, ◌++◌, map, map-append}
 use mathlib.Core.Option.{none, some}
-use Prim.Native.Nat.{ℕ, ◌+◌, ◌-◌, ◌*◌, ◌≤◌, ◌<◌}
-use native.Mathlib.Nat.{mul-le-mul_left}
+use Prim.Native.Nat.{ℕ, ◌+◌, ◌*◌, ◌≤◌}
+use native.Mathlib.Nat.{zero-add}
 use native.Mathlib.Omega.{arith}
 use lib.Dec.{eqb}
-use lib.ListN.{length, take, drop, length-append}
+use lib.ListN.{length, length-append}
 use borrow.Rule.Slice.PartMut.{put_mid}
 use borrow.Author.Tests.{ne_eqb}
 use Rattle.model.specs.Base.{same, joined}
@@ -16,15 +16,16 @@ use Rattle.model.specs.Value as model
 use Rattle.model.specs.Node.{Node}
 use Rattle.model.specs.Sizes.{key_size, value_size, node_size}
 use Rattle.model.specs.Call.{matches, in_net}
-use Rattle.model.specs.Layout.{flag_byte, value_bytes, node_bytes, item_bytes, value_in, node_in}
+use Rattle.model.specs.Layout.{flag_byte, value_bytes, node_bytes, item_bytes, node_in}
 use Rattle.model.specs.Formed.{node_codes}
 use Rattle.laws.proofs.Lists.{joined_append, joined_map, length_joined}
 use Rattle.laws.proofs.All.{all_any}
-use Rattle.laws.proofs.Parts.{length_part, part_part, part_zero, splice_next, slot_before}
-use Rattle.laws.proofs.Bytes.{length_bytes, number_back, Bytes_part}
+use Rattle.laws.proofs.Parts.{length_splice, splice_next}
+use Rattle.laws.proofs.Bytes.{length_bytes, number_back}
 use Rattle.laws.proofs.NodeBytes.{length_value, length_node, node_value}
 use Rattle.laws.proofs.NodeFormed.{node_back}
 use Rattle.words.proofs.Words.{put_mid_splice}
+use Rattle.key.proofs.Bytes.{splice_all}
 use Rattle.node.specs.declared.Value.{Value}
 use Rattle.node.specs.Node.{value_of}
 use Rattle.storage.specs.Read.{read_value}
@@ -33,15 +34,6 @@ use Rattle.items.specs.declared.Predicate.{Predicate}
 use Rattle.items.specs.declared.Form.{Form}
 use Rattle.items.specs.declared.Shape.{Shape}
 use Rattle.items.specs.Shape.{predicate_of, closest_item, closest_size, item_by, items_by, size_by}
-
--- bytes copied
-
--- n bytes of s, from `at` up to f, put over those of out from `to` up to e
-pub copied : (s out : List ℕ) {v : List ℕ} (at f to e n : ℕ) → f ≡ at + n → e ≡ to + n → f ≤ length s → v ≡ take (f - at) (drop at s) → put_mid to (e - to) out v ≡ splice out to (part s at n)
-unfolding part
-copied s out at f to e n k l h g =
-    let d : f - at ≡ n = omega arith in
-    put_mid_splice out to (e - to) (g ∙ ap (λ (i : ℕ). take i (drop at s)) d) (omega (arith, length_part s at n (omega arith)))
 
 -- the predicate
 
@@ -69,6 +61,10 @@ size_least Form.Key = omega arith
 size_least Form.ClosestValue = omega arith
 size_least (Form.PredicateValue p) = omega arith
 
+pub size_key : {f : Form} → f ≡ Form.Key → closest_size f ≡ key_size
+unfolding closest_size
+size_key e = rw e
+
 pub size_value : {f : Form} → f ≡ Form.ClosestValue → closest_size f ≡ key_size + value_size
 unfolding closest_size
 size_value e = rw e
@@ -84,56 +80,50 @@ length_item Form.Key n = length_bytes key_size n.key
 length_item Form.ClosestValue n = simp (length-append, length_bytes, length_value)
 length_item (Form.PredicateValue p) n = simp (length-append, length_bytes, length_value)
 
--- bytes put one behind the other
+-- bytes put behind those that are there, up to the end
+pub put_last : {t w : List ℕ} (o a b : List ℕ) (k n : ℕ) → t ≡ splice o 0 a → w ≡ b → length a ≡ k → length b ≡ n → length o ≡ k + n → put_mid k n t w ≡ a ++ b
+put_last {t} o a b k n e f l m h =
+    put_mid_splice t k n f m ∙ ap (λ (s : List ℕ). splice s k b) e ∙ ap (λ (i : ℕ). splice (splice o 0 a) i b) (sym (zero-add k)) ∙ splice_next o 0 k a b l (omega arith)
+    ∙ splice_all o (a ++ b) (simp length-append (omega arith))
 
-pub put_two : {t u : List ℕ} (o : List ℕ) (to k : ℕ) (a b : List ℕ) → length a ≡ k → to + k + length b ≤ length o → t ≡ splice o to a → u ≡ splice t (to + k) b
-    → u ≡ splice o to (a ++ b)
-put_two o to k a b l h e f = f ∙ rw e (splice_next o to k a b l h)
+-- bytes put at the start
+pub length_put : {w : List ℕ} (o a : List ℕ) (k : ℕ) → w ≡ a → length a ≡ k → k ≤ length o → length (put_mid 0 k o w) ≡ length o
+length_put o a k f l h = ap length (put_mid_splice o 0 k f l) ∙ length_splice o 0 a (omega arith)
 
-pub put_three : {t u v : List ℕ} (o : List ℕ) (to k : ℕ) (a : List ℕ) (m : ℕ) (b : List ℕ) → length a ≡ k → to + (k + 1) + length b ≤ length o → t ≡ splice o to a
-    → u ≡ splice t (to + k) (m ∷ []) → v ≡ splice u (to + (k + 1)) b → v ≡ splice o to (a ++ (m ∷ b))
-put_three o to k a m b l h e f g =
-    put_two o to (k + 1) (a ++ (m ∷ [])) b (simp length-append (omega arith)) h (put_two o to k a (m ∷ []) l (omega arith) e f) g
-    ∙ ap (splice o to) (append_assoc a (m ∷ []) b)
+-- bytes put over all that are there
+pub put_all_of : {w : List ℕ} (o a : List ℕ) (k : ℕ) → w ≡ a → length a ≡ k → length o ≡ k → put_mid 0 k o w ≡ a
+put_all_of o a k f l h = put_mid_splice o 0 k f l ∙ splice_all o a (omega arith)
 
 -- the bytes of a node, part by part
 
-module _ (s : List ℕ) (at : ℕ) (h : Bytes s) (l : at + node_size ≤ length s) where
-  abbrev bs : List ℕ
-  bs = part s at node_size
-
-  pub key_bytes : bytes key_size (node_in bs).key ≡ part s at key_size
+module _ (bs : List ℕ) (h : Bytes bs) (l : length bs ≡ node_size) where
+  pub key_bytes : bytes key_size (node_in bs).key ≡ part bs 0 key_size
   unfolding node_in
-  key_bytes = rw (part_zero s at node_size key_size (omega arith)) (number_back s at key_size (omega arith) h)
+  key_bytes = number_back bs 0 key_size (omega arith) h
 
   module _ (c : node_codes bs ≡ true) where
-    pub node_bytes_lem : node_bytes (node_in bs) ≡ bs
-    node_bytes_lem = node_back bs (length_part s at node_size l) (Bytes_part s at node_size h) c
+    pub value_bytes_lem : value_bytes (node_in bs).value ≡ part bs (key_size + 2) value_size
+    value_bytes_lem = sym (node_value (node_in bs)) ∙ ap (λ (r : List ℕ). part r (key_size + 2) value_size) (node_back bs l h c)
 
-    pub value_bytes_lem : value_bytes (node_in bs).value ≡ part s (at + (key_size + 2)) value_size
-    value_bytes_lem =
-        sym (node_value (node_in bs)) ∙ ap (λ (r : List ℕ). part r (key_size + 2) value_size) node_bytes_lem ∙ part_part s at node_size (key_size + 2) value_size (omega arith)
-
-    pub item_key : item_bytes (closest_item Form.Key (node_in bs)) ≡ part s at key_size
+    pub item_key : item_bytes (closest_item Form.Key (node_in bs)) ≡ part bs 0 key_size
     unfolding closest_item item_bytes
     item_key = key_bytes
 
-    pub item_value : item_bytes (closest_item Form.ClosestValue (node_in bs)) ≡ part s at key_size ++ part s (at + (key_size + 2)) value_size
+    pub item_value : item_bytes (closest_item Form.ClosestValue (node_in bs)) ≡ part bs 0 key_size ++ part bs (key_size + 2) value_size
     unfolding closest_item item_bytes
     item_value = rw (key_bytes, value_bytes_lem)
 
     pub item_match : (p : Predicate)
-        → item_bytes (closest_item (Form.PredicateValue p) (node_in bs)) ≡ part s at key_size ++ (flag_byte (matches (predicate_of p) (node_in bs).value) ∷ part s (at + (key_size + 2)) value_size)
+        → item_bytes (closest_item (Form.PredicateValue p) (node_in bs)) ≡ part bs 0 key_size ++ (flag_byte (matches (predicate_of p) (node_in bs).value) ∷ part bs (key_size + 2) value_size)
     unfolding closest_item item_bytes
     item_match p = rw (key_bytes, value_bytes_lem)
 
 -- the predicate of the value that is read
-pub match_read : (s : List ℕ) (at : ℕ) (x : Predicate) (v : Value) (r : Bool) → v ≡ read_value (part s (at + (key_size + 2)) value_size) → r ≡ matches (predicate_of x) (value_of v)
-    → flag_byte r ≡ flag_byte (matches (predicate_of x) (node_in (part s at node_size)).value)
+pub match_read : (bs : List ℕ) (x : Predicate) (v : Value) (r : Bool) → v ≡ read_value (part bs (key_size + 2) value_size) → r ≡ matches (predicate_of x) (value_of v)
+    → flag_byte r ≡ flag_byte (matches (predicate_of x) (node_in bs).value)
 unfolding node_in
-match_read s at x v r e f =
-    ap flag_byte (f ∙ ap (λ (w : Value). matches (predicate_of x) (value_of w)) e ∙ ap (matches (predicate_of x)) (value_of_read (part s (at + (key_size + 2)) value_size))
-    ∙ ap (λ (b : List ℕ). matches (predicate_of x) (value_in b)) (sym (part_part s at node_size (key_size + 2) value_size (omega arith))))
+match_read bs x v r e f =
+    ap flag_byte (f ∙ ap (λ (w : Value). matches (predicate_of x) (value_of w)) e ∙ ap (matches (predicate_of x)) (value_of_read (part bs (key_size + 2) value_size)))
 
 -- the items of some nodes
 
@@ -154,11 +144,3 @@ module _ (x : Shape) where
 pub nodes_written : (ns : List Node) → items_by Shape.Nodes ns ≡ joined node_bytes ns
 unfolding item_by item_bytes
 nodes_written ns = joined_map item_bytes (item_by Shape.Nodes) ns
-
--- an entry before the end of n entries
-module _ (f : Form) (i n l : ℕ) (h : i < n) (e : n * closest_size f ≤ l) where
-  pub entry_ends : i * closest_size f + closest_size f ≤ l
-  entry_ends = omega (arith, slot_before i n (closest_size f) h)
-
-  pub entry_index : i ≤ l
-  entry_index = omega (arith, slot_before i n (closest_size f) h, mul-le-mul_left i (size_least f))

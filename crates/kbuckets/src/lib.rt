@@ -1,5 +1,5 @@
 // Every entry point under its C name, on numbers and lent bytes: a library. crates/kbuckets_c exports each by the same name.
-#![tactic(auto, unfolding(codes::specs::Exported::exported))]
+#![tactic(auto, using(codes::proofs::Few::few_found, codes::proofs::Few::few_read, codes::proofs::Few::few_written, codes::proofs::Few::short), unfolding(codes::specs::Exported::exported))]
 
 ghost use Rattle.std.specs.Prelude.{◌≡◌, []};
 ghost use Rattle.model.specs.Call.{Listing, Call, KeyCall};
@@ -14,7 +14,7 @@ ghost use Rattle.kbuckets.specs.Version.{version};
 use codes::answers::{count, kind_code, put_insert, short_node, short_storage};
 use codes::{Answer, put_applied, put_bucket_insert, refused, update_code};
 use node::{NodeStatus, Slot, Value};
-use session::Moment;
+use session::{Hours, Moment};
 
 // 0x00MMmmpp: major, minor, patch.
 pub fn kbuckets_version() -> u32
@@ -86,7 +86,9 @@ pub fn kbuckets_update_node(
     update::update_node(storage, key, value, state, time).map_or_else(refused, update_code)
 }
 
-// Of one form with kbuckets_absent_insert: C has a name for each call.
+// Of one form with kbuckets_absent_insert: C has a name for each call. What fills `answer` stands in a `match`: of what a closure writes, its
+// caller's contract can say nothing.
+#[tactic(auto, using(codes::proofs::Thin::too_short, codes::proofs::Thin::insert_or_update_asked))]
 pub fn kbuckets_insert_or_update(
     storage: &mut [u8],
     key: &[u8],
@@ -117,18 +119,21 @@ pub fn kbuckets_insert_or_update(
         d,
         slot,
     };
+    let status = NodeStatus { state, direction };
     if answer.len() < Answer::BYTES {
-        return short_node(storage, key, value, state, direction, time);
+        return short_node(storage, key, value, status, time);
     }
-    let moment = Moment {
-        year,
-        month,
-        day,
-        minute,
+    let hours = Hours {
+        windows,
+        closed,
+        moment: Moment {
+            year,
+            month,
+            day,
+            minute,
+        },
     };
-    match update::insert_or_update(
-        storage, key, value, state, direction, time, windows, closed, moment,
-    ) {
+    match update::insert_or_update(storage, key, value, status, time, hours) {
         Ok(result) => put_insert(answer, result),
         Err(refusal) => refused(refusal),
     }
@@ -155,10 +160,12 @@ pub fn kbuckets_present_update(storage: &mut [u8], key: &[u8], state: u8, direct
 pub fn kbuckets_pending_update(storage: &mut [u8], key: &[u8], state: u8, direction: u8) -> u32
     ensures { Leaves result storage.new (exported (Call.on_key key.now (KeyCall.pending_update state direction)) storage.old) }
 {
-    entry::pending_update(storage, key, state, direction).map_or_else(refused, update_code)
+    let status = NodeStatus { state, direction };
+    entry::pending_update(storage, key, status).map_or_else(refused, update_code)
 }
 
-// Of one form with kbuckets_insert_or_update, as above.
+// Of one form with kbuckets_insert_or_update: C has a name for each call.
+#[tactic(auto, using(codes::proofs::Thin::too_short, codes::proofs::Thin::absent_insert_asked))]
 pub fn kbuckets_absent_insert(
     storage: &mut [u8],
     key: &[u8],
@@ -189,18 +196,21 @@ pub fn kbuckets_absent_insert(
         d,
         slot,
     };
+    let status = NodeStatus { state, direction };
     if answer.len() < Answer::BYTES {
-        return short_node(storage, key, value, state, direction, time);
+        return short_node(storage, key, value, status, time);
     }
-    let moment = Moment {
-        year,
-        month,
-        day,
-        minute,
+    let hours = Hours {
+        windows,
+        closed,
+        moment: Moment {
+            year,
+            month,
+            day,
+            minute,
+        },
     };
-    match entry::absent_insert(
-        storage, key, value, state, direction, time, windows, closed, moment,
-    ) {
+    match entry::absent_insert(storage, key, value, status, time, hours) {
         Ok(result) => put_bucket_insert(answer, result),
         Err(refusal) => refused(refusal),
     }
@@ -267,6 +277,7 @@ pub fn kbuckets_closest_values_predicate(
     ).map_or_else(refused, count)
 }
 
+#[tactic(auto, using(codes::proofs::Thin::too_short, codes::proofs::Thin::take_asked))]
 pub fn kbuckets_take_applied_pending(storage: &mut [u8], answer: &mut [u8]) -> u32
     ensures { Writes result storage.new answer.new (exported_with (Call.take_applied_pending) answer.old storage.old) }
 {
@@ -355,16 +366,20 @@ pub fn kbuckets_explain_insert_or_update(
         d,
         slot,
     };
-    let moment = Moment {
-        year,
-        month,
-        day,
-        minute,
+    let status = NodeStatus { state, direction };
+    let hours = Hours {
+        windows,
+        closed,
+        moment: Moment {
+            year,
+            month,
+            day,
+            minute,
+        },
     };
-    explain::explain_insert_or_update(
-        storage, key, value, state, direction, time, windows, closed, moment, output,
+    explain::explain_insert_or_update(storage, key, value, status, time, hours, output).map_or_else(
+        refused, count,
     )
-    .map_or_else(refused, count)
 }
 
 pub fn kbuckets_explain_remove(storage: &[u8], key: &[u8], time: u64, output: &mut [u8]) -> u32
@@ -396,12 +411,11 @@ pub fn kbuckets_explain_pending_update(
 ) -> u32
     ensures { Tells result output.new (explain_bytes key.now (KeyCall.pending_update state direction) output.old storage.now) }
 {
-    explain::explain_pending_update(storage, key, state, direction, output).map_or_else(
-        refused, count,
-    )
+    let status = NodeStatus { state, direction };
+    explain::explain_pending_update(storage, key, status, output).map_or_else(refused, count)
 }
 
-// Of one form with kbuckets_explain_insert_or_update, as above.
+// Of one form with kbuckets_explain_insert_or_update: C has a name for each call.
 pub fn kbuckets_explain_absent_insert(
     storage: &[u8],
     key: &[u8],
@@ -432,16 +446,20 @@ pub fn kbuckets_explain_absent_insert(
         d,
         slot,
     };
-    let moment = Moment {
-        year,
-        month,
-        day,
-        minute,
+    let status = NodeStatus { state, direction };
+    let hours = Hours {
+        windows,
+        closed,
+        moment: Moment {
+            year,
+            month,
+            day,
+            minute,
+        },
     };
-    explain::explain_absent_insert(
-        storage, key, value, state, direction, time, windows, closed, moment, output,
+    explain::explain_absent_insert(storage, key, value, status, time, hours, output).map_or_else(
+        refused, count,
     )
-    .map_or_else(refused, count)
 }
 
 // A table that survives a box swap: its held nodes as bytes, and a new table loaded with them.
@@ -463,7 +481,7 @@ pub fn kbuckets_read(storage: &mut [u8], bytes: &[u8]) -> u32
 pub fn kbuckets_b_new(bucket: &mut [u8], pending_timeout: u64, max_incoming: u8, filter: u8) -> u32
     ensures { Leaves result bucket.new (bucket_new pending_timeout max_incoming filter bucket.old) }
 {
-    bucket_calls::new(bucket, pending_timeout, max_incoming, filter).unwrap_or_else(refused)
+    bucket_calls::new(bucket, pending_timeout, max_incoming, filter).map_or_else(refused, |()| 0)
 }
 
 pub fn kbuckets_b_insert(
@@ -532,7 +550,7 @@ pub fn kbuckets_b_update_value(
 pub fn kbuckets_b_update_pending(bucket: &mut [u8], state: u8, direction: u8) -> u32
     ensures { Leaves result bucket.new (bucket_step (BucketCall.update_pending state direction) [] bucket.old) }
 {
-    bucket_calls::update_pending(bucket, state, direction).unwrap_or_else(refused)
+    bucket_calls::update_pending(bucket, state, direction).map_or_else(refused, |()| 0)
 }
 
 pub fn kbuckets_b_remove(bucket: &mut [u8], key: &[u8], time: u64) -> u32

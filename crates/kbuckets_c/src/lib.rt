@@ -144,7 +144,7 @@ pub extern "C" fn kbuckets_pending_update(
     kbuckets::kbuckets_pending_update(storage, key, state, direction)
 }
 
-// Of one form with kbuckets_insert_or_update, as above.
+// Of one form with kbuckets_insert_or_update: C has a name for each call.
 #[unsafe(no_mangle)]
 pub extern "C" fn kbuckets_absent_insert(
     storage: &mut [u8],
@@ -352,7 +352,7 @@ pub extern "C" fn kbuckets_explain_pending_update(
     kbuckets::kbuckets_explain_pending_update(storage, key, state, direction, output)
 }
 
-// Of one form with kbuckets_explain_insert_or_update, as above.
+// Of one form with kbuckets_explain_insert_or_update: C has a name for each call.
 #[unsafe(no_mangle)]
 pub extern "C" fn kbuckets_explain_absent_insert(
     storage: &[u8],

@@ -14,7 +14,7 @@ ghost use Rattle.key.specs.Answers.{option_of};
 ghost use Rattle.key.specs.Visits.{remaining, BitsFrom};
 
 // A key of 256 bits, or the distance of two: four words, w0 the most significant.
-#[derive(Clone, Copy, PartialEq, Eq, Default)]
+#[derive(Clone, Copy, PartialEq, Eq, Default, Debug)]
 pub struct Key {
     pub w0: u64,
     pub w1: u64,
@@ -33,7 +33,7 @@ impl Key {
     pub fn from_bytes(bytes: &[u8; Key::BYTES]) -> Key
         ensures { num result ≡ number bytes.now }
     {
-        Key::load(bytes, 0)
+        Key::load(bytes)
     }
 
     // The 32 bytes of the key.
@@ -41,32 +41,32 @@ impl Key {
         ensures { result ≡ bytes key_size (num self) }
     {
         let mut out = [0; Key::BYTES];
-        self.store(&mut out, 0);
+        self.store(&mut out);
         out
     }
 
-    // Internal: the key whose bytes stand at `at`.
-    pub fn load(s: &[u8], at: usize) -> Key
-        requires { at + key_size ≤ length s.now }
-        ensures { num result ≡ number (part s.now at key_size) }
+    // Internal: the key of a run of 32 bytes.
+    pub fn load(s: &[u8]) -> Key
+        requires { length s.now ≡ key_size }
+        ensures { num result ≡ number s.now }
     {
         Key {
-            w0: words::get_u64(s, at),
-            w1: words::get_u64(s, at + 8),
-            w2: words::get_u64(s, at + 16),
-            w3: words::get_u64(s, at + 24),
+            w0: words::get_u64(&s[0..8]),
+            w1: words::get_u64(&s[8..16]),
+            w2: words::get_u64(&s[16..24]),
+            w3: words::get_u64(&s[24..32]),
         }
     }
 
-    // Internal: the key's bytes, put at `at`.
-    pub fn store(self, s: &mut [u8], at: usize)
-        requires { at + key_size ≤ length s.old }
-        ensures { s.new ≡ splice s.old at (bytes key_size (num self)) }
+    // Internal: a run of 32 bytes becomes that of the key.
+    pub fn store(self, s: &mut [u8])
+        requires { length s.old ≡ key_size }
+        ensures { s.new ≡ bytes key_size (num self) }
     {
-        words::put_u64(s, at, self.w0);
-        words::put_u64(s, at + 8, self.w1);
-        words::put_u64(s, at + 16, self.w2);
-        words::put_u64(s, at + 24, self.w3);
+        words::put_u64(&mut s[0..8], self.w0);
+        words::put_u64(&mut s[8..16], self.w1);
+        words::put_u64(&mut s[16..24], self.w2);
+        words::put_u64(&mut s[24..32], self.w3);
     }
 
     // The keys are equal. Not the derived `==`: the tests are joined by & and not by &&, so that no branch is taken.

@@ -19,6 +19,11 @@ pub length_part : (s : List ℕ) (at k : ℕ) → at + k ≤ length s → length
 unfolding part
 length_part s at k h = simp (length-take, length-drop) (omega arith)
 
+-- the bytes from `at` to `at + k`, as a slice has them
+pub sliced : (s : List ℕ) (at k : ℕ) → take (at + k - at) (drop at s) ≡ part s at k
+unfolding part
+sliced s at k = ap (λ (n : ℕ). take n (drop at s)) (omega arith)
+
 pub part_none : (s : List ℕ) (at : ℕ) → part s at 0 ≡ []
 unfolding part
 part_none s at = refl

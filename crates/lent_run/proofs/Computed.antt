@@ -91,5 +91,5 @@ unfolding insert_by sort_by num
 sorted = refl
 
 pub in_order : {z a b d : FoundNode} {r : List FoundNode} → z ≡ found_at 0 0 → a ≡ found_at 3 0 → b ≡ found_at 1 1 → d ≡ found_at 2 2
-    → r ≡ sort_by far (take 3 (run z a b d)) ++ drop 3 (run z a b d) → r ≡ nearest_first
-in_order p q u v e = e ∙ rw (p, q, u, v) sorted
+    → r ≡ sort_by far (take 3 (run z a b d)) → r ++ drop 3 (run z a b d) ≡ nearest_first
+in_order p q u v e = rw (e, p, q, u, v) sorted

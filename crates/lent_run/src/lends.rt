@@ -105,5 +105,6 @@ pub(crate) fn ordered() -> [FoundNode; 16]
     run[0] = found(3, 0);
     run[1] = found(1, 1);
     run[2] = found(2, 2);
-    order::order_by(run, 3)
+    order::order(&mut run[0..3]);
+    run
 }

@@ -1,5 +1,5 @@
-// Lends buckets to `insert` and `update_status`, and a run of found nodes to `order`, through the functions beside them that take a bucket or an
-// array by value, checks what they answer and leave, and writes it. Every check is proved.
+// Lends buckets to `insert` and `update_status`, through the functions beside them that take a bucket by value, and a run of found nodes to
+// `order`, checks what they answer and leave, and writes it. Every check is proved.
 #![tactic(auto)]
 
 ghost use Rattle.std.specs.Prelude.{◌≡◌};
@@ -20,18 +20,18 @@ fn refused<T: Copy>(rt: &impl Print, call: &str, step: Step<Result<T, Refusal>>)
     prove!(refusal == Refusal::Form);
     prove!(step.bucket.count == 0);
     prove!(step.bucket.first_connected_pos == 1);
-    let question = refusal.number();
-    println!(rt; "none held, first connected place 1; {call}: refused with {question}")
+    println!(rt; "none held, first connected place 1; {call}: {refusal}")
 }
 
 fn inserted(rt: &impl Print) -> io::Result<()> {
     let step = lends::inserted();
     prove!(matches!(&step.result, Ok(InsertResult::Inserted)));
     prove!(step.bucket.count == 2);
-    let nodes = step.bucket.nodes;
+    let first = step.bucket.nodes[0].key;
+    let second = step.bucket.nodes[1].key;
     println!(rt;
         "32 and 33 inserted, connected: {}, {}",
-        nodes[0].key.w3, nodes[1].key.w3
+        first.w3, second.w3
     )
 }
 

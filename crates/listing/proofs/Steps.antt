@@ -8,7 +8,7 @@ use native.Mathlib.Nat.{mul-le-mul_right, le_trans}
 use native.Mathlib.Omega.{arith}
 use lib.Dec.{leb}
 use lib.ListN.{length, take, length-append}
-use borrow.Author.Tests.{leb-true, le-leb}
+use borrow.Author.Tests.{leb-true, le-leb, ne_eqb}
 use Rattle.model.specs.Base.{joined}
 use Rattle.model.specs.Node.{Node, EndedPending}
 use Rattle.model.specs.Bucket.{num_entries}
@@ -32,7 +32,7 @@ use Rattle.laws.proofs.Questions.{front_fails, front_passes}
 use Rattle.visit.specs.Passes.{held, visited_by, visit_all, applied_in, left_of}
 use Rattle.visit.proofs.Visitable.{visited_agree}
 use Rattle.visit.proofs.Counts.{left_none}
-use Rattle.visit.proofs.Applying.{Appliable, Applying, applying_done, applying_size, applying_header, applying_table, applying_formed}
+use Rattle.visit.proofs.Applying.{Appliable, Applying, applying_done, applying_header, applying_table, applying_formed}
 use Rattle.items.specs.declared.Form.{Form}
 use Rattle.items.specs.declared.Shape.{Shape}
 use Rattle.items.specs.Shape.{form_codes, item_by, size_by, shown_by}
@@ -132,9 +132,6 @@ module _ (x : Shape) (n now : ℕ) (is out s : List ℕ) where
         where
           done_all : w.done ≡ js
           done_all = sym (append-nil w.done) ∙ sym w.all
-
-      pub left_size : length s' ≡ storage_size
-      left_size = applying_size s now js p s' [] w
 
       pub left_header : header_formed s' ≡ true
       left_header = applying_header s now js p s' [] w
@@ -314,6 +311,14 @@ pub first_five_lem : (target : List ℕ) (now : ℕ) (s : List ℕ) {codes codes
     → first_failed (first_five target codes' (some now) s) ≡ o
 unfolding failed_of_five
 first_five_lem target now s e f = ap (λ (b : Bool). first_failed (first_five target b (some now) s)) (sym e) ∙ f
+
+-- a storage of another length
+module _ (s : List ℕ) (n : length s ≡ storage_size → ⊥) where
+  pub three_unsized : (now : ℕ) → first_failed (first_three now s) ≡ some 1
+  three_unsized now = rw (ne_eqb (length s) storage_size n)
+
+  pub five_unsized : (target : List ℕ) (codes : Bool) (now : ℕ) → first_failed (first_five target codes (some now) s) ≡ some 1
+  five_unsized target codes now = rw (ne_eqb (length s) storage_size n)
 
 pub iter_asked : (n now : ℕ) (out s : List ℕ) → first_failed (all_questions (Call.list Listing.iter n now out) s) ≡ first_failed (first_three now s ++ last_four Listing.iter n now out s)
 unfolding keys_fit codes_in_range clock_fits output_fits kind_fits

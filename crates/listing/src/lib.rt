@@ -4,7 +4,6 @@
 ghost use Rattle.std.specs.Prelude.{◌≡◌, true, ◌*◌, ◌≤◌, length};
 ghost use Rattle.model.specs.Base.{tabulate};
 ghost use Rattle.model.specs.Table.{num_buckets};
-ghost use Rattle.model.specs.Sizes.{storage_size};
 ghost use Rattle.model.specs.Call.{Call, Listing};
 ghost use Rattle.model.specs.Question.{max_count};
 ghost use Rattle.model.specs.Layout.{table_of};
@@ -19,13 +18,13 @@ ghost use Rattle.items.specs.Lists.{Lists, list_answer};
 ghost use Rattle.listing.specs.Listed.{closest_listing, visit_order_by, count_in, first_nodes, Put, visit_outcome, list_outcome};
 
 use items::{Form, Predicate, Shape};
-use key::ClosestBucketsIter;
+use key::{ClosestBucketsIter, Key};
 use node::{Code, Refusal, Slot};
+use storage::Layout;
 use visit::Visit;
 
 // The buckets in the order of the listing.
-fn visit_of(s: &[u8], shape: Shape) -> Visit
-    requires { length s.now ≡ storage_size }
+fn visit_of(s: &[u8; Layout::STORAGE], shape: Shape) -> Visit
     ensures { order result ≡ visit_order_by shape (table_of s.now) }
 {
     match shape {
@@ -38,8 +37,8 @@ fn visit_of(s: &[u8], shape: Shape) -> Visit
 }
 
 // Writes the items of the buckets, up to n, and answers how many. No further bucket is visited after the n-th.
-fn put_all(s: &[u8], visit: Visit, shape: Shape, out: &mut [u8], n: usize) -> usize
-    requires s_len { (length s.now ≡ storage_size) × (header_formed s.now ≡ true) }
+fn put_all(s: &[u8; Layout::STORAGE], visit: Visit, shape: Shape, out: &mut [u8], n: usize) -> usize
+    requires header { header_formed s.now ≡ true }
     requires visitable { Visitable (order visit) }
     requires visit_value { buckets_formed s.now (visited (count_in (table_of s.now)) n (order visit)) ≡ true }
     requires n_le_max_count { (n ≤ max_count) × (n * size_by shape ≤ length out.old) }
@@ -58,28 +57,34 @@ fn put_all(s: &[u8], visit: Visit, shape: Shape, out: &mut [u8], n: usize) -> us
 // The visit: a survey for questions 2 and 8, the due pendings applied, then the items written from the storage as it stands, until as many
 // are written as the survey counted. Where a bucket of it is malformed, none was applied.
 fn list_visited(
-    s: &mut [u8],
+    s: &mut [u8; Layout::STORAGE],
     visit: Visit,
     shape: Shape,
     n: usize,
     time: u64,
     out: &mut [u8],
 ) -> Result<usize, Refusal>
-    requires s_len { (length s.old ≡ storage_size) × (header_formed s.old ≡ true) }
+    requires header { header_formed s.old ≡ true }
     requires timely { Timely s.old time }
     requires visitable { Visitable (order visit) }
     requires n_le_max_count { (n ≤ max_count) × (n * size_by shape ≤ length out.old) }
     ensures { Lists (list_answer result) s.new out.new (visit_outcome shape n time (order visit) out.old s.old) }
 {
-    let tally = visit::survey(s, visit, n, time).ok_or(Refusal::Form)?;
-    items::asked_queue(s, tally.records)?;
+    let tally = visit::survey(s, visit, n, time)?;
+    on_key::asked_queue(s, tally.records)?;
     visit::apply_all(s, visit, n, time, tally.records);
     Ok(put_all(s, visit, shape, out, tally.count))
 }
 
 // The listing of a shape, from question 6 on.
-fn list(s: &mut [u8], shape: Shape, n: usize, time: u64, out: &mut [u8]) -> Result<usize, Refusal>
-    requires s_len { (length s.old ≡ storage_size) × (header_formed s.old ≡ true) }
+fn list(
+    s: &mut [u8; Layout::STORAGE],
+    shape: Shape,
+    n: usize,
+    time: u64,
+    out: &mut [u8],
+) -> Result<usize, Refusal>
+    requires header { header_formed s.old ≡ true }
     requires timely { Timely s.old time }
     ensures { Lists (list_answer result) s.new out.new (list_outcome shape n time out.old s.old) }
 {
@@ -98,15 +103,16 @@ fn closest(
 ) -> Result<usize, Refusal>
     ensures { Lists (list_answer result) s.new out.new (step_bytes (Call.list (closest_listing form target.now) n time out.old) s.old) }
 {
+    let s = s.as_mut_array().ok_or(Refusal::Size)?;
     on_key::asked(s, target, form.in_range(), Some(time))?;
-    let key = on_key::key_of(target);
-    list(s, Shape::Closest(key, form), n, time, out)
+    list(s, Shape::Closest(Key::load(target), form), n, time, out)
 }
 
 // All nodes, bucket by bucket.
 pub fn iter(s: &mut [u8], n: usize, time: u64, out: &mut [u8]) -> Result<usize, Refusal>
     ensures { Lists (list_answer result) s.new out.new (step_bytes (Call.list Listing.iter n time out.old) s.old) }
 {
+    let s = s.as_mut_array().ok_or(Refusal::Size)?;
     on_key::asked_time(s, time)?;
     list(s, Shape::Nodes, n, time, out)
 }

@@ -1,105 +1,28 @@
 -- A bucket of the bytes, built node by node as a table stores it.
 use mathlib.Core.Path.{◌≡◌, refl, sym, ap, ◌∙◌}
-use mathlib.Core.Bool.{true, false}
-use mathlib.Core.List.{List, [], ◌∷◌, ◌++◌, append_assoc, append-nil}
+use mathlib.Core.Bool.{false}
+use mathlib.Core.List.{List, [], ◌∷◌, ◌++◌}
 use Prim.Native.Nat.{ℕ, suc, ◌+◌, ◌*◌, ◌-◌, ◌≤◌, ◌<◌}
-use native.Mathlib.Nat.{add-zero}
 use native.Mathlib.Numerals.{add-one}
 use native.Mathlib.Omega.{arith}
 use lib.Dec.{eqb}
-use lib.ListN.{length, get_or, drop, length-append, length-replicate, get_or-replicate, drop_of_length-le}
+use lib.ListN.{length, get_or, set, length-replicate}
 use borrow.Author.Tests.{ne_eqb}
+use borrow.Rule.Slice.PartMut.{put_mid}
+use Rattle.std.proofs.lemmas.List.{drop-replicate, length-set}
 use Rattle.model.specs.Base.{joined, tabulate}
 use Rattle.model.specs.Bytes.{number, bytes, part, splice, zeros, Bytes}
 use Rattle.model.specs.Bucket.{max_nodes_per_bucket}
 use Rattle.model.specs.Table.{num_buckets}
 use Rattle.model.specs.Sizes.{key_size, node_size, place_at, pending_size, bucket_size}
-use Rattle.model.specs.Formed.{are_zero}
 use Rattle.model.specs.Saved.{saved_entry_size, sizes_below, saved_count, saved_node, disconnected_from, loaded_bytes}
 use Rattle.laws.proofs.Lists.{length_tabulate, tabulate_one_more, joined_snoc, length_joined}
-use Rattle.laws.proofs.Parts.{length_part, part_all, part_append, get_d_part, get_or_right, splice_nil, length_splice, splice_next, splice_over, splice_part, part_splice_after}
+use Rattle.laws.proofs.Parts.{length_part, part_all, part_append, splice_over, get_or_right, set_splice, splice_nil, length_splice, splice_next}
 use Rattle.laws.proofs.Bytes.{number_back}
-use Rattle.laws.proofs.Zeros.{zero_gives, zero_if, part_are_zero}
+use Rattle.key.proofs.Bytes.{splice_all}
+use Rattle.words.proofs.Words.{set_more, put_mid_splice}
 use Rattle.laws.proofs.All.{all_tabulate}
-use Rattle.laws.proofs.Loaded.{below_more, place_below, length_key, length_saved_node, length_loaded, size_loaded}
-use Rattle.loaded.specs.Load.{Sized, Bucketed}
-
--- bytes put over others
-
--- a splice of all
-pub splice_all : (s v : List ℕ) → length v ≡ length s → splice s 0 v ≡ v
-unfolding splice
-splice_all s v l = let h : length s ≤ 0 + length v = omega arith in let e : drop (0 + length v) s ≡ [] = drop_of_length-le s h in rw e (append-nil v)
-
--- a node: its key, the first eight bytes of its entry and the last eight, which share one
-module _ (bs s : List ℕ) (k e to : ℕ) (b : Bytes bs) (lk : k + key_size ≤ length bs) (le : e + saved_entry_size ≤ length bs) (l : to + node_size ≤ length s) where
-  pub node_put : (s₁ s₂ s₃ : List ℕ) (key front back : ℕ) → key ≡ number (part bs k key_size) → front ≡ number (part bs e 8) → back ≡ number (part bs (e + 7) 8)
-      → s₁ ≡ splice s to (bytes key_size key) → s₂ ≡ splice s₁ (to + key_size) (bytes 8 front) → s₃ ≡ splice s₂ (to + 39) (bytes 8 back)
-      → s₃ ≡ splice s to (part bs k key_size ++ part bs e saved_entry_size)
-  node_put s₁ s₂ s₃ key front back ek ef eb e₁ e₂ e₃ =
-      let K : List ℕ = part bs k key_size in
-      let E : List ℕ = part bs e 7 in
-      let X : List ℕ = part bs (e + 7) 1 in
-      let B : List ℕ = part bs (e + 7) 8 in
-      let K_is : bytes key_size key ≡ K = ap (bytes key_size) ek ∙ number_back bs k key_size lk b in
-      let F_is : bytes 8 front ≡ E ++ X = ap (bytes 8) ef ∙ number_back bs e 8 (omega arith) b ∙ part_append bs e 7 1 in
-      let B_is : bytes 8 back ≡ B = ap (bytes 8) eb ∙ number_back bs (e + 7) 8 (omega arith) b in
-      let l_k : length K ≡ 32 = length_part bs k key_size lk in
-      let l_e : length E ≡ 7 = length_part bs e 7 (omega arith) in
-      let l_x : length X ≡ 1 = length_part bs (e + 7) 1 (omega arith) in
-      let l_b : length B ≡ 8 = length_part bs (e + 7) 8 (omega arith) in
-      let l_eX : length (E ++ X) ≡ 8 = rw (length-append E X, l_e, l_x) refl in
-      let l_kE : length (K ++ E) ≡ 39 = rw (length-append K E, l_k, l_e) refl in
-      let u : List ℕ = splice s to (K ++ E) in
-      let lu : length u ≡ length s = length_splice s to (K ++ E) (omega (arith, l_kE)) in
-      let s₂_is : s₂ ≡ splice u (to + 39) X =
-      e₂ ∙ rw (e₁, K_is, F_is) (splice_next s to 32 K (E ++ X) l_k (omega (arith, l_eX)))
-      ∙ ap (splice s to) (sym (append_assoc K E X))
-      ∙ sym (splice_next s to 39 (K ++ E) X l_kE (omega (arith, l_x))) in
-      e₃ ∙ rw (s₂_is, B_is) (splice_over u (to + 39) X B (omega (arith, l_x, l_b)) (omega (arith, l_b, lu)))
-      ∙ splice_next s to 39 (K ++ E) B l_kE (omega (arith, l_b))
-      ∙ ap (splice s to) (append_assoc K E B ∙ ap (λ (v : List ℕ). K ++ v) (sym (part_append bs e 7 8)))
-
--- how many are disconnected
-
-module _ (bs : List ℕ) (nodes : ℕ) (z : Sized bs nodes) where
-  pub state_there : (j : ℕ) → j < nodes → get_or bs (num_buckets + nodes * key_size + j * saved_entry_size) 0 ≡ get_or (saved_node bs j) key_size 0
-  unfolding saved_node
-  state_there j m =
-      let n : nodes ≡ saved_count bs = z.nodes_are in
-      let l : length bs ≡ num_buckets + saved_count bs * node_size = rw (← n) z.size in
-      let e : ℕ = num_buckets + saved_count bs * key_size + j * saved_entry_size in
-      sym
-      (get_or_right (part bs (num_buckets + j * key_size) key_size) (part bs e saved_entry_size) key_size 0 (length_key bs l j (rw (← n) m))
-      ∙ get_d_part bs e saved_entry_size 0 (omega arith)
-      ∙ rw (add-zero, n))
-
-  pub disconnected_more : (from count j : ℕ) → j < count → from + count ≤ nodes → get_or bs (num_buckets + nodes * key_size + (from + j) * saved_entry_size) 0 ≡ 0
-      → disconnected_from bs (from + j) (count - j) ≡ suc (disconnected_from bs (from + (j + 1)) (count - (j + 1)))
-  unfolding disconnected_from
-  disconnected_more from count j l m h =
-      let e : count - j ≡ suc (count - (j + 1)) = omega arith in
-      let f : suc (from + j) ≡ from + (j + 1) = omega arith in
-      let g : get_or (saved_node bs (from + j)) key_size 0 ≡ 0 = sym (state_there (from + j) (omega arith)) ∙ h in
-      rw (e, g, f)
-
-  pub disconnected_stops : (from count j : ℕ) → j < count → from + count ≤ nodes → (get_or bs (num_buckets + nodes * key_size + (from + j) * saved_entry_size) 0 ≡ 0 → ⊥)
-      → disconnected_from bs (from + j) (count - j) ≡ 0
-  unfolding disconnected_from
-  disconnected_stops from count j l m h =
-      let e : count - j ≡ suc (count - (j + 1)) = omega arith in
-      let g : eqb (get_or (saved_node bs (from + j)) key_size 0) 0 ≡ false = ne_eqb _ _ (λ q. h (state_there (from + j) (omega arith) ∙ q)) in
-      rw (e, g)
-
-pub disconnected_start : (bs : List ℕ) (from count : ℕ) → disconnected_from bs from count ≡ 0 + disconnected_from bs (from + 0) (count - 0)
-disconnected_start bs from count =
-    let e : from + 0 ≡ from = omega arith in
-    let f : count - 0 ≡ count = omega arith in
-    rw (e, f) (omega arith)
-
-pub disconnected_none : (bs : List ℕ) (from : ℕ) → disconnected_from bs from 0 ≡ 0
-unfolding disconnected_from
-disconnected_none bs from = refl
+use Rattle.laws.proofs.Loaded.{below_more, place_below, length_key, length_saved_node}
 
 -- the sizes, one more
 
@@ -119,77 +42,130 @@ pub nodes_none : (bs s : List ℕ) (from at : ℕ) → s ≡ splice s at (nodes_
 unfolding nodes_from joined tabulate
 nodes_none bs s from at = sym (splice_nil s at)
 
-module _ (bs : List ℕ) (nodes from i : ℕ) (z : Bucketed bs nodes from i) where
-  abbrev count : ℕ
-  count = get_or bs i 0
+pub disconnected_start : (bs : List ℕ) (from count : ℕ) → disconnected_from bs from count ≡ 0 + disconnected_from bs (from + 0) (count - 0)
+disconnected_start bs from count =
+    let e : from + 0 ≡ from = omega arith in
+    let f : count - 0 ≡ count = omega arith in
+    rw (e, f) (omega arith)
 
+pub disconnected_none : (bs : List ℕ) (from : ℕ) → disconnected_from bs from 0 ≡ 0
+unfolding disconnected_from
+disconnected_none bs from = refl
+
+-- at the start of zeros
+over_zeros : (k : ℕ) (v : List ℕ) → splice (zeros k) 0 v ≡ v ++ zeros (k - length v)
+unfolding splice
+over_zeros k v = ap (λ (x : List ℕ). v ++ x) (drop-replicate (0 + length v) k 0 ∙ ap zeros (omega arith))
+
+-- a node, by words
+
+pub key_put : (s : List ℕ) (k : ℕ) → Bytes s → length s ≡ key_size → k ≡ number s → bytes key_size k ≡ s
+key_put s k b l e =
+    let w : part s 0 key_size ≡ s = part_all s key_size (omega arith) in
+    ap (bytes key_size) (e ∙ ap number (sym w)) ∙ number_back s 0 key_size (omega arith) b ∙ w
+
+-- the first eight bytes of an entry, then the last eight, which share one
+pub entry_put : (s e : List ℕ) (first last : ℕ) → Bytes e → length s ≡ saved_entry_size → length e ≡ saved_entry_size → first ≡ number (part e 0 8)
+    → last ≡ number (part e 7 8) → {v w : List ℕ} → v ≡ bytes 8 first → w ≡ bytes 8 last → put_mid 7 8 (put_mid 0 8 s v) w ≡ e
+entry_put s e first last b ls le ef el {v} {w} ev ew =
+    let E : List ℕ = part e 0 7 in
+    let X : List ℕ = part e 7 1 in
+    let B : List ℕ = part e 7 8 in
+    let lE : length E ≡ 7 = length_part e 0 7 (omega arith) in
+    let lX : length X ≡ 1 = length_part e 7 1 (omega arith) in
+    let lB : length B ≡ 8 = length_part e 7 8 (omega arith) in
+    let lF : length (part e 0 8) ≡ 8 = length_part e 0 8 (omega arith) in
+    let v_is : v ≡ part e 0 8 = ev ∙ ap (bytes 8) ef ∙ number_back e 0 8 (omega arith) b in
+    let w_is : w ≡ B = ew ∙ ap (bytes 8) el ∙ number_back e 7 8 (omega arith) b in
+    let u : List ℕ = splice s 0 E in
+    let lu : length u ≡ length s = length_splice s 0 E (omega (arith, lE)) in
+    let one : put_mid 0 8 s v ≡ splice u 7 X =
+    put_mid_splice s 0 8 v_is lF ∙ ap (splice s 0) (part_append e 0 7 1) ∙ sym (splice_next s 0 7 E X lE (omega (arith, lX))) in
+    put_mid_splice (put_mid 0 8 s v) 7 8 w_is lB ∙ rw one (splice_over u 7 X B (omega (arith, lX, lB)) (omega (arith, lB, lu)))
+    ∙ splice_next s 0 7 E B lE (omega (arith, lB)) ∙ ap (splice s 0) (sym (part_append e 0 7 8) ∙ part_all e 15 (omega arith)) ∙ splice_all s e (ls ∙ sym le)
+
+module _ (bs : List ℕ) (nodes : ℕ) (n : nodes ≡ saved_count bs) (z : length bs ≡ num_buckets + nodes * node_size) where
   sized : length bs ≡ num_buckets + saved_count bs * node_size
-  sized = rw (← z.sized.nodes_are) z.sized.size
+  sized = rw (← n) z
 
-  pub place_within : (j : ℕ) → j < count → from + j < nodes
-  place_within j l = rw (z.start, z.sized.nodes_are) (place_below bs i j z.below l)
+  -- how many are disconnected
 
-  pub bucket_within : from + count ≤ nodes
-  unfolding sizes_below
-  bucket_within = rw (z.start, z.sized.nodes_are) (below_more bs (suc i) (num_buckets - suc i) num_buckets (omega (arith, z.below)))
+  state_there : (j : ℕ) → j < nodes → {entry : List ℕ} → entry ≡ part bs (num_buckets + nodes * key_size + j * saved_entry_size) saved_entry_size
+      → get_or (saved_node bs j) key_size 0 ≡ get_or entry 0 0
+  unfolding saved_node
+  state_there j m e =
+      rw e
+      (get_or_right (part bs (num_buckets + j * key_size) key_size) (part bs (num_buckets + saved_count bs * key_size + j * saved_entry_size) saved_entry_size) key_size 0
+      (length_key bs sized j (rw (← n) m))
+      ∙ rw n)
 
-  length_nodes : (k : ℕ) → k ≤ count → length (nodes_from bs from k) ≡ k * node_size
-  unfolding nodes_from
-  length_nodes k l =
-      length_joined (saved_node bs) node_size (tabulate k (λ j. from + j))
-      (all_tabulate (λ (j : ℕ). length (saved_node bs j) ≡ node_size) k (λ j. from + j)
-      (λ j m. length_saved_node bs sized (from + j) (rw (← z.sized.nodes_are) (place_within j (omega arith)))))
-      ∙ rw length_tabulate
+  module _ (from count j : ℕ) (l : j < count) (m : from + count ≤ nodes) {entry : List ℕ} (e : entry ≡ part bs (num_buckets + nodes * key_size + (from + j) * saved_entry_size) saved_entry_size) where
+    pub disconnected_more : get_or entry 0 0 ≡ 0 → disconnected_from bs (from + j) (count - j) ≡ suc (disconnected_from bs (from + (j + 1)) (count - (j + 1)))
+    unfolding disconnected_from
+    disconnected_more h =
+        let k : count - j ≡ suc (count - (j + 1)) = omega arith in
+        let f : suc (from + j) ≡ from + (j + 1) = omega arith in
+        let g : get_or (saved_node bs (from + j)) key_size 0 ≡ 0 = state_there (from + j) (omega arith) e ∙ h in
+        rw (k, g, f)
 
-  -- one more node
-  pub nodes_more : (s : List ℕ) (at j : ℕ) → j < count → at + 2 + (j * node_size + node_size) ≤ length s
-      → splice (splice s (at + 2) (nodes_from bs from j)) (at + place_at j)
-      (part bs (num_buckets + (from + j) * key_size) key_size ++ part bs (num_buckets + nodes * key_size + (from + j) * saved_entry_size) saved_entry_size)
-      ≡ splice s (at + 2) (nodes_from bs from (j + 1))
-  unfolding nodes_from saved_node
-  nodes_more s at j l h =
-      let n : List ℕ = saved_node bs (from + j) in
-      let m : length n ≡ node_size = length_saved_node bs sized (from + j) (rw (← z.sized.nodes_are) (place_within j l)) in
-      let p : at + place_at j ≡ at + 2 + j * node_size = omega arith in
-      rw (p, tabulate_one_more, joined_snoc (saved_node bs) (tabulate j (λ k. from + k)) (from + j), z.sized.nodes_are)
-      (splice_next s (at + 2) (j * node_size) (nodes_from bs from j) n (length_nodes j (omega arith)) (omega (arith, m)))
+    pub disconnected_stops : (get_or entry 0 0 ≡ 0 → ⊥) → disconnected_from bs (from + j) (count - j) ≡ 0
+    unfolding disconnected_from
+    disconnected_stops h =
+        let k : count - j ≡ suc (count - (j + 1)) = omega arith in
+        let g : eqb (get_or (saved_node bs (from + j)) key_size 0) 0 ≡ false = ne_eqb _ _ (λ q. h (sym (state_there (from + j) (omega arith) e) ∙ q)) in
+        rw (k, g)
 
-  -- the whole bucket, where all was zero
-  pub bucket_built : (s s₁ s₂ s₃ : List ℕ) (at first : ℕ) → count ≤ max_nodes_per_bucket → at + bucket_size ≤ length s → are_zero s at bucket_size ≡ true → first ≡ disconnected_from bs from count
-      → s₁ ≡ splice s at (count ∷ []) → s₂ ≡ splice s₁ (at + 1) (first ∷ []) → s₃ ≡ splice s₂ (at + 2) (nodes_from bs from count)
-      → s₃ ≡ splice s at (loaded_bytes bs i)
-  unfolding loaded_bytes nodes_from
-  bucket_built s s₁ s₂ s₃ at first m l z₀ ef e₁ e₂ e₃ =
-      let ns : List ℕ = nodes_from bs from count in
-      let ln : length ns ≡ count * node_size = length_nodes count (omega arith) in
-      let v : List ℕ = count ∷ first ∷ ns in
-      let lv : length v ≡ place_at count = omega (arith, ln) in
-      let u : ℕ = (max_nodes_per_bucket - count) * node_size + pending_size in
-      let w : List ℕ = splice s at v in
-      let lw : length w ≡ length s = length_splice s at v (omega (arith, lv)) in
-      let s₃_is : s₃ ≡ w = e₃ ∙ rw (e₂, e₁, splice_next s at 1 (count ∷ []) (first ∷ []) refl (omega arith)) (splice_next s at 2 (count ∷ first ∷ []) ns refl (omega (arith, ln))) in
-      let zero_behind : are_zero s (at + place_at count) u ≡ true =
-      zero_if s (at + place_at count) u (λ j k. ap (λ (x : ℕ). get_or s x 0) (omega arith) ∙ zero_gives s at bucket_size z₀ (place_at count + j) (omega arith)) in
-      let behind : part w (at + place_at count) u ≡ zeros u =
-      part_splice_after s at v (at + place_at count) u (omega (arith, lv)) (omega (arith, lv)) ∙ part_are_zero s (at + place_at count) u (omega arith) zero_behind in
-      let all : splice s at (v ++ zeros u) ≡ w =
-      sym (splice_next s at (place_at count) v (zeros u) lv (omega (arith, length-replicate {A = ℕ} u 0)))
-      ∙ ap (splice w (at + place_at count)) (sym behind)
-      ∙ splice_part w (at + place_at count) u (omega (arith, lw)) in
-      s₃_is ∙ sym all ∙ rw (ef, z.start)
+  -- bucket i, whose first node is that of index from
+  module _ (from i : ℕ) (b : i < num_buckets) (w : from ≡ sizes_below bs i) where
+    abbrev count : ℕ
+    count = get_or bs i 0
 
-  -- in a buffer of its size
-  pub built_alone : (b b' : List ℕ) → count ≤ max_nodes_per_bucket → length b ≡ bucket_size → b' ≡ splice b 0 (loaded_bytes bs i) → b' ≡ loaded_bytes bs i
-  built_alone b b' m l e = e ∙ splice_all b (loaded_bytes bs i) (length_loaded bs i sized z.below m ∙ sym l)
+    place_within : (j : ℕ) → j < count → from + j < nodes
+    place_within j l = rw (w, n) (place_below bs i j b l)
 
-  pub built_part : (b b' : List ℕ) → count ≤ max_nodes_per_bucket → length b ≡ bucket_size → b' ≡ splice b 0 (loaded_bytes bs i) → part b' 0 bucket_size ≡ loaded_bytes bs i
-  built_part b b' m l e =
-      let n : length (loaded_bytes bs i) ≡ bucket_size = length_loaded bs i sized z.below m in
-      rw (built_alone b b' m l e) (part_all (loaded_bytes bs i) bucket_size (omega (arith, n)))
+    pub bucket_within : from + count ≤ nodes
+    unfolding sizes_below
+    bucket_within = rw (w, n) (below_more bs (suc i) (num_buckets - suc i) num_buckets (omega (arith, b)))
 
-  pub built_size : (b b' : List ℕ) → count ≤ max_nodes_per_bucket → length b ≡ bucket_size → b' ≡ splice b 0 (loaded_bytes bs i) → get_or b' 0 0 ≡ count
-  built_size b b' m l e = ap (λ (x : List ℕ). get_or x 0 0) (built_alone b b' m l e) ∙ size_loaded bs i
+    length_nodes : (k : ℕ) → k ≤ count → length (nodes_from bs from k) ≡ k * node_size
+    unfolding nodes_from
+    length_nodes k l =
+        length_joined (saved_node bs) node_size (tabulate k (λ j. from + j))
+        (all_tabulate (λ (j : ℕ). length (saved_node bs j) ≡ node_size) k (λ j. from + j) (λ j m. length_saved_node bs sized (from + j) (rw (← n) (place_within j (omega arith)))))
+        ∙ rw length_tabulate
 
--- a buffer that is just made
-pub buffer_zero : are_zero (zeros bucket_size) 0 bucket_size ≡ true
-buffer_zero = zero_if (zeros bucket_size) 0 bucket_size (λ j l. let e : 0 + j ≡ j = omega arith in rw e (get_or-replicate {A = ℕ} bucket_size j 0 0 l))
+    -- put where all was zero
+    module _ {s : List ℕ} (a : s ≡ zeros bucket_size) (m : count ≤ max_nodes_per_bucket) (first : ℕ) {size : ℕ} (q : size ≡ count) where
+      abbrev counts : List ℕ
+      counts = set (set s 0 size) 1 first
+
+      length_counts : length counts ≡ bucket_size
+      length_counts = length-set (set s 0 size) 1 first ∙ length-set s 0 size ∙ ap length a ∙ length-replicate {A = ℕ} bucket_size 0
+
+      -- one more node
+      pub nodes_more : (j : ℕ) {t v : List ℕ} → j < size → t ≡ splice counts 2 (nodes_from bs from j)
+          → v ≡ part bs (num_buckets + (from + j) * key_size) key_size ++ part bs (num_buckets + nodes * key_size + (from + j) * saved_entry_size) saved_entry_size
+          → put_mid (place_at j) (place_at j + node_size - place_at j) t v ≡ splice counts 2 (nodes_from bs from (j + 1))
+      unfolding nodes_from saved_node
+      nodes_more j {t} {v} l e f =
+          let w' : List ℕ = saved_node bs (from + j) in
+          let lw : length w' ≡ node_size = length_saved_node bs sized (from + j) (rw (← n) (place_within j (omega arith))) in
+          let g : v ≡ w' = f ∙ rw n in
+          let k : place_at j + node_size - place_at j ≡ node_size = omega arith in
+          put_mid_splice t (place_at j) _ g (lw ∙ sym k)
+          ∙ rw (e, tabulate_one_more, joined_snoc (saved_node bs) (tabulate j (λ k. from + k)) (from + j))
+          (splice_next counts 2 (j * node_size) (nodes_from bs from j) w' (length_nodes j (omega arith)) (omega (arith, lw, length_counts)))
+
+      -- the whole bucket
+      pub bucket_built : {t : List ℕ} → first ≡ disconnected_from bs from count → t ≡ splice counts 2 (nodes_from bs from size) → t ≡ loaded_bytes bs i
+      unfolding loaded_bytes nodes_from
+      bucket_built {t} f e =
+          let ns : List ℕ = nodes_from bs from count in
+          let ln : length ns ≡ count * node_size = length_nodes count (omega arith) in
+          let v : List ℕ = count ∷ first ∷ ns in
+          let ls : length s ≡ bucket_size = ap length a ∙ length-replicate {A = ℕ} bucket_size 0 in
+          let e₀ : set s 0 size ≡ splice s 0 (size ∷ []) = set_splice s 0 size (omega arith) in
+          let e₁ : counts ≡ splice s 0 (size ∷ first ∷ []) = set_more s 0 1 (size ∷ []) first e₀ refl (omega arith) in
+          let e₂ : t ≡ splice s 0 v = e ∙ rw (e₁, q) (splice_next s 0 2 (count ∷ first ∷ []) ns refl (omega (arith, ln))) in
+          let u : bucket_size - length v ≡ (max_nodes_per_bucket - count) * node_size + pending_size = omega (arith, ln) in
+          e₂ ∙ rw (a, over_zeros bucket_size v, u, f, w)

@@ -15,18 +15,16 @@ use Rattle.model.specs.Bytes.{part}
 use Rattle.model.specs.Value.{Address, Value, shares_net}
 use Rattle.model.specs.Filter.{counts}
 use Rattle.model.specs.Node.{Node}
-use Rattle.model.specs.Bucket.{max_nodes_per_bucket}
-use Rattle.model.specs.Sizes.{key_size, value_size, place_at, bucket_size}
-use Rattle.model.specs.Layout.{address_in, value_in}
+use Rattle.model.specs.Sizes.{key_size, value_size}
+use Rattle.model.specs.Layout.{place_in, address_in, value_in, node_in, nodes_in}
 use Rattle.model.specs.Saved.{three_of_aNet}
 use borrow.Author.Tests.{eqb-true, eqb-false}
 use Rattle.laws.proofs.Tests.{split, clash, and_left, and_right, or_rest}
 use Rattle.laws.proofs.Parts.{get_d_part}
 use Rattle.laws.proofs.Values.{same_net_true, same_value_self}
-use Rattle.storage.proofs.Nodes.{value_of_read}
 use Rattle.well_formed.specs.Tests.{node_at}
 use Rattle.loaded.specs.Load.{NoThree, octet_at}
-use Rattle.loaded.proofs.Nets.{any_append, value_there}
+use Rattle.loaded.proofs.Nets.{any_append}
 
 -- how often each number was seen among the first j, up to two
 pub record Seen (o : ℕ → ℕ) (j : ℕ) (seen : List ℕ) : Type 0 where
@@ -148,9 +146,10 @@ address_octet v x e =
     (λ t. sym (ap (λ (y : Address). y.c) (some-injective (record { a = get_or v 1 0; b = get_or v 2 0; c = get_or v 3 0; d = get_or v 4 0 }) x (rw t at e))))
     (λ t. clash (ap is_some (rw t at e)) refl)
 
-pub octet_there : (s : List ℕ) (at j : ℕ) → j < max_nodes_per_bucket → (x : Address) → (node_at (part s at bucket_size) j).value.address ≡ some x → x.c ≡ octet_at s at j
-unfolding value_in
-octet_there s at j l x e =
-    let v : List ℕ = part s (at + place_at j + (key_size + 2)) value_size in
-    address_octet v x (ap (λ (w : Value). w.address) (sym (value_of_read v) ∙ value_there s at j l) ∙ e)
-    ∙ get_d_part s (at + place_at j + (key_size + 2)) value_size 3 (omega arith)
+pub octet_there : (bs : List ℕ) (j : ℕ) (x : Address) → (node_at bs j).value.address ≡ some x → x.c ≡ octet_at bs j
+unfolding node_at node_in value_in
+octet_there bs j x e = address_octet (part (place_in bs j) (key_size + 2) value_size) x e ∙ get_d_part (place_in bs j) (key_size + 2) value_size 3 (omega arith)
+
+pub spread_in : (bs : List ℕ) → NoThree (octet_at bs) (get_or bs 0 0) → three_of_aNet (nodes_in bs) ≡ false
+unfolding nodes_in node_at
+spread_in bs = spread (node_at bs) (octet_at bs) (get_or bs 0 0) (λ j l. octet_there bs j)

@@ -2,25 +2,17 @@
 use mathlib.Core.Path.{◌≡◌, refl, sym, ap, ap₂, ◌∙◌}
 use mathlib.Core.Bool.{Bool, true, false, ◌||◌}
 use mathlib.Core.List.{List, [], ◌∷◌, ◌++◌}
-use Prim.Native.Nat.{ℕ, zero, suc, ◌+◌, ◌<◌}
+use Prim.Native.Nat.{ℕ, zero, suc, ◌+◌}
 use native.Mathlib.Nat.{add-zero}
 use native.Mathlib.Omega.{arith}
 use lib.ListN.{get_or}
 use Rattle.std.specs.List.{list_any, range_with_len}
 use Rattle.model.specs.Base.{any_of, tabulate}
-use Rattle.model.specs.Bytes.{part}
 use Rattle.model.specs.Node.{Node}
-use Rattle.model.specs.Bucket.{max_nodes_per_bucket}
-use Rattle.model.specs.Sizes.{key_size, value_size, node_size, place_at, bucket_size}
-use Rattle.model.specs.Layout.{value_in, node_in, nodes_in}
+use Rattle.model.specs.Layout.{nodes_in}
 use Rattle.model.specs.Saved.{three_of_aNet}
 use Rattle.laws.proofs.Lists.{tabulate_append, tabulate_ext}
-use Rattle.laws.proofs.Parts.{part_part, get_d_part}
-use Rattle.node.specs.Node.{value_of}
-use Rattle.storage.specs.Read.{read_value}
-use Rattle.storage.proofs.Nodes.{value_of_read}
 use Rattle.well_formed.specs.Tests.{node_at}
-use Rattle.well_formed.proofs.Places.{place_node}
 use Rattle.loaded.specs.Load.{third_of, two_beside}
 
 -- some element of a list that is made place by place
@@ -46,27 +38,14 @@ any_numbers {A} p f a (suc n) =
     ∙ ap₂ (λ (x : A) (xs : List A). x ∷ xs) (ap f (add-zero a)) (tabulate_ext n (λ j. g (1 + j)) (λ j. f (a + 1 + j)) (λ j l. ap f (at j))) in
     ap (λ (b : Bool). p (f a) || b) (any_numbers p f (a + 1) n) ∙ sym (ap (any_of p) e)
 
--- the places of a bucket's bytes
-
-module _ (s : List ℕ) (at : ℕ) where
-  pub value_there : (j : ℕ) → j < max_nodes_per_bucket
-      → value_of (read_value (part s (at + place_at j + (key_size + 2)) value_size)) ≡ (node_at (part s at bucket_size) j).value
-  unfolding node_in
-  value_there j l =
-      value_of_read _ ∙ sym (ap (λ (n : Node). n.value) (place_node s at j l) ∙ ap value_in (part_part s (at + place_at j) node_size (key_size + 2) value_size (omega arith)))
-
-  pub nodes_listed : (count : ℕ) → count ≡ get_or s at 0 → nodes_in (part s at bucket_size) ≡ tabulate count (node_at (part s at bucket_size))
-  unfolding nodes_in node_at
-  nodes_listed count e = rw (get_d_part s at bucket_size 0 (omega arith), add-zero, ← e)
-
-  -- what `any` answers of the first count places
-  pub any_listed : (p : Node → Bool) (count : ℕ) → count ≡ get_or s at 0
-      → list_any (λ j. p (node_at (part s at bucket_size) j)) (range_with_len 0 count) ≡ any_of p (nodes_in (part s at bucket_size))
-  any_listed p count e =
-      let bs : List ℕ = part s at bucket_size in
-      let same_place : (j : ℕ) → 0 + j ≡ j = λ j. omega arith in
-      any_numbers p (node_at bs) 0 count
-      ∙ ap (any_of p) (tabulate_ext count (λ j. node_at bs (0 + j)) (node_at bs) (λ j l. ap (node_at bs) (same_place j)) ∙ sym (nodes_listed count e))
+-- what `any` answers of the places of a bucket's bytes that its count says
+pub any_listed : (p : Node → Bool) (bs : List ℕ) {count : ℕ} → count ≡ get_or bs 0 0
+    → list_any (λ j. p (node_at bs j)) (range_with_len 0 count) ≡ any_of p (nodes_in bs)
+unfolding nodes_in node_at
+any_listed p bs {count} e =
+    let same_place : (j : ℕ) → 0 + j ≡ j = λ j. omega arith in
+    any_numbers p (node_at bs) 0 count
+    ∙ ap (any_of p) (tabulate_ext count (λ j. node_at bs (0 + j)) (node_at bs) (λ j l. ap (node_at bs) (same_place j)) ∙ ap (λ (k : ℕ). tabulate k (node_at bs)) e)
 
 -- by its first value
 pub three_by : (ns : List Node) → three_of_aNet ns ≡ any_of (λ (a : Node). two_beside a.value ns) ns

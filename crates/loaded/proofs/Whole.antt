@@ -1,5 +1,5 @@
 -- The reader's call: its questions, and the storage that it leaves.
-use Prim.Native.Nat.{ℕ, ◌≤◌}
+use Prim.Native.Nat.{ℕ}
 use native.Mathlib.Omega.{arith}
 use mathlib.Core.Path.{◌≡◌, refl, sym, ap, ◌∙◌}
 use mathlib.Core.Bool.{Bool, true, false, cond, ◌&&◌}
@@ -8,6 +8,9 @@ use mathlib.Core.Option.{Option, none, some}
 use lib.ListN.{length}
 use lib.Dec.{eqb}
 use borrow.Author.Tests.{le-leb}
+use Rattle.std.specs.Prelude as code
+use Rattle.std.specs.Prelude.{Result, Err}
+use Rattle.std.specs.Option.{ok_or}
 use Rattle.model.specs.Base.{all_below}
 use Rattle.model.specs.Bytes.{Bytes, part}
 use Rattle.model.specs.Table.{Table, Answer, num_buckets, max_records}
@@ -27,16 +30,21 @@ use Rattle.laws.proofs.Touched.{every_formed}
 use Rattle.laws.proofs.Restore.{restore_all}
 use Rattle.laws.proofs.Questions.{front_fails, front_passes}
 use Rattle.laws.proofs.Loaded.{Loads, loads, loaded_at, loaded_past, loaded_length, loaded_fits, loaded_well_formed, Bytes_loaded, size_most}
+use Rattle.node.specs.declared.Refusal.{Refusal}
 use Rattle.on_key.specs.Answers.{Answers, whole_table, failed_of_table}
 use Rattle.on_key.proofs.Questions.{passed_table}
 use Rattle.on_key.proofs.OneKey.{refused_bytes, acted_bytes}
-use Rattle.loaded.specs.Load.{Sized, Held, Blank, LoadedFrom}
+use Rattle.loaded.specs.Load.{Held, Blank, LoadedFrom}
 use Rattle.loaded.proofs.Asked.{blank_of}
 
 -- question 2 in its two parts, one behind the other, is that of the table
 in_parts : (a b : Bool) (o : Option ℕ) → cond a (cond b o (some 2)) (some 2) ≡ cond (a && b) o (some 2)
 in_parts true b o = refl
 in_parts false b o = refl
+
+-- the refusal of question 9, by what `ok_or` made of it
+pub unfit_told : {T : Type 0} {o : code.Option T} {q : Refusal} → ◌≡◌ {A = Result T Refusal} (Err q) (ok_or o Refusal.Load) → o ≡ code.None → q ≡ Refusal.Load
+unfit_told {o = o} v n = let w = rw n at v in cc
 
 module _ (s bs : List ℕ) where
   abbrev t : Table
@@ -88,15 +96,6 @@ module _ (s bs : List ℕ) where
             queue = fits.queue;
           }
 
-      pub read_sized : (nodes : ℕ) → nodes ≡ saved_count bs → Sized bs nodes
-      read_sized nodes n = record { nodes_are = n; size = rw n passed.size }
-
-      pub read_long : num_buckets ≤ length bs
-      read_long = omega (arith, passed.size)
-
-      pub read_held : Held bs
-      read_held = size_most bs t passed
-
       pub read_blank : Blank s
       read_blank = let p = passed_table s e in blank_of s p.size p.formed b passed.nothing
 
@@ -104,15 +103,21 @@ module _ (s bs : List ℕ) where
       unfolding header_bytes
       same_header = refl
 
-      pub read_loaded : (nodes : ℕ) → nodes ≡ saved_count bs → (s' : List ℕ) → LoadedFrom s bs s' → Answers (Answer.Read nodes) s' (step_bytes call s)
-      unfolding act
-      read_loaded nodes n s' w =
-          let p = passed_table s e in
-          let hd : part s' 0 header_size ≡ header_bytes t' = w.header ∙ sym (header_back s (omega (arith, p.size)) b (header_passes s p.formed)) ∙ same_header in
-          let is : s' ≡ bytes_of t' =
-          bytes_are t' s' w.size hd
-          (λ i m.
-          w.buckets i m
-          ∙ sym (bucket_back (loaded_bytes bs i) (loaded_length bs t passed i m) (Bytes_loaded bs i h) _ _ (passed.formed i m))
-          ∙ ap bucket_bytes (sym (loaded_at bs i m))) in
-          acted_bytes call s (Answer.Read nodes) s' (asked_last ∙ rw g) (ap Answer.Read n) (is ∙ sym (restore_all s p.size t' fits'))
+      -- what was read of them
+      module _ {saved : List ℕ} (q : saved ≡ bs) where
+        pub read_held : Held saved
+        read_held = rw q (size_most bs t passed)
+
+        pub read_loaded : {nodes : ℕ} → nodes ≡ saved_count saved → {s' : List ℕ} → LoadedFrom s saved s' → Answers (Answer.Read nodes) s' (step_bytes call s)
+        unfolding act
+        read_loaded n {s'} w' =
+            let w : LoadedFrom s bs s' = rw q at w' in
+            let p = passed_table s e in
+            let hd : part s' 0 header_size ≡ header_bytes t' = w.header ∙ sym (header_back s (omega (arith, p.size)) b (header_passes s p.formed)) ∙ same_header in
+            let is : s' ≡ bytes_of t' =
+            bytes_are t' s' w.size hd
+            (λ i m.
+            w.buckets i m
+            ∙ sym (bucket_back (loaded_bytes bs i) (loaded_length bs t passed i m) (Bytes_loaded bs i h) _ _ (passed.formed i m))
+            ∙ ap bucket_bytes (sym (loaded_at bs i m))) in
+            acted_bytes call s (Answer.Read _) s' (asked_last ∙ rw g) (ap Answer.Read (n ∙ ap saved_count q)) (is ∙ sym (restore_all s p.size t' fits'))

@@ -1,28 +1,17 @@
--- The parts in which the bytes are asked and loaded: where a bucket's nodes stand in them, question 9 of one bucket, and the storage that is left.
-use Rattle.std.specs.Prelude.{ℕ, ◌+◌, ◌*◌, ◌≤◌, ◌<◌, ◌≡◌, Bool, true, not, ◌&&◌, ◌||◌, List, length, get_or, eqb}
+-- The parts in which the bytes are asked and loaded: question 9 of one bucket, and the storage that is left.
+use Rattle.std.specs.Prelude.{ℕ, ◌+◌, ◌≤◌, ◌<◌, ◌≡◌, Bool, not, ◌&&◌, ◌||◌, List, length, get_or}
 use Rattle.model.specs.Base.{any_of}
-use Rattle.model.specs.Bytes.{part}
+use Rattle.model.specs.Bytes.{part, zeros}
 use Rattle.model.specs.Value.{Value}
 use Rattle.model.specs.Node.{Node}
 use Rattle.model.specs.Filter.{counts}
-use Rattle.model.specs.Bucket.{max_nodes_per_bucket}
+use Rattle.model.specs.Bucket.{BucketSettings, max_nodes_per_bucket}
 use Rattle.model.specs.Table.{num_buckets}
-use Rattle.model.specs.Sizes.{key_size, node_size, place_at, bucket_size, header_size, bucket_at, storage_size}
-use Rattle.model.specs.Layout.{nodes_in, bucket_part}
-use Rattle.model.specs.Formed.{are_zero, bucket_formed}
-use Rattle.model.specs.Saved.{sizes_below, saved_count, loaded_bytes, three_of_aNet}
+use Rattle.model.specs.Sizes.{key_size, bucket_size, header_size, storage_size}
+use Rattle.model.specs.Layout.{place_in, nodes_in, bucket_part}
+use Rattle.model.specs.Formed.{bucket_formed}
+use Rattle.model.specs.Saved.{loaded_bytes, three_of_aNet}
 use Rattle.well_formed.specs.Tests.{of_index}
-
--- bytes whose length fits the sizes, with the number of nodes in them
-pub record Sized (bs : List ℕ) (nodes : ℕ) : Type 0 where
-  pub nodes_are : nodes ≡ saved_count bs
-  pub size : length bs ≡ num_buckets + nodes * node_size
-
--- of them bucket i, whose first node is that of index from
-pub record Bucketed (bs : List ℕ) (nodes from i : ℕ) : Type 0 where
-  pub sized : Sized bs nodes
-  pub below : i < num_buckets
-  pub start : from ≡ sizes_below bs i
 
 -- no size is greater than a bucket
 abbrev pub Held : List ℕ → Type 0
@@ -32,9 +21,9 @@ Held bs = (i : ℕ) → i < num_buckets → get_or bs i 0 ≤ max_nodes_per_buck
 abbrev pub NoThree : (ℕ → ℕ) → ℕ → Type 0
 NoThree o k = (a b c : ℕ) → a < k → b < k → c < k → (a ≡ b → ⊥) → (a ≡ c → ⊥) → (b ≡ c → ⊥) → o a ≡ o b → o a ≡ o c → ⊥
 
--- the third octet of place j of the bucket at index at
-abbrev pub octet_at : List ℕ → ℕ → ℕ → ℕ
-octet_at s at j = get_or s (at + place_at j + (key_size + 2) + 3) 0
+-- the third octet of place j of a bucket
+abbrev pub octet_at : List ℕ → ℕ → ℕ
+octet_at bs j = get_or (place_in bs j) (key_size + 2 + 3) 0
 
 -- a third value beside a and b, and two beside a
 unfoldable pub third_of : Value → Value → List Node → Bool
@@ -43,15 +32,15 @@ third_of a b ns = any_of (λ (c : Node). counts a c.value && counts b c.value) n
 unfoldable pub two_beside : Value → List Node → Bool
 two_beside a ns = any_of (λ (b : Node). counts a b.value && third_of a b.value ns) ns
 
--- 02, slip 6: question 9 of bucket i as loaded, with the bucket filter's code
-unfoldable pub bucket_fits : (local max_incoming filter : ℕ) → List ℕ → ℕ → Bool
-bucket_fits local m filter bs i =
-    bucket_formed (of_index local i) m (loaded_bytes bs i) && (not (eqb filter 1) || not (three_of_aNet (nodes_in (loaded_bytes bs i))))
+-- 02, slip 6: question 9 of bucket i as loaded
+unfoldable pub bucket_fits : (local : ℕ) → BucketSettings → List ℕ → ℕ → Bool
+bucket_fits local s bs i =
+    bucket_formed (of_index local i) s.max_incoming (loaded_bytes bs i) && (not s.filter || not (three_of_aNet (nodes_in (loaded_bytes bs i))))
 
 -- storage whose buckets are all zero, as those of a table that holds nothing
 pub record Blank (s : List ℕ) : Type 0 where
   pub size : length s ≡ storage_size
-  pub buckets : (i : ℕ) → i < num_buckets → are_zero s (bucket_at i) bucket_size ≡ true
+  pub buckets : (i : ℕ) → i < num_buckets → bucket_part s i ≡ zeros bucket_size
 
 -- the storage s' that is left: the header of s, and the buckets as loaded
 pub record LoadedFrom (s bs s' : List ℕ) : Type 0 where

@@ -1,105 +1,48 @@
 // The reader (document 02, slip 6): loads the bytes that the writer put out into storage just made by `new`. All is asked before
 // anything is written.
-#![tactic(auto)]
+#![tactic(auto, unfolding(model::specs::Bytes::part, model::specs::Bytes::splice))]
 
-ghost use Rattle.std.specs.Prelude.{◌≡◌, true, false, ◌++◌, ◌+◌, ◌*◌, ◌≤◌, ◌<◌, length, get_or};
+ghost use Rattle.std.specs.Prelude.{◌≡◌, true, false, ◌≤◌, ◌<◌, get_or, MatchOption};
 ghost use Rattle.model.specs.Base.{all_below};
-ghost use Rattle.model.specs.Bytes.{part, splice};
 ghost use Rattle.model.specs.Bucket.{max_nodes_per_bucket};
 ghost use Rattle.model.specs.Table.{num_buckets};
-ghost use Rattle.model.specs.Sizes.{key_size, node_size, bucket_size, storage_size};
 ghost use Rattle.model.specs.Layout.{nodes_in, table_of};
-ghost use Rattle.model.specs.Formed.{are_zero, formed};
-ghost use Rattle.model.specs.Saved.{saved_entry_size, saved_count, disconnected_from, loaded_bytes, holds_nothing, three_of_aNet, load_fits};
+ghost use Rattle.model.specs.Formed.{formed};
+ghost use Rattle.model.specs.Saved.{holds_nothing, three_of_aNet, load_fits};
 ghost use Rattle.model.specs.Call.{Call};
 ghost use Rattle.model.specs.StepBytes.{step_bytes};
 ghost use Rattle.key.specs.Key.{num};
 ghost use Rattle.node.specs.Node.{value_of};
+ghost use Rattle.bucket.specs.Settings.{settings_of};
 ghost use Rattle.well_formed.specs.Tests.{node_at};
 ghost use Rattle.on_key.specs.Answers.{Answers};
 ghost use Rattle.loaded.specs.Answer.{read_answer};
-ghost use Rattle.loaded.specs.Load.{Sized, Bucketed, Held, NoThree, octet_at, third_of, two_beside, bucket_fits, Blank, LoadedFrom};
+ghost use Rattle.loaded.specs.Load.{Held, NoThree, octet_at, third_of, two_beside, bucket_fits, Blank, LoadedFrom};
 
+mod saved;
+
+use bucket::Settings;
 use key::Key;
-use node::{Code, Refusal, Value};
+use node::{Refusal, Value};
+use saved::{Saved, SavedBucket};
 use storage::Layout;
 
-// An entry of the bytes: state, direction, value.
-const ENTRY: usize = Layout::NODE - Layout::KEY;
-
-// The node whose key and entry stand at these places of the bytes, put at `to`. Of the entry's 15 bytes the eighth is put twice.
-fn copy_node(bytes: &[u8], key_at: usize, entry_at: usize, s: &mut [u8], to: usize)
-    requires key_size_in_bounds { key_at + key_size ≤ length bytes.now }
-    requires saved_entry_size_in_bounds { entry_at + saved_entry_size ≤ length bytes.now }
-    requires node_size_in_bounds { to + node_size ≤ length s.old }
-    ensures { s.new ≡ splice s.old to (part bytes.now key_at key_size ++ part bytes.now entry_at saved_entry_size) }
+// The value of place j of the bucket.
+fn value_at(bucket: &[u8; Layout::BUCKET], j: usize) -> Value
+    requires { j < max_nodes_per_bucket }
+    ensures { value_of result ≡ (node_at bucket.now j).value }
 {
-    let key = Key::load(bytes, key_at);
-    let front = words::get_u64(bytes, entry_at);
-    let back = words::get_u64(bytes, entry_at + (ENTRY - 8));
-    key.store(s, to);
-    words::put_u64(s, to + Layout::KEY, front);
-    words::put_u64(s, to + (Layout::NODE - 8), back);
+    storage::load_value(&storage::place(bucket, j)[Layout::VALUE_AT..Layout::NODE])
 }
 
-// Of the count nodes from the one of index `from` on, those before the first that does not say disconnected.
-fn disconnected(bytes: &[u8], nodes: usize, from: usize, count: usize) -> usize
-    requires sized { Sized bytes.now nodes }
-    requires count_bound { from + count ≤ nodes }
-    ensures { result ≡ disconnected_from bytes.now from count }
-{
-    for j in 0..count {
-        if bytes[model::NUM_BUCKETS + nodes * Layout::KEY + (from + j) * ENTRY] != 0 {
-            return j;
-        }
-    }
-    count
-}
-
-// Bucket i of the bytes as a table stores it, put at `at`, where all is zero. Its first node is that of index `from`.
-fn build(bytes: &[u8], nodes: usize, from: usize, i: usize, s: &mut [u8], at: usize)
-    requires bucketed { Bucketed bytes.now nodes from i }
-    requires i_bound { get_or bytes.now i 0 ≤ max_nodes_per_bucket }
-    requires bucket_size_in_bounds { at + bucket_size ≤ length s.old }
-    requires bucket_size_value { are_zero s.old at bucket_size ≡ true }
-    ensures { s.new ≡ splice s.old at (loaded_bytes bytes.now i) }
-{
-    let size = bytes[i];
-    let count = usize::from(size);
-    let first = disconnected(bytes, nodes, from, count);
-    words::put_byte(s, at, size);
-    words::put_byte(s, at + 1, first as u8);
-    for j in 0..count {
-        copy_node(
-            bytes,
-            model::NUM_BUCKETS + (from + j) * Layout::KEY,
-            model::NUM_BUCKETS + nodes * Layout::KEY + (from + j) * ENTRY,
-            s,
-            at + (Layout::PLACES_AT + j * Layout::NODE),
-        );
-    }
-}
-
-// The value of place j of the bucket at `at`.
-fn value_at(s: &[u8], at: usize, j: usize) -> Value
-    requires { (at + bucket_size ≤ length s.now) × (j < max_nodes_per_bucket) }
-    ensures { value_of result ≡ (node_at (part s.now at bucket_size) j).value }
-{
-    storage::load_value(
-        s,
-        at + (Layout::PLACES_AT + j * Layout::NODE) + Layout::VALUE_AT,
-    )
-}
-
-// Three of the first count places of the bucket at `at` have the same third octet. Elsewhere no three values are of one /24.
-fn is_crowded(s: &[u8], at: usize, count: usize) -> bool
-    requires { (at + bucket_size ≤ length s.now) × (count ≤ max_nodes_per_bucket) }
-    ensures { result ≡ false → NoThree (octet_at s.now at) count }
+// Three nodes of the bucket have the same third octet. Elsewhere no three values are of one /24.
+fn is_crowded(bucket: &[u8; Layout::BUCKET]) -> bool
+    requires { get_or bucket.now 0 0 ≤ max_nodes_per_bucket }
+    ensures { result ≡ false → NoThree (octet_at bucket.now) (get_or bucket.now 0 0) }
 {
     let mut seen = [0u8; 256];
-    for j in 0..count {
-        let place = at + (Layout::PLACES_AT + j * Layout::NODE);
-        let octet = usize::from(s[place + Layout::VALUE_AT + 3]);
+    for j in 0..usize::from(bucket[0]) {
+        let octet = usize::from(storage::place(bucket, j)[Layout::VALUE_AT + 3]);
         if 1 < seen[octet] {
             return true;
         }
@@ -108,178 +51,120 @@ fn is_crowded(s: &[u8], at: usize, count: usize) -> bool
     false
 }
 
-// One of the first count places of the bucket at `at` holds a value that counts against both.
-fn third(s: &[u8], at: usize, count: usize, a: Value, b: Value) -> bool
-    requires { (at + bucket_size ≤ length s.now) × (count ≡ get_or s.now at 0) × (count ≤ max_nodes_per_bucket) }
-    ensures { result ≡ third_of (value_of a) (value_of b) (nodes_in (part s.now at bucket_size)) }
+// A node of the bucket holds a value that counts against both.
+fn third(bucket: &[u8; Layout::BUCKET], a: Value, b: Value) -> bool
+    requires { get_or bucket.now 0 0 ≤ max_nodes_per_bucket }
+    ensures { result ≡ third_of (value_of a) (value_of b) (nodes_in bucket.now) }
 {
-    (0..count).any(|j| {
-        let c = value_at(s, at, j);
+    (0..usize::from(bucket[0])).any(|j| {
+        let c = value_at(bucket, j);
         node::filter::counts(a, c) & node::filter::counts(b, c)
     })
 }
 
-// Two of the first count places of the bucket at `at` hold values that count against the value and against each other.
-fn two_beside(s: &[u8], at: usize, count: usize, a: Value) -> bool
-    requires { (at + bucket_size ≤ length s.now) × (count ≡ get_or s.now at 0) × (count ≤ max_nodes_per_bucket) }
-    ensures { result ≡ two_beside (value_of a) (nodes_in (part s.now at bucket_size)) }
+// Two nodes of the bucket hold values that count against the value and against each other.
+fn two_beside(bucket: &[u8; Layout::BUCKET], a: Value) -> bool
+    requires { get_or bucket.now 0 0 ≤ max_nodes_per_bucket }
+    ensures { result ≡ two_beside (value_of a) (nodes_in bucket.now) }
 {
-    (0..count).any(|j| {
-        let b = value_at(s, at, j);
-        node::filter::counts(a, b) && third(s, at, count, a, b)
+    (0..usize::from(bucket[0])).any(|j| {
+        let b = value_at(bucket, j);
+        node::filter::counts(a, b) && third(bucket, a, b)
     })
 }
 
-// The bucket at `at` holds three different values of one /24.
-fn three_of_a_net(s: &[u8], at: usize, count: usize) -> bool
-    requires { (at + bucket_size ≤ length s.now) × (count ≡ get_or s.now at 0) × (count ≤ max_nodes_per_bucket) }
-    ensures { result ≡ three_of_aNet (nodes_in (part s.now at bucket_size)) }
+// The bucket holds three different values of one /24.
+fn three_of_a_net(bucket: &[u8; Layout::BUCKET]) -> bool
+    requires { get_or bucket.now 0 0 ≤ max_nodes_per_bucket }
+    ensures { result ≡ three_of_aNet (nodes_in bucket.now) }
 {
-    if !is_crowded(s, at, count) {
+    if !is_crowded(bucket) {
         return false;
     }
-    (0..count).any(|j| two_beside(s, at, count, value_at(s, at, j)))
+    (0..usize::from(bucket[0])).any(|j| two_beside(bucket, value_at(bucket, j)))
 }
 
-// Question 9 of bucket i of the bytes, which is built in b, where all is zero.
-fn built_fits(
-    bytes: &[u8],
-    nodes: usize,
-    from: usize,
-    i: usize,
-    local: Key,
-    max_incoming: usize,
-    filter: Code,
-    b: &mut [u8],
-) -> bool
-    requires bucketed { Bucketed bytes.now nodes from i }
-    requires i_bound { get_or bytes.now i 0 ≤ max_nodes_per_bucket }
-    requires b_len { length b.old ≡ bucket_size }
-    requires bucket_size_value { are_zero b.old 0 bucket_size ≡ true }
-    ensures { result ≡ bucket_fits (num local) max_incoming filter bytes.now i }
+// Question 9 of a bucket of the bytes. One without nodes passes.
+fn bucket_fits(bucket: SavedBucket, local: Key, settings: Settings) -> bool
+    ensures { result ≡ bucket_fits (num local) (settings_of settings) bucket.entry.saved.bytes.now bucket.entry.i }
 {
-    build(bytes, nodes, from, i, b, 0);
-    if !well_formed::bucket_formed(b, 0, local, i, max_incoming) {
-        return false;
-    }
-    if filter != 1 {
-        return true;
-    }
-    !three_of_a_net(b, 0, usize::from(bytes[i]))
-}
-
-// Question 9 of bucket i of the bytes. One without nodes passes.
-fn bucket_fits(
-    bytes: &[u8],
-    nodes: usize,
-    from: usize,
-    i: usize,
-    local: Key,
-    max_incoming: usize,
-    filter: Code,
-) -> bool
-    requires { Bucketed bytes.now nodes from i }
-    ensures { result ≡ bucket_fits (num local) max_incoming filter bytes.now i }
-{
-    let count = usize::from(bytes[i]);
+    let count = bucket.count();
     if count == 0 {
         return true;
     }
     if model::MAX_NODES_PER_BUCKET < count {
         return false;
     }
-    let mut b = [0u8; Layout::BUCKET];
-    built_fits(bytes, nodes, from, i, local, max_incoming, filter, &mut b)
+    let mut built = [0u8; Layout::BUCKET];
+    bucket.build(&mut built);
+    if !well_formed::bucket_formed(&built, local, bucket.i, settings.max_incoming) {
+        return false;
+    }
+    if settings.filter != 1 {
+        return true;
+    }
+    !three_of_a_net(&built)
 }
 
 // Question 9 of every bucket of the bytes.
-fn buckets_fit(bytes: &[u8], nodes: usize, local: Key, max_incoming: usize, filter: Code) -> bool
-    requires { Sized bytes.now nodes }
-    ensures { result ≡ all_below num_buckets (bucket_fits (num local) max_incoming filter bytes.now) }
+fn buckets_fit(saved: Saved, local: Key, settings: Settings) -> bool
+    ensures { result ≡ all_below num_buckets (bucket_fits (num local) (settings_of settings) saved.entry.bytes.now) }
 {
     let mut from: usize = 0;
     for i in 0..model::NUM_BUCKETS {
-        if !bucket_fits(bytes, nodes, from, i, local, max_incoming, filter) {
+        let bucket = SavedBucket { saved, i, from };
+        if !bucket_fits(bucket, local, settings) {
             return false;
         }
-        from += usize::from(bytes[i]);
+        from += bucket.count();
     }
     true
 }
 
-// How many nodes the sizes say.
-fn saved_nodes(bytes: &[u8]) -> usize
-    requires { num_buckets ≤ length bytes.now }
-    ensures { (result ≡ saved_count bytes.now) × (result ≤ 255 * num_buckets) }
-{
-    let mut n: usize = 0;
-    for b in &bytes[..model::NUM_BUCKETS] {
-        n += usize::from(*b);
-    }
-    n
-}
-
 // The table holds no node, pending or record.
-fn holds_nothing(s: &[u8]) -> bool
-    requires { (length s.now ≡ storage_size) × (formed s.now ≡ true) }
+fn holds_nothing(s: &[u8; Layout::STORAGE]) -> bool
+    requires { formed s.now ≡ true }
     ensures { result ≡ holds_nothing (table_of s.now) }
 {
     if s[Layout::RECORD_COUNT_AT] != 0 {
         return false;
     }
     for i in 0..model::NUM_BUCKETS {
-        let at = Layout::HEADER + i * Layout::BUCKET;
-        if !((s[at] == 0) & (s[at + Layout::PENDING_AT] == 0)) {
+        let bucket = storage::bucket(s, i);
+        if !((bucket[0] == 0) & (bucket[Layout::PENDING_AT] == 0)) {
             return false;
         }
     }
     true
 }
 
-// Question 9.
-fn load_fits(s: &[u8], bytes: &[u8]) -> bool
-    requires { (length s.now ≡ storage_size) × (formed s.now ≡ true) }
-    ensures { result ≡ load_fits bytes.now (table_of s.now) }
+// The bytes, where they pass question 9.
+fn fitting<'a>(s: &[u8; Layout::STORAGE], bytes: &'a [u8]) -> Option<Saved<'a>>
+    requires { formed s.now ≡ true }
+    ensures { MatchOption result (load_fits bytes.now (table_of s.now) ≡ false) (λ x. (load_fits bytes.now (table_of s.now) ≡ true) × (x.bytes.now ≡ bytes.now)) }
 {
     if !holds_nothing(s) {
-        return false;
+        return None;
     }
-    if bytes.len() < model::NUM_BUCKETS {
-        return false;
+    let saved = Saved::of(bytes)?;
+    if !buckets_fit(saved, header::local_key(s), header::settings(s)) {
+        return None;
     }
-    let nodes = saved_nodes(bytes);
-    if bytes.len() != model::NUM_BUCKETS + nodes * Layout::NODE {
-        return false;
-    }
-    let local = header::local_key(s);
-    let max_incoming = usize::from(s[Layout::MAX_INCOMING_AT]);
-    buckets_fit(
-        bytes,
-        nodes,
-        local,
-        max_incoming,
-        s[Layout::BUCKET_FILTER_AT],
-    )
+    Some(saved)
 }
 
 // Every bucket of the bytes, put into storage whose buckets are all zero.
-fn load_all(bytes: &[u8], nodes: usize, s: &mut [u8])
-    requires sized { Sized bytes.now nodes }
-    requires held { Held bytes.now }
+fn load_all(saved: Saved, s: &mut [u8; Layout::STORAGE])
+    requires held { Held saved.bytes.now }
     requires blank { Blank s.old }
-    ensures { LoadedFrom s.old bytes.now s.new }
+    ensures { LoadedFrom s.old saved.entry.bytes.now s.new }
 {
     let mut from: usize = 0;
     for i in 0..model::NUM_BUCKETS {
-        build(
-            bytes,
-            nodes,
-            from,
-            i,
-            s,
-            Layout::HEADER + i * Layout::BUCKET,
-        );
-        from += usize::from(bytes[i]);
+        let bucket = SavedBucket { saved, i, from };
+        let at = Layout::HEADER + i * Layout::BUCKET;
+        bucket.build(&mut s[at..at + Layout::BUCKET]);
+        from += bucket.count();
     }
 }
 
@@ -287,11 +172,9 @@ fn load_all(bytes: &[u8], nodes: usize, s: &mut [u8])
 pub fn read(s: &mut [u8], bytes: &[u8]) -> Result<usize, Refusal>
     ensures { Answers (read_answer result) s.new (step_bytes (Call.read bytes.now) s.old) }
 {
+    let s = s.as_mut_array().ok_or(Refusal::Size)?;
     on_key::asked_table(s)?;
-    if !load_fits(s, bytes) {
-        return Err(Refusal::Load);
-    }
-    let nodes = saved_nodes(bytes);
-    load_all(bytes, nodes, s);
-    Ok(nodes)
+    let saved = fitting(s, bytes).ok_or(Refusal::Load)?;
+    load_all(saved, s);
+    Ok(saved.nodes)
 }

@@ -10,34 +10,41 @@ ghost use Rattle.node.specs.Status.{state_code, direction_code, state_of, direct
 ghost use Rattle.node.specs.Refusal.{number_of};
 
 use key::Key;
+use std::fmt;
 
 pub mod filter;
 
 // Why a call is refused: the first question that fails, by the names of include/kbuckets.h (01, "The gatekeeper's questions"; 02).
-#[derive(Clone, Copy, PartialEq, Eq)]
+#[derive(Clone, Copy, Debug, PartialEq, Eq)]
 pub enum Refusal {
-    // The storage has another length.
+    // The storage, or the bucket, has another length.
     Size = 1,
-    // What the call reads of it is malformed.
+    // The settings, the queue or a bucket that the call reads are malformed.
     Form = 2,
     // A key is not 32 bytes.
     Key = 3,
     // A code is out of range.
     Code = 4,
-    // The time and the pending timeout do not fit.
+    // The time and the pending timeout are together above 2^64 - 1.
     Time = 5,
-    // The count is too large, or the output too short.
+    // n is above 4096, or the output or the answer is too short.
     Output = 6,
-    // The key's entry is of another kind.
+    // The key is not of the kind that the entry action needs.
     Kind = 7,
-    // The queue has no room.
+    // The call would leave more than 64 records in the queue.
     Queue = 8,
-    // The bytes cannot be loaded.
+    // The bytes to be read cannot be loaded, or the table holds something.
     Load = 9,
-    // The windows, the closed dates or the moment are none.
+    // A window, a closed date, the date or the minute is no such thing, or there are too many windows or closed dates.
     Hours = 10,
-    // The key is new, and it is outside all windows.
+    // The key is new, and the moment is outside all windows.
     Closed = 11,
+}
+
+impl fmt::Display for Refusal {
+    fn fmt<W: fmt::Write>(&self, f: &mut fmt::Formatter<W>) -> fmt::Result {
+        write!(f, "refused with {}", self.number())
+    }
 }
 
 impl Refusal {
@@ -49,8 +56,8 @@ impl Refusal {
     }
 }
 
-// A code: 0 or 1, of a direction or a state that need not be given also 2. A number and no enum, since question 4 is asked of it: a call takes any code and
-// refuses a wrong one, and behind the question the code is the byte that is stored (docs/DECISIONS.md).
+// A code: 0 or 1, of a direction or a state that need not be given also 2. A number and no enum, since question 4 is asked of it: a call
+// takes any code and refuses a wrong one, and behind the question the code is the byte that is stored (docs/DECISIONS.md).
 pub type Code = u8;
 
 // The number of a slot of the host's record store: 64 bits (02, slip 2).
@@ -67,7 +74,8 @@ pub struct Value {
     pub slot: Slot,
 }
 
-// The connection state of a node. It and the direction are the Rust's two enums; a trait for their codes would be longer than both `from_code`.
+// The connection state of a node. It and the direction are the Rust's two enums; a trait for their codes would be longer than both
+// `from_code`.
 #[derive(Clone, Copy)]
 pub enum ConnectionState {
     Connected,
@@ -99,7 +107,7 @@ pub struct Node {
 }
 
 impl ConnectionState {
-    // The state of a code, which is refused over 1.
+    // The state of a code; a code over 1 is refused.
     pub fn from_code(code: Code) -> Result<ConnectionState, Refusal>
         ensures { result ≡ state_of code }
     {
@@ -121,7 +129,7 @@ impl ConnectionState {
 }
 
 impl ConnectionDirection {
-    // The direction of a code, which is refused over 1.
+    // The direction of a code; a code over 1 is refused.
     pub fn from_code(code: Code) -> Result<ConnectionDirection, Refusal>
         ensures { result ≡ direction_of code }
     {
@@ -165,8 +173,8 @@ impl Value {
 
     pub const BYTES: usize = Value::ADDRESS + Value::SLOT;
 
-    // Values are equal when both have one address, or neither has one, and their slots are equal. It is no derived `==`: the octets of two values
-    // without an address are not compared.
+    // Values are equal when both have one address, or neither has one, and their slots are equal. It is no derived `==`: the octets of two
+    // values without an address are not compared.
     pub fn eq(self, other: Value) -> bool
         ensures { result ≡ same_value (value_of self) (value_of other) }
     {

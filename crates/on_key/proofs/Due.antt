@@ -1,20 +1,17 @@
--- The pending that is due and the count, as they stand in a bucket's bytes.
+-- A pending that is not due, and the count as it stands in the bytes of a bucket.
 use mathlib.Core.Path.{◌≡◌, refl, ap, ◌∙◌}
 use mathlib.Core.Bool.{false}
 use mathlib.Core.List.{List, []}
 use mathlib.Core.Option.{Option, none, some}
-use Prim.Native.Nat.{ℕ, ◌+◌}
+use Prim.Native.Nat.{ℕ}
 use native.Mathlib.Nat.{add-zero}
 use native.Mathlib.Omega.{arith}
 use lib.ListN.{get_or}
-use lib.Dec.{leb}
-use borrow.Author.Tests.{ne_eqb}
-use Rattle.model.specs.Bytes.{number, part}
 use Rattle.model.specs.Node.{PendingNode}
 use Rattle.model.specs.Bucket.{Bucket, BucketSettings, num_entries, apply_if_due, apply_pending}
-use Rattle.model.specs.Sizes.{time_size, node_size, pending_at, bucket_size, bucket_at}
-use Rattle.model.specs.Layout.{bucket_in, bucket_part, table_of}
-use Rattle.laws.proofs.Parts.{get_d_part, part_part}
+use Rattle.model.specs.Sizes.{bucket_size, bucket_at}
+use Rattle.model.specs.Layout.{bucket_part, table_of}
+use Rattle.laws.proofs.Parts.{get_d_part}
 use Rattle.laws.proofs.BucketBack.{count_in}
 use Rattle.on_key.specs.Answers.{is_due}
 
@@ -27,19 +24,6 @@ not_due s now b e = go b.pending e
     go none e = refl
     go (some p) e = rw e
 
-module _ (s : List ℕ) (i : ℕ) where
-  pub count_is : num_entries ((table_of s).buckets i) ≡ get_or s (bucket_at i) 0
-  unfolding table_of
-  count_is = count_in (bucket_part s i) ∙ get_d_part s (bucket_at i) bucket_size 0 (omega arith) ∙ ap (λ (k : ℕ). get_or s k 0) (add-zero (bucket_at i))
-
-  abbrev pub flag_at : ℕ
-  flag_at = bucket_at i + pending_at
-
-  pub due_waiting : (now : ℕ) → get_or s flag_at 0 ≡ 1
-      → is_due now ((table_of s).buckets i).pending ≡ leb (number (part s (bucket_at i + (pending_at + 1 + node_size)) time_size)) now
-  unfolding table_of bucket_in
-  due_waiting now e = rw (get_d_part s (bucket_at i) bucket_size pending_at (omega arith), e, part_part s (bucket_at i) bucket_size (pending_at + 1 + node_size) time_size (omega arith))
-
-  pub due_nothing : (now : ℕ) → (get_or s flag_at 0 ≡ 1 → ⊥) → is_due now ((table_of s).buckets i).pending ≡ false
-  unfolding table_of bucket_in
-  due_nothing now e = rw (get_d_part s (bucket_at i) bucket_size pending_at (omega arith), ne_eqb (get_or s flag_at 0) 1 e)
+pub count_is : (s : List ℕ) (i : ℕ) → num_entries ((table_of s).buckets i) ≡ get_or s (bucket_at i) 0
+unfolding table_of
+count_is s i = count_in (bucket_part s i) ∙ get_d_part s (bucket_at i) bucket_size 0 (omega arith) ∙ ap (λ (k : ℕ). get_or s k 0) (add-zero (bucket_at i))

@@ -1,36 +1,37 @@
--- A call on one key whose bucket has no pending: nothing is applied, no record is added, so question 8 passes, and the bucket may be
--- changed in place (crates/held).
-use Prim.Native.Nat.{ℕ, ◌+◌}
+-- A call on one key whose bucket has no pending: nothing is applied, no record is added, so question 8 passes, and the bucket's bytes may
+-- be changed in place (crates/held).
+use Prim.Native.Nat.{ℕ, ◌+◌, ◌-◌}
 use native.Mathlib.Omega.{arith}
+use borrow.Rule.Slice.PartMut.{put_mid}
 use mathlib.Core.Path.{◌≡◌, refl, sym, ap, ◌∙◌}
 use mathlib.Core.Bool.{Bool, true, ◌&&◌}
 use mathlib.Core.List.{List, [], ◌++◌, append-nil}
 use mathlib.Core.Option.{Option, none, some}
-use lib.ListN.{length}
-use borrow.Author.Tests.{le-leb}
-use Rattle.model.specs.Bytes.{Bytes, number, part, splice}
-use Rattle.model.specs.Value.{Value}
-use Rattle.model.specs.Node.{Node, PendingNode, Ending, EndedPending, ended_if}
-use Rattle.model.specs.Result.{BucketInsertResult, is_inserted, is_failed}
-use Rattle.model.specs.Bucket.{Bucket, BucketSettings, nodes, holds, of_key, insert, insert_endings, apply_pending, is_first, status_endings, update_value}
-use Rattle.model.specs.Table.{Table, Answer, Effect, max_records, with_queue, no_endings, fails_table_filter, given_status_endings, update_node_endings, insert_or_update_endings}
-use Rattle.model.specs.Sizes.{bucket_size, bucket_at}
+use lib.ListN.{length, get_or, take, drop}
+use Rattle.model.specs.Key.{bucket_index}
+use Rattle.model.specs.Bytes.{Bytes, number, splice}
+use Rattle.model.specs.Value.{Value, same_value}
+use Rattle.model.specs.Node.{Node, PendingNode, Ending, EndedPending, ended_if, with_value}
+use Rattle.model.specs.Result.{BucketInsertResult, UpdateResult, is_inserted, is_failed}
+use Rattle.model.specs.Bucket.{Bucket, BucketSettings, nodes, get, holds, of_key, fails_bucket_filter, take_out, insert, insert_endings, apply_pending, is_first, status_endings, update_if_pending, update_value_of, update_value}
+use Rattle.model.specs.Table.{Table, Answer, Effect, with_queue, no_endings, fails_table_filter, given_status_endings, update_node_endings, insert_or_update_endings}
+use Rattle.model.specs.Sizes.{bucket_size, max_incoming_at, bucket_at}
 use Rattle.model.specs.Call.{Call, KeyCall, is_one, optional, value_of}
-use Rattle.model.specs.Question.{first_failed, key_arguments, kind_of_key}
+use Rattle.model.specs.Question.{key_arguments}
 use Rattle.model.specs.Step.{node_of, effect}
-use Rattle.model.specs.Layout.{header_bytes, bucket_bytes, table_of}
+use Rattle.model.specs.Layout.{header_bytes, bucket_bytes, bucket_in, table_of}
+use Rattle.model.specs.Formed.{bucket_formed, key_in, is_at}
 use Rattle.model.specs.StepBytes.{step_bytes}
 use Rattle.laws.proofs.Tests.{cases}
-use Rattle.laws.proofs.HeaderBack.{queue_fits_lem}
+use Rattle.laws.proofs.Parts.{sliced}
+use Rattle.words.proofs.Words.{put_mid_splice}
 use Rattle.key.specs.declared.Key.{Key}
 use Rattle.key.specs.Key.{num}
-use Rattle.held.specs.Held.{Quiet, Does, bucket_here, settings_here}
-use Rattle.held.proofs.Again.{value_keeps_none}
-use Rattle.on_key.specs.Answers.{Answers, is_due, Ready, room_for, rewritten}
+use Rattle.on_key.specs.Answers.{Answers, is_due, Ready, rewritten}
 use Rattle.on_key.specs.Start.{AtBucket}
 use Rattle.on_key.proofs.Due.{not_due}
-use Rattle.on_key.proofs.Stored.{written_back}
-use Rattle.on_key.proofs.OneKey.{ReadFormed, hours, suits, suits_all, same_header, refused_hours, answers_in, in_done}
+use Rattle.on_key.proofs.Stored.{written_back, room_for_none}
+use Rattle.on_key.proofs.OneKey.{ReadFormed, suits, same_header, answers_in, in_done}
 
 -- a bucket without a pending
 
@@ -52,6 +53,17 @@ module _ (b : Bucket) (e : b.pending ≡ none) where
       cases (λ (l : List EndedPending). l ≡ []) fails (λ _. refl)
       (λ _. cases (λ (l : List EndedPending). l ≡ []) (holds n.key b) (λ _. status_ends_none n.key n.connected) (λ _. insert_ends_none n (insert s now n b).0))
 
+  -- nor is one made by a new value
+  value_keeps_none : (s : BucketSettings) (k : ℕ) (v : Value) → (update_value s k v b).1.pending ≡ none
+  unfolding update_value
+  value_keeps_none s k v = go (get k b)
+    where
+      go : (o : Option Node) → (update_value_of s k v b o).1.pending ≡ none
+      go none = ap (λ (o : Option PendingNode). (update_if_pending k (with_value v) b o).1.pending) e ∙ e
+      go (some n) =
+          let P : UpdateResult × Bucket → Type 0 = λ r. r.1.pending ≡ none in
+          cases P (same_value n.value v) (λ _. e) (λ _. cases P (fails_bucket_filter s v (take_out k b)) (λ _. e) (λ _. e))
+
   -- a call that applies a due pending first
   after_ends_none : (s : BucketSettings) (now : ℕ) (g : Bucket → List EndedPending) → g b ≡ [] → (apply_pending s now b).1 ++ g (apply_pending s now b).0 ≡ []
   after_ends_none s now g h = ap (λ (a : Bucket × List EndedPending). a.1 ++ g a.0) (none_applied s now) ∙ h
@@ -62,7 +74,7 @@ update_ends_none b e s fails k v u =
   where
     given : (u : Option Bool) → given_status_endings k u (update_value s k v b).1 ≡ []
     given none = refl
-    given (some u) = status_ends_none (update_value s k v b).1 (value_keeps_none s k b e v) k u
+    given (some u) = status_ends_none (update_value s k v b).1 (value_keeps_none b e s k v) k u
 
 -- no call adds a record
 pub none_recorded : (c : KeyCall) (key : List ℕ) (t : Table) (i : ℕ) (b : Bucket) → b.pending ≡ none → (effect c key t i b).records ≡ []
@@ -82,6 +94,19 @@ none_recorded (KeyCall.present_update st dr) key t i b e = status_ends_none b e 
 none_recorded (KeyCall.pending_update st dr) key t i b e = refl
 none_recorded (KeyCall.absent_insert v st dr now hs) key t i b e = insert_ends_none b e (node_of key v st dr) (insert t.settings.bucket now (node_of key v st dr) b).0
 
+-- the bytes of bucket i, as a range of the storage's bytes has them
+abbrev pub ranged : List ℕ → ℕ → List ℕ
+ranged s i = take (bucket_at i + bucket_size - bucket_at i) (drop (bucket_at i) s)
+
+-- these bytes pass question 2, and say whether the bucket has a pending
+module _ {s : List ℕ} {i : ℕ} (y : Ready s i) where
+  pub formed_in : bucket_formed (λ k. is_at (bucket_index (key_in s) k) i) (get_or s max_incoming_at 0) (ranged s i) ≡ true
+  formed_in = rw (sliced s (bucket_at i) bucket_size) y.bucket
+
+  pub none_here : (bucket_in (ranged s i)).pending ≡ none → ((table_of s).buckets i).pending ≡ none
+  unfolding table_of
+  none_here e = rw (sliced s (bucket_at i) bucket_size) at e
+
 -- the storage with another bucket i and no further record
 pub rewritten_in_place : (s : List ℕ) → Bytes s → (i : ℕ) → Ready s i → (b : Bucket) → splice s (bucket_at i) (bucket_bytes b) ≡ rewritten s i b []
 rewritten_in_place s h i y b =
@@ -89,13 +114,28 @@ rewritten_in_place s h i y b =
     (sym (ap (λ (q : List EndedPending). splice s 0 (header_bytes (with_queue q (table_of s)))) (append-nil (table_of s).queue) ∙ same_header s h y.size y.header))
     ∙ written_back s [] i b
 
-room_for_none : (s : List ℕ) → Bytes s → (i : ℕ) → Ready s i → room_for s [] ≡ true
-unfolding room_for
-room_for_none s h i y = le-leb (length (table_of s).queue + 0) max_records (omega (arith, queue_fits_lem s (omega (arith, y.size)) h y.header))
+-- the answer of the step x on bucket i, and the storage that it leaves
+pub record Did {A : Type 0} (x : A × Bucket) (i : ℕ) (s : List ℕ) (answer : A) (left : List ℕ) : Type 0 where
+  pub answers : answer ≡ x.0
+  pub leaves : left ≡ splice s (bucket_at i) (bucket_bytes x.1)
+
+-- what the step F answered and left of bucket i's bytes, with the settings read from the storage and the key as the bytes that were given
+pub did : {A : Type 0} {s key : List ℕ} {codes : Bool} {now : Option ℕ} {k : Key} {i : ℕ} → AtBucket s key codes now k i → (F : BucketSettings → ℕ → Bucket → A × Bucket)
+    → {v : BucketSettings} → v ≡ (table_of s).settings.bucket → {a : A} → a ≡ (F v (num k) (bucket_in (ranged s i))).0
+    → {left : List ℕ} → left ≡ bucket_bytes (F v (num k) (bucket_in (ranged s i))).1 → length left ≡ bucket_size
+    → Did (F (table_of s).settings.bucket (number key) ((table_of s).buckets i)) i s a (put_mid (bucket_at i) (bucket_at i + bucket_size - bucket_at i) s left)
+unfolding table_of
+did {A} {s} {key} {k = k} {i = i} y F {v} x {a} p {left} q l =
+    let e : F v (num k) (bucket_in (ranged s i)) ≡ F (table_of s).settings.bucket (number key) ((table_of s).buckets i) = rw (x, y.key_is, sliced s (bucket_at i) bucket_size) in
+    let w : left ≡ bucket_bytes (F (table_of s).settings.bucket (number key) ((table_of s).buckets i)).1 = q ∙ ap (λ (r : A × Bucket). bucket_bytes r.1) e in
+    record {
+      answers = p ∙ ap (λ (r : A × Bucket). r.0) e;
+      leaves = put_mid_splice s (bucket_at i) (bucket_at i + bucket_size - bucket_at i) w (ap length (sym w) ∙ l ∙ omega arith);
+    }
 
 -- what a call did in place is what it does: F is its own step, f its answer
 module _ (s key : List ℕ) (c : KeyCall) {k : Key} {i : ℕ} (y : AtBucket s key (key_arguments c).codes (key_arguments c).now k i)
-    (d : ReadFormed s key c) (g : suits s key c ≡ true) (h : Bytes s) (q : Quiet (part s (bucket_at i) bucket_size)) where
+    (d : ReadFormed s key c) (g : suits s key c ≡ true) (h : Bytes s) (w : ((table_of s).buckets i).pending ≡ none) where
   abbrev b : Bucket
   b = (table_of s).buckets i
 
@@ -105,40 +145,17 @@ module _ (s key : List ℕ) (c : KeyCall) {k : Key} {i : ℕ} (y : AtBucket s ke
   abbrev e : Effect
   e = effect c key (table_of s) i b
 
-  pub none_waits : b.pending ≡ none
-  unfolding table_of
-  none_waits = q.pending
-
-  module _ {A : Type 0} (F : BucketSettings → ℕ → Bucket → A × Bucket) {a : A} {s' : List ℕ} (x : Does (F (settings_here s) (num k) (bucket_here s (bucket_at i))) (bucket_at i) s a s') (f : A → Answer) where
-    did : Does (F u (number key) b) (bucket_at i) s a s'
-    unfolding table_of
-    did =
-        record {
-          answers = x.answers ∙ ap (λ (n : ℕ). (F (settings_here s) n (bucket_here s (bucket_at i))).0) y.key_is;
-          leaves = x.leaves ∙ ap (λ (n : ℕ). splice s (bucket_at i) (bucket_bytes (F (settings_here s) n (bucket_here s (bucket_at i))).1)) y.key_is;
-        }
-
+  module _ {A : Type 0} (F : BucketSettings → ℕ → Bucket → A × Bucket) {a : A} {s' : List ℕ} (x : Did (F u (number key) b) i s a s') (f : A → Answer) where
     -- a call that acts on the bucket as it is stored
     pub in_place : f (F u (number key) b).0 ≡ e.answer → (F u (number key) b).1 ≡ e.bucket → Answers (f a) s' (step_bytes (Call.on_key key c) s)
     in_place p r =
         answers_in s key c y.passed d g i y.index
-        (in_done s i e (f a) s' (F u (number key) b).1 [] (room_for_none s h i y.ready) (did.leaves ∙ rewritten_in_place s h i y.ready (F u (number key) b).1) (ap f did.answers ∙ p) r
-        (sym (none_recorded c key (table_of s) i b none_waits)))
+        (in_done s i e (f a) s' (F u (number key) b).1 [] (room_for_none s h i y.ready) (x.leaves ∙ rewritten_in_place s h i y.ready (F u (number key) b).1) (ap f x.answers ∙ p) r
+        (sym (none_recorded c key (table_of s) i b w)))
 
     -- a call that applies a due pending first
     pub in_place_at : (now : ℕ) → f (F u (number key) (apply_pending u now b).0).0 ≡ e.answer → (F u (number key) (apply_pending u now b).0).1 ≡ e.bucket
         → Answers (f a) s' (step_bytes (Call.on_key key c) s)
     in_place_at now p r =
-        let z : b ≡ (apply_pending u now b).0 = ap (λ (w : Bucket × List EndedPending). w.0) (sym (none_applied b none_waits u now)) in
+        let z : b ≡ (apply_pending u now b).0 = ap (λ (w : Bucket × List EndedPending). w.0) (sym (none_applied b w u now)) in
         in_place (ap (λ (m : Bucket). f (F u (number key) m).0) z ∙ p) (ap (λ (m : Bucket). (F u (number key) m).1) z ∙ r)
-
--- a call that is given session hours, whose bucket is changed in place: nothing is recorded, so that question 8 passes
-module _ (s key : List ℕ) (c : KeyCall) {k : Key} {i : ℕ} (y : AtBucket s key (key_arguments c).codes (key_arguments c).now k i)
-    (d : ReadFormed s key c) (g : (key_arguments c).kind (kind_of_key key (table_of s)) ≡ true) (h : Bytes s) (w : ((table_of s).buckets i).pending ≡ none) where
-  pub in_place_refused : {n : ℕ} → some n ≡ first_failed (hours s key c) → Answers (Answer.Refused n) s (step_bytes (Call.on_key key c) s)
-  in_place_refused {n} z =
-      refused_hours s key c y.passed d g y.index
-      (ap (room_for s) (none_recorded c key (table_of s) i ((table_of s).buckets i) w) ∙ room_for_none s h i y.ready) n (sym z)
-
-  pub in_place_suits : none ≡ first_failed (hours s key c) → suits s key c ≡ true
-  in_place_suits z = suits_all s key c g (sym z)

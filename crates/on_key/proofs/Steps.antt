@@ -1,13 +1,14 @@
 -- The steps that the calls on one key share.
 use Rattle.std.specs.Prelude as code
 use Rattle.std.specs.Prelude.{Result, Ok, Err, Some, None}
-use Prim.Native.Nat.{ℕ, ◌+◌, ◌^◌, ◌<◌}
+use Prim.Native.Nat.{ℕ, ◌+◌, ◌^◌, ◌≤◌, ◌<◌}
 use native.Mathlib.Omega.{arith}
 use mathlib.Core.Path.{◌≡◌, sym, ap, ◌∙◌}
-use mathlib.Core.Bool.{Bool, true, cond}
+use mathlib.Core.Bool.{Bool, true, cond, ◌&&◌}
 use mathlib.Core.List.{List, [], ◌∷◌}
 use mathlib.Core.Option.{Option, none, some}
 use borrow.Author.Tests.{leb-true, eqb-true}
+use lib.Dec.{leb}
 use lib.ListN.{length}
 use Rattle.model.specs.Bucket.{Bucket, BucketSettings}
 use Rattle.model.specs.Table.{num_buckets}
@@ -15,6 +16,7 @@ use Rattle.model.specs.Sizes.{key_size, storage_size}
 use Rattle.model.specs.Layout.{table_of}
 use Rattle.model.specs.Formed.{formed}
 use Rattle.laws.proofs.TableBytes.{header_passes, bucket_passes}
+use Rattle.laws.proofs.Tests.{and_left, and_right}
 use Rattle.laws.proofs.Questions.{front_fails, front_passes}
 use Rattle.key.specs.declared.Key.{Key}
 use Rattle.node.specs.declared.Refusal.{Refusal}
@@ -47,6 +49,10 @@ module _ (s : List ℕ) (key : List ℕ) (codes : Bool) (now : Option ℕ) (e : 
 pub begun_refused : (s key : List ℕ) (codes : Bool) (now : Option ℕ) (n : ℕ) → failed_of_five key codes now s ≡ some n → failed_at_start key codes now s ≡ some n
 unfolding failed_of_five failed_at_start
 begun_refused s key codes now n e = front_fails (first_five key codes now s) ((2, key_formed s key) ∷ []) n e
+
+-- question 4 of a state and a direction that may be none
+pub status_in_range : (st dr : ℕ) → (leb st 1 && leb dr 2) ≡ true → (st ≤ 1) × (dr ≤ 2)
+status_in_range st dr p = (leb-true st 1 (and_left (leb st 1) (leb dr 2) p), leb-true dr 2 (and_right (leb st 1) (leb dr 2) p))
 
 pub timely : (s key : List ℕ) (codes : Bool) (time : ℕ) → failed_of_five key codes (some time) s ≡ none → Timely s time
 timely s key codes time e =

@@ -13,11 +13,12 @@ use Rattle.model.specs.Formed.{header_formed, bucket_formed_at, formed}
 use Rattle.model.specs.Question.{first_failed, deadline_fits}
 use Rattle.model.specs.StepBytes.{BytesOutcome, Replied, restore}
 use Rattle.node.specs.declared.Refusal.{Refusal}
-use Rattle.node.specs.Refusal.{answer_of}
+use Rattle.node.specs.Refusal.{failed_of, answer_of}
 use Rattle.bucket.specs.declared.KBucket.{KBucket}
 use Rattle.bucket.specs.declared.EndedPending as code
 use Rattle.bucket.specs.declared.UpdateResult.{UpdateResult}
-use Rattle.bucket.specs.Bucket.{Becomes}
+use Rattle.bucket.specs.declared.Step.{Step}
+use Rattle.bucket.specs.Bucket.{pending_of, Becomes}
 use Rattle.bucket.specs.Calls.{records_of, applied_codes, update_result_of}
 
 -- the answer and the storage are those of the outcome
@@ -106,6 +107,10 @@ gone k none q = []
 gone k (some p) none = ended p.node (cleared_as k p)
 gone k (some p) (some q) = []
 
+-- the record of a call on key k that leaves b: of the pending that was applied, or else of the one that the call's own step ended
+abbrev pub recorded : Step (prelude.Option code.EndedPending) → KBucket → ℕ → List EndedPending
+recorded a b k = either_of (records_of a.result) (gone k (pending_of a.bucket.pending) (pending_of b.pending))
+
 -- 01, question 8: the queue has room for the records
 unfoldable pub room_for : List ℕ → List EndedPending → Bool
 room_for s rs = leb (length (table_of s).queue + length rs) max_records
@@ -113,6 +118,11 @@ room_for s rs = leb (length (table_of s).queue + length rs) max_records
 -- the storage with another bucket i and further records
 unfoldable pub rewritten : List ℕ → ℕ → Bucket → List EndedPending → List ℕ
 rewritten s i b rs = restore s (i ∷ []) (write (table_of s) i b rs)
+
+-- question 8 of a call with these records; where it passes, they are in the queue, and bucket i is b
+pub record Finished (q : Result (Unit {0}) Refusal) (s' s : List ℕ) (i : ℕ) (b : Bucket) (rs : List EndedPending) : Type 0 where
+  pub asked : failed_of q ≡ cond (room_for s rs) none (some 8)
+  pub left : s' ≡ cond (room_for s rs) (rewritten s i b rs) s
 
 -- a call on the key's bucket i: question 8, then what the call does to the bucket
 unfoldable pub in_bucket : List ℕ → ℕ → Effect → BytesOutcome

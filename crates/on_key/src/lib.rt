@@ -1,20 +1,19 @@
 // Internal: what the table's calls on one key share. The questions, the key's bucket, and the bucket and its record written back.
 #![tactic(auto)]
 
-ghost use Rattle.std.specs.Prelude.{◌≡◌, true, cond, ◌+◌, ◌<◌, length};
+ghost use Rattle.std.specs.Prelude.{◌≡◌, true, cond, ◌+◌, leb, length};
 ghost use Rattle.std.proofs.Math.Option.{none, some};
 ghost use Rattle.model.specs.Bytes.{number};
-ghost use Rattle.model.specs.Table.{num_buckets, index_in};
-ghost use Rattle.model.specs.Sizes.{key_size, storage_size};
-ghost use Rattle.model.specs.Layout.{table_of};
+ghost use Rattle.model.specs.Table.{index_in, max_records};
+ghost use Rattle.model.specs.Sizes.{key_size};
+ghost use Rattle.model.specs.Layout.{bucket_in, table_of};
 ghost use Rattle.model.specs.Formed.{header_formed};
-ghost use Rattle.model.specs.Question.{deadline_fits};
 ghost use Rattle.key.specs.Key.{num};
 ghost use Rattle.key.specs.Answers.{option_of};
 ghost use Rattle.node.specs.Refusal.{failed_of};
 ghost use Rattle.bucket.specs.Bucket.{pending_of, bucket_of, Sound};
 ghost use Rattle.bucket.specs.Calls.{records_of, applied_codes};
-ghost use Rattle.on_key.specs.Answers.{failed_of_two, failed_of_table, failed_of_three, failed_of_five, Ready, Timely, is_due, AppliedAt, either_of, gone, room_for, rewritten};
+ghost use Rattle.on_key.specs.Answers.{failed_of_two, failed_of_table, failed_of_three, failed_of_five, Ready, Timely, is_due, AppliedAt, either_of, gone, recorded, room_for, rewritten, Finished};
 ghost use Rattle.on_key.specs.Start.{Located, Begun};
 
 use bucket::{EndedPending, Ending, KBucket, PendingNode, Step};
@@ -22,57 +21,45 @@ use key::Key;
 use node::Refusal;
 use storage::Layout;
 
-// Internal: questions 1 and 2; 2 is asked of the settings and the queue (document 02, slip 7).
+// Internal: question 2 of the settings and the queue (document 02, slip 7). Question 1 passes by the type, here and in what follows.
 #[tactic(auto, unfolding(crate::specs::Answers::failed_of_two))]
-pub fn asked_storage(s: &[u8]) -> Result<(), Refusal>
+pub fn asked_storage(s: &[u8; Layout::STORAGE]) -> Result<(), Refusal>
     ensures { failed_of result ≡ failed_of_two s.now }
 {
-    if s.len() != Layout::STORAGE {
-        return Err(Refusal::Size);
-    }
     if !well_formed::header_formed(s) {
         return Err(Refusal::Form);
     }
     Ok(())
 }
 
-// Internal: the same, with 2 asked of the whole table.
+// Internal: the same of the whole table.
 #[tactic(auto, unfolding(crate::specs::Answers::failed_of_table))]
-pub fn asked_table(s: &[u8]) -> Result<(), Refusal>
+pub fn asked_table(s: &[u8; Layout::STORAGE]) -> Result<(), Refusal>
     ensures { failed_of result ≡ failed_of_table s.now }
 {
-    if s.len() != Layout::STORAGE {
-        return Err(Refusal::Size);
-    }
     if !well_formed::formed(s) {
         return Err(Refusal::Form);
     }
     Ok(())
 }
 
-// Question 5.
-fn asked_clock(s: &[u8], time: u64) -> Result<(), Refusal>
-    requires { length s.now ≡ storage_size }
-    ensures { failed_of result ≡ cond (deadline_fits (table_of s.now).settings.bucket.pending_timeout (some time)) none (some 5) }
-{
-    if u64::MAX - header::pending_timeout(s) < time {
-        return Err(Refusal::Time);
-    }
-    Ok(())
-}
-
-// Internal: questions 1, 2 and 5, where no key is given.
+// Internal: questions 2 and 5, where no key is given.
 #[tactic(auto, unfolding(crate::specs::Answers::failed_of_two, crate::specs::Answers::failed_of_three))]
-pub fn asked_time(s: &[u8], time: u64) -> Result<(), Refusal>
+pub fn asked_time(s: &[u8; Layout::STORAGE], time: u64) -> Result<(), Refusal>
     ensures { failed_of result ≡ failed_of_three time s.now }
 {
     asked_storage(s)?;
-    asked_clock(s, time)
+    bucket::asked_time(header::pending_timeout(s), Some(time))
 }
 
-// Internal: questions 1 to 4 and, where a time is given, 5.
+// Internal: questions 2 to 4 and, where a time is given, 5.
 #[tactic(auto, unfolding(crate::specs::Answers::failed_of_two, crate::specs::Answers::failed_of_five))]
-pub fn asked(s: &[u8], key: &[u8], codes: bool, time: Option<u64>) -> Result<(), Refusal>
+pub fn asked(
+    s: &[u8; Layout::STORAGE],
+    key: &[u8],
+    codes: bool,
+    time: Option<u64>,
+) -> Result<(), Refusal>
     ensures { failed_of result ≡ failed_of_five key.now codes (option_of time) s.now }
 {
     asked_storage(s)?;
@@ -82,46 +69,33 @@ pub fn asked(s: &[u8], key: &[u8], codes: bool, time: Option<u64>) -> Result<(),
     if !codes {
         return Err(Refusal::Code);
     }
-    match time {
-        None => Ok(()),
-        Some(time) => asked_clock(s, time),
-    }
-}
-
-// Internal: the key of 32 bytes.
-pub fn key_of(key: &[u8]) -> Key
-    requires { length key.now ≡ key_size }
-    ensures { num result ≡ number key.now }
-{
-    Key::load(key, 0)
+    bucket::asked_time(header::pending_timeout(s), time)
 }
 
 // Internal: the index of the key's bucket; none for the local key.
-pub fn index_of(s: &[u8], key: Key) -> Option<usize>
-    requires { length s.now ≡ storage_size }
+pub fn index_of(s: &[u8; Layout::STORAGE], key: Key) -> Option<usize>
     ensures { option_of result ≡ index_in (table_of s.now) (num key) }
 {
     header::local_key(s).bucket_index(key)
 }
 
-// Internal: bucket i has a pending that is due.
-pub fn is_due(s: &[u8], i: usize, time: u64) -> bool
-    requires { (length s.now ≡ storage_size) × (i < num_buckets) }
-    ensures { result ≡ is_due time ((table_of s.now).buckets i).pending }
+// Internal: the bucket has a pending that is due.
+#[tactic(auto, unfolding(model::specs::Layout::bucket_in, model::specs::Bytes::part))]
+pub fn is_due(bucket: &[u8; Layout::BUCKET], time: u64) -> bool
+    ensures { result ≡ is_due time (bucket_in bucket.now).pending }
 {
-    let at = Layout::HEADER + i * Layout::BUCKET;
-    s[at + Layout::PENDING_AT] == 1
-        && words::get_u64(s, at + (Layout::PENDING_AT + 1 + Layout::NODE)) <= time
+    bucket[Layout::PENDING_AT] == 1
+        && words::get_u64(&bucket[Layout::BUCKET - Layout::TIME..Layout::BUCKET]) <= time
 }
 
 // Internal: bucket i, after its pending was applied if it is due.
-pub fn apply_at(s: &[u8], i: usize, time: u64) -> Step<Option<EndedPending>>
+pub fn apply_at(s: &[u8; Layout::STORAGE], i: usize, time: u64) -> Step<Option<EndedPending>>
     requires ready { Ready s.now i }
     requires timely { Timely s.now time }
     ensures { AppliedAt s.now i time result.bucket result.result }
 {
     let bucket = buckets::load_bucket(s, i);
-    if is_due(s, i, time) {
+    if is_due(storage::bucket(s, i), time) {
         return bucket.apply_pending_sound(time);
     }
     Step {
@@ -157,17 +131,24 @@ pub fn record_of(
     }
 }
 
-// Internal: question 8 of a call that gives this record.
-#[tactic(auto, unfolding(crate::specs::Answers::room_for))]
-pub fn has_room(s: &[u8], applied: Option<EndedPending>) -> bool
-    requires { (length s.now ≡ storage_size) × (header_formed s.now ≡ true) }
-    ensures { result ≡ room_for s.now (records_of applied) }
+// Internal: question 8 of a call that gives so many records.
+pub fn asked_queue(s: &[u8; Layout::STORAGE], records: usize) -> Result<(), Refusal>
+    requires { header_formed s.now ≡ true }
+    ensures { failed_of result ≡ cond (leb (length (table_of s.now).queue + records) max_records) none (some 8) }
 {
-    header::record_count(s) + usize::from(applied.is_some()) <= Layout::MAX_RECORDS
+    if Layout::MAX_RECORDS - header::record_count(s) < records {
+        return Err(Refusal::Queue);
+    }
+    Ok(())
 }
 
 // Internal: adds the record to the queue and stores bucket i.
-pub fn write_back(s: &mut [u8], i: usize, applied: Option<EndedPending>, b: KBucket)
+pub fn write_back(
+    s: &mut [u8; Layout::STORAGE],
+    i: usize,
+    applied: Option<EndedPending>,
+    b: KBucket,
+)
     requires ready { Ready s.old i }
     requires applied_value { room_for s.old (records_of applied) ≡ true }
     requires applied_value_2 { applied_codes applied ≡ true }
@@ -179,12 +160,12 @@ pub fn write_back(s: &mut [u8], i: usize, applied: Option<EndedPending>, b: KBuc
 }
 
 // Internal: the key and its bucket, of which question 2 is asked; none for the local key.
-pub fn located(s: &[u8], key: &[u8]) -> Result<Option<(Key, usize)>, Refusal>
-    requires s_len { (length s.now ≡ storage_size) × (header_formed s.now ≡ true) }
+pub fn located(s: &[u8; Layout::STORAGE], key: &[u8]) -> Result<Option<(Key, usize)>, Refusal>
+    requires s_value { header_formed s.now ≡ true }
     requires key_len { length key.now ≡ key_size }
     ensures { Located s.now key.now result }
 {
-    let k = key_of(key);
+    let k = Key::load(key);
     let Some(i) = index_of(s, k) else {
         return Ok(None);
     };
@@ -194,10 +175,10 @@ pub fn located(s: &[u8], key: &[u8]) -> Result<Option<(Key, usize)>, Refusal>
     Ok(Some((k, i)))
 }
 
-// Internal: how a call on one key starts: questions 1 to 4 and, where a time is given, 5; then 2 of the key's bucket. The key and its
+// Internal: how a call on one key starts: questions 2 to 4 and, where a time is given, 5; then 2 of the key's bucket. The key and its
 // bucket, or none for the local key.
 pub fn begin(
-    s: &[u8],
+    s: &[u8; Layout::STORAGE],
     key: &[u8],
     codes: bool,
     time: Option<u64>,
@@ -210,7 +191,7 @@ pub fn begin(
 
 // Internal: question 8; where it passes, the record goes into the queue and bucket i is stored.
 pub fn finish(
-    s: &mut [u8],
+    s: &mut [u8; Layout::STORAGE],
     i: usize,
     applied: Option<EndedPending>,
     b: KBucket,
@@ -218,12 +199,27 @@ pub fn finish(
     requires ready { Ready s.old i }
     requires applied_value { applied_codes applied ≡ true }
     requires sound { Sound b }
-    ensures value { failed_of result ≡ cond (room_for s.old (records_of applied)) none (some 8) }
-    ensures s_after { s.new ≡ cond (room_for s.old (records_of applied)) (rewritten s.old i (bucket_of b) (records_of applied)) s.old }
+    ensures { Finished result s.new s.old i (bucket_of b) (records_of applied) }
 {
-    if !has_room(s, applied) {
-        return Err(Refusal::Queue);
-    }
+    asked_queue(s, usize::from(applied.is_some()))?;
     write_back(s, i, applied, b);
     Ok(())
+}
+
+// Internal: how a call ends whose own step may end a pending, after one that was due was applied: `finish` with the call's record. `left` is
+// the bucket as that step left it.
+pub fn end(
+    s: &mut [u8; Layout::STORAGE],
+    i: usize,
+    applied: &Step<Option<EndedPending>>,
+    left: KBucket,
+    key: Key,
+) -> Result<(), Refusal>
+    requires ready { Ready s.old i }
+    requires applied_value { applied_codes applied.now.result ≡ true }
+    requires sound { Sound left }
+    ensures { Finished result s.new s.old i (bucket_of left) (recorded applied.now left (num key)) }
+{
+    let record = record_of(applied.result, applied.bucket.pending, left.pending, key);
+    finish(s, i, record, left)
 }

@@ -1,20 +1,20 @@
--- One step of a loop over the first n elements of a list l, at index i: what is left to look at is `slice i n l`. And what a chain over a list answers.
-use mathlib.Core.Path.{◌≡◌, refl, ap, ◌∙◌}
+-- What a chain over a list answers, and one step of a loop over a list l at index i, where what is left to look at is `drop i l`.
+use mathlib.Core.Path.{◌≡◌, refl, sym, ap, ◌∙◌}
 use mathlib.Core.Bool.{Bool, true, false, cond, not, ◌&&◌}
 use mathlib.Core.List.{List, [], ◌∷◌, map}
 use Prim.Native.Nat.{ℕ, suc, ◌+◌, ◌-◌, ◌≤◌, ◌<◌, zero-le, suc-le-suc}
-use native.Mathlib.Nat.{le_of_suc-le-suc, not-suc-le-zero}
 use native.Mathlib.Omega.{arith}
 use native.Mathlib.Numerals.{add-one}
-use lib.ListN.{length, get_or, take, drop}
-use lib.Dec.{eqb, leb, ltb}
-use borrow.Author.Tests.{le-ltb, lt-ltb, leb-true, leb-false}
+use lib.ListN.{length, get_or, take, drop, length-drop}
+use lib.Dec.{eqb, leb, ltb, leb-suc-suc}
+use borrow.Author.Tests.{le-ltb, lt-ltb, leb-true, leb-false, ltb-false}
 use mir.Val.{bool_byte}
-use lib.Seq.{slice, slice-cons, length-slice}
-use Rattle.std.specs.List.{filter, list_all, AllWithin}
+use lib.Seq.{drop-cons, take_all}
+use Rattle.std.specs.Prelude.{Option, Some, None}
+use Rattle.std.specs.Option.{unwrap_or}
+use Rattle.std.specs.List.{filter, list_all, AllWithin, position_or_len}
 use Rattle.std.specs.Bool.{MatchBool}
-use Rattle.std.proofs.lemmas.List.{drop-take}
-use borrow.Rule.Slice.PartMut.{mid_of}
+use Rattle.std.proofs.lemmas.List.Recursion.{is_position_or_len}
 use Rattle.model.specs.Base.{every, select}
 use Rattle.model.specs.Base.{same}
 use Rattle.model.specs.Fits.{All}
@@ -25,13 +25,6 @@ use Rattle.node.specs.declared.Value.{Value}
 use Rattle.node.specs.declared.Node.{Node}
 use Rattle.node.specs.Node.{node_of, value_of}
 use Rattle.places.specs.Places.{before, position, different}
-
-module _ {A : Type 0} (p : A → Bool) (l : List A) (n i : ℕ) (d : A) (k : i < n) (h : n ≤ length l) where
-  pub before_hit : p (get_or l i d) ≡ true → before p (slice i n l) ≡ 0
-  before_hit e = rw (slice-cons i n l d k h, e)
-
-  pub before_miss : p (get_or l i d) ≡ false → before p (slice i n l) ≡ before p (slice (i + 1) n l) + 1
-  before_miss e = rw (slice-cons i n l d k h, e, add-one, add-one)
 
 -- a test's flag as a number, as the code's `flag as usize` has it
 pub flag≤1 : (b : Bool) → bool_byte b ≤ 1
@@ -62,12 +55,6 @@ pub all_of_chain : {A : Type 0} (P : A → Type 0) (Q : Type 0) (r : Bool) (xs :
 all_of_chain P Q true xs h e = all_placed P xs h
 all_of_chain P Q false xs h e = clash e refl
 
--- the part of a list from f on and below t
-pub slice_part : {A : Type 0} (f t : ℕ) (xs : List A) → f ≤ t → slice f t xs ≡ mid_of f (t - f) xs
-slice_part f t xs h =
-    let whole : t ≡ f + (t - f) = omega arith in
-    ap (λ (k : ℕ). drop f (take k xs)) whole ∙ drop-take f (t - f) xs
-
 le_step : (b : Bool) (m n : ℕ) → m ≤ n → cond b 0 (suc m) ≤ suc n
 le_step true m n h = zero-le
 le_step false m n h = suc-le-suc h
@@ -76,54 +63,56 @@ pub before_le : {A : Type 0} (p : A → Bool) (xs : List A) → before p xs ≤ 
 before_le p [] = zero-le
 before_le p (x ∷ xs) = le_step (p x) (before p xs) (length xs) (before_le p xs)
 
--- no element passes the test where none stands before the end
-pub none_passes : {A : Type 0} (p : A → Bool) (xs : List A) → length xs ≤ before p xs → every (λ (x : A). not (p x)) xs ≡ true
-none_passes p [] h = refl
-none_passes {A} p (x ∷ xs) h = go (p x) refl h (λ k. none_passes p xs k)
-  where
-    go : (t : Bool) → p x ≡ t → suc (length xs) ≤ cond t 0 (suc (before p xs))
-        → (length xs ≤ before p xs → every (λ (y : A). not (p y)) xs ≡ true) → (not (p x) && every (λ (y : A). not (p y)) xs) ≡ true
-    go true e k ih = absurd (not-suc-le-zero k)
-    go false e k ih = rw e (ih (le_of_suc-le-suc k))
+-- what the code's search for a place answers
+pub place_found : {A : Type 0} (p : A → Bool) (xs : List A) (r : Option ℕ)
+    → r ≡ cond (ltb (position_or_len p xs) (length xs)) (Some (position_or_len p xs)) None → unwrap_or r (length xs) ≡ before p xs
+place_found {A} p xs r e =
+    let same : before p xs ≡ position_or_len p xs = is_position_or_len (before p) p refl (λ x ys. let e : suc (before p ys) ≡ 1 + before p ys = omega arith in ap (λ (n : ℕ). cond (p x) 0 n) e) xs in
+    let most : before p xs ≤ length xs = before_le p xs in
+    split (ltb (position_or_len p xs) (length xs))
+    (λ t. ap (λ (o : Option ℕ). unwrap_or o (length xs)) (rw t at e) ∙ sym same)
+    (λ t.
+    let none : length xs ≤ position_or_len p xs = ltb-false _ _ t in
+    ap (λ (o : Option ℕ). unwrap_or o (length xs)) (rw t at e) ∙ omega arith)
 
-pub some_passes : {A : Type 0} (p : A → Bool) (xs : List A) → before p xs < length xs → every (λ (x : A). not (p x)) xs ≡ false
-some_passes p [] h = absurd (not-suc-le-zero h)
-some_passes {A} p (x ∷ xs) h = go (p x) refl h (λ k. some_passes p xs k)
+-- does an element pass the test?
+none_passes : {A : Type 0} (p : A → Bool) (xs : List A) → every (λ (x : A). not (p x)) xs ≡ not (ltb (before p xs) (length xs))
+none_passes p [] = refl
+none_passes {A} p (x ∷ xs) = go (p x) (none_passes p xs)
   where
-    go : (t : Bool) → p x ≡ t → cond t 0 (suc (before p xs)) < suc (length xs)
-        → (before p xs < length xs → every (λ (y : A). not (p y)) xs ≡ false) → (not (p x) && every (λ (y : A). not (p y)) xs) ≡ false
-    go true e k ih = rw e
-    go false e k ih = rw e (ih (le_of_suc-le-suc k))
+    go : (t : Bool) → every (λ (y : A). not (p y)) xs ≡ not (ltb (before p xs) (length xs))
+        → (not t && every (λ (y : A). not (p y)) xs) ≡ not (ltb (cond t 0 (suc (before p xs))) (suc (length xs)))
+    go true ih = ap not (sym (lt-ltb 0 (suc (length xs)) (omega arith)))
+    go false ih = ih ∙ ap not (sym (leb-suc-suc (suc (before p xs)) (length xs)))
 
 pub every_map : {A B : Type 0} (p : B → Bool) (f : A → B) (xs : List A) → every p (map f xs) ≡ every (λ (x : A). p (f x)) xs
 every_map p f [] = refl
 every_map p f (x ∷ xs) = ap (λ (t : Bool). p (f x) && t) (every_map p f xs)
 
--- the keys from index i on are different: that of i is not among those behind it, and those are different
-module _ (l : List Node) (n i : ℕ) (d : Node) (k : i < n) (h : n ≤ length l) where
-  pub different_miss : position (node_of (get_or l i d)).key (slice (i + 1) n l) < n - (i + 1) → different (map node_of (slice i n l)) ≡ false
-  different_miss z =
+-- the nodes behind place i, as `&nodes[i + 1..]` has them
+abbrev pub behind : List Node → ℕ → List Node
+behind l i = take (length l - (i + 1)) (drop (i + 1) l)
+
+-- the keys from place i on: is that of i among those behind it?
+module _ (l : List Node) (i : ℕ) (d : Node) (h : i < length l) where
+  behind_all : behind l i ≡ drop (suc i) l
+  behind_all = take_all _ (drop (i + 1) l) (omega (arith, length-drop (i + 1) l)) ∙ rw add-one
+
+  different_step : different (map node_of (drop i l)) ≡ (not (ltb (position (node_of (get_or l i d)).key (behind l i)) (length (behind l i))) && different (map node_of (behind l i)))
+  different_step =
       let key : ℕ = (node_of (get_or l i d)).key in
-      let long : length (slice (suc i) n l) ≡ n - suc i = length-slice (suc i) n l h in
-      let z' : position key (slice (suc i) n l) < n - suc i = rw add-one at z in
       rw (
-        slice-cons i n l d k h,
-        every_map (λ (m : model.Node). not (same m.key key)) node_of (slice (suc i) n l),
-        some_passes (λ (m : Node). same (node_of m).key key) (slice (suc i) n l) (rw long z'),
+        drop-cons l i d h,
+        behind_all,
+        every_map (λ (m : model.Node). not (same m.key key)) node_of (drop (suc i) l),
+        none_passes (λ (m : Node). same (node_of m).key key) (drop (suc i) l),
       )
 
-  pub different_hit : n - (i + 1) ≤ position (node_of (get_or l i d)).key (slice (i + 1) n l)
-      → different (map node_of (slice i n l)) ≡ different (map node_of (slice (i + 1) n l))
-  different_hit z =
-      let key : ℕ = (node_of (get_or l i d)).key in
-      let long : length (slice (suc i) n l) ≡ n - suc i = length-slice (suc i) n l h in
-      let z' : n - suc i ≤ position key (slice (suc i) n l) = rw add-one at z in
-      rw (
-        slice-cons i n l d k h,
-        every_map (λ (m : model.Node). not (same m.key key)) node_of (slice (suc i) n l),
-        none_passes (λ (m : Node). same (node_of m).key key) (slice (suc i) n l) (rw long z'),
-        add-one,
-      )
+  pub different_miss : position (node_of (get_or l i d)).key (behind l i) < length (behind l i) → different (map node_of (drop i l)) ≡ false
+  different_miss k = let t = lt-ltb _ _ k in different_step ∙ rw t
+
+  pub different_hit : length (behind l i) ≤ position (node_of (get_or l i d)).key (behind l i) → different (map node_of (drop i l)) ≡ different (map node_of (drop (i + 1) l))
+  different_hit k = let t = le-ltb _ _ k in different_step ∙ rw t (ap (λ (ns : List Node). different (map node_of ns)) (behind_all ∙ rw add-one))
 
 -- The IP filter.
 

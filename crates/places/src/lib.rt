@@ -1,8 +1,8 @@
-// Sixteen places for nodes, as an array by value (the Rust's ArrayVec). The nodes stand in the first places, and the others are zero.
+// The nodes of a bucket, in their places (the Rust's ArrayVec): looked at as a slice; put in and taken out by value, as an array of
+// sixteen.
 #![tactic(auto)]
 
-ghost use Rattle.std.specs.Prelude.{◌≡◌, ◌+◌, ◌≤◌, ◌<◌, true, not, ◌&&◌, List, ◌++◌, ◌∷◌, [], map, take, drop, length};
-ghost use Rattle.std.proofs.Math.Seq.{slice};
+ghost use Rattle.std.specs.Prelude.{◌≡◌, ◌<◌, true, not, ◌&&◌, ◌++◌, ◌∷◌, [], map, take, length};
 ghost use Rattle.model.specs.Base.{every};
 ghost use Rattle.model.specs.Filter.{ip_filter_fails};
 ghost use Rattle.model.specs.Bucket.{max_nodes_per_bucket, incoming_nodes};
@@ -15,56 +15,43 @@ ghost use Rattle.places.specs.Places.{position, insert_at, remove_at, in_state, 
 use key::Key;
 use node::{Code, Node, Value};
 
-// Internal: the place, from `from` on and below n, of the node with this key, or n.
-pub fn position(nodes: [Node; 16], from: usize, n: usize, key: Key) -> usize
-    requires from_le_n { from ≤ n }
-    requires n_le_max_nodes_per_bucket { n ≤ max_nodes_per_bucket }
-    ensures { result ≡ from + position (num key) (slice from n nodes) }
+// Internal: the place of the node with this key, or how many nodes there are.
+pub fn position(nodes: &[Node], key: Key) -> usize
+    ensures { result ≡ position (num key) nodes.now }
 {
-    for i in from..n {
-        if nodes[i].key.eq(key) {
-            return i;
-        }
-    }
-    n
+    nodes
+        .iter()
+        .position(|node| node.key.eq(key))
+        .unwrap_or(nodes.len())
 }
 
-// Internal: how many of the first n are connected and incoming.
-pub fn incoming(nodes: [Node; 16], n: usize) -> usize
-    requires { n ≤ max_nodes_per_bucket }
-    ensures { result ≡ length (incoming_nodes (map node_of (take n nodes))) }
+// Internal: how many of the nodes are connected and incoming.
+pub fn incoming(nodes: &[Node]) -> usize
+    ensures { result ≡ length (incoming_nodes (map node_of nodes.now)) }
 {
-    nodes[..n]
+    nodes
         .iter()
         .filter(|node| node.is_connected_incoming())
         .count()
 }
 
-// The IP filter (filter.rs): does the value pass? It fails where it has an address and at least `limit` of the values in the first count
-// places count against it.
-pub fn ip_filter(nodes: [Node; 16], count: usize, value: Value, limit: usize) -> bool
-    ensures { result ≡ not (ip_filter_fails limit (value_of value) (map node_of (take count nodes))) }
+// The IP filter (filter.rs): does the value pass? It fails where it has an address and at least `limit` of the nodes' values count against
+// it.
+pub fn ip_filter(nodes: &[Node], value: Value, limit: usize) -> bool
+    ensures { result ≡ not (ip_filter_fails limit (value_of value) (map node_of nodes.now)) }
 {
     if value.flag != 1 {
         return true;
     }
-    let n = within(count);
-    let found = nodes[..n]
+    let found = nodes
         .iter()
         .filter(|node| node::filter::counts(value, node.value))
         .count();
     found < limit
 }
 
-// How many of the sixteen places a count reaches.
-fn within(count: usize) -> usize
-    ensures upper_bound { result ≤ max_nodes_per_bucket }
-    ensures l_value { (l : List Node) → length l ≡ max_nodes_per_bucket → take result l ≡ take count l }
-{
-    count.min(16)
-}
-
-// Internal: the node goes to place pos. Those from there on move up by one, and the last drops out.
+// Internal: the node goes to place pos. Those from there on move up by one, and the last drops out. By value, as the buckets are: a step
+// leaves a new bucket, and its caller may still need the old one.
 pub fn insert_at(nodes: [Node; 16], pos: usize, node: Node) -> [Node; 16]
     requires { pos < max_nodes_per_bucket }
     ensures { result ≡ take max_nodes_per_bucket (insert_at pos node nodes) }
@@ -86,18 +73,15 @@ pub fn remove_at(nodes: [Node; 16], pos: usize) -> [Node; 16]
     out
 }
 
-// Internal: do the nodes stand in their places: below first they are disconnected, from there on and below n connected, their codes in range,
-// and the places from n on are zero? A yes also tells what Rattle knows of their keys.
-pub fn in_places(nodes: [Node; 16], first: usize, n: usize) -> bool
-    requires first_le_n { first ≤ n }
-    requires n_le_max_nodes_per_bucket { n ≤ max_nodes_per_bucket }
-    ensures value { result ≡ (every (in_state 0) (slice 0 first nodes) && (every (in_state 1) (slice first n nodes) && every is_zero (slice n max_nodes_per_bucket nodes))) }
-    ensures all { result ≡ true → All (λ (n : Node). Words n.key) (slice 0 first nodes) × All (λ (n : Node). Words n.key) (slice first n nodes) }
-    ensures nodes_len { length nodes ≡ max_nodes_per_bucket }
+// Internal: do the nodes stand in their places: the first disconnected, those behind them connected, the codes of both in range, and is the
+// rest zero? A yes also tells what Rattle knows of their keys.
+pub fn in_places(disconnected: &[Node], connected: &[Node], free: &[Node]) -> bool
+    ensures value { result ≡ (every (in_state 0) disconnected.now && (every (in_state 1) connected.now && every is_zero free.now)) }
+    ensures all { result ≡ true → All (λ (n : Node). Words n.key) disconnected.now × All (λ (n : Node). Words n.key) connected.now }
 {
-    nodes[..first].iter().all(|node| has_state(*node, 0))
-        && nodes[first..n].iter().all(|node| has_state(*node, 1))
-        && nodes[n..].iter().all(|node| node.is_zero())
+    disconnected.iter().all(|node| has_state(*node, 0))
+        && connected.iter().all(|node| has_state(*node, 1))
+        && free.iter().all(|node| node.is_zero())
 }
 
 fn has_state(node: Node, state: Code) -> bool
@@ -108,16 +92,14 @@ fn has_state(node: Node, state: Code) -> bool
     (node.status.state == state) & fits
 }
 
-// Internal: are the keys of the first n different?
-pub fn all_different(nodes: [Node; 16], n: usize) -> bool
-    requires { n ≤ max_nodes_per_bucket }
-    ensures { result ≡ different (map node_of (take n nodes)) }
+// Internal: are the keys of the nodes different?
+pub fn all_different(nodes: &[Node]) -> bool
+    ensures { result ≡ different (map node_of nodes.now) }
 {
-    for i in 0..n {
-        for j in i + 1..n {
-            if nodes[j].key.eq(nodes[i].key) {
-                return false;
-            }
+    for (i, node) in nodes.iter().enumerate() {
+        let rest = &nodes[i + 1..];
+        if position(rest, node.key) < rest.len() {
+            return false;
         }
     }
     true

@@ -1,10 +1,15 @@
--- What a check reads of an answer: an index, and a key.
-use Rattle.std.proofs.Common.{◌≡◌, ℕ, Bool, false, true≢false, nat_eq, Option, Some, None, sym, ap, ◌∙◌, refl, arith, eq-eqb}
+-- What a check reads of an answer: an index, a key, and the result of an insert.
+use Rattle.std.proofs.Common.{◌≡◌, ℕ, Bool, false, true≢false, nat_eq, Option, Some, None, sym, ap, ◌∙◌, refl, arith, eq-eqb, Result, Ok, Err}
 use Rattle.std.specs.Option.{option_eq}
 use Rattle.model.specs.Base.{same}
 use Rattle.key.specs.declared.Key.{Key}
 use Rattle.key.specs.Key.{num}
 use Rattle.key.specs.Answers.{option_of}
+use Rattle.model.specs.Result.{BucketInsertResult, Reply}
+use Rattle.node.specs.declared.Refusal.{Refusal}
+use Rattle.node.specs.Refusal.{reply_of}
+use Rattle.bucket.specs.declared.InsertResult.{InsertResult}
+use Rattle.bucket.specs.Calls.{insert_result_of}
 use Rattle.positions.specs.Positions.{key_from}
 
 pub same_index : (r s : Option ℕ) → option_of r ≡ option_of s → r ≡ s
@@ -23,3 +28,27 @@ unfolding same num
 is_key n {m} {k} {b} e f g h =
     let z : n ≡ num (key_from n) = omega arith in
     true≢false (sym (g ∙ eq-eqb m (num k) (e ∙ z ∙ ap num (sym f))) ∙ h)
+
+-- An insert's answer that names no key, from what it means.
+
+abbrev keyless : BucketInsertResult → Option InsertResult
+keyless BucketInsertResult.Inserted = Some InsertResult.Inserted
+keyless (BucketInsertResult.Pending k) = None
+keyless BucketInsertResult.FailedFilter = Some InsertResult.FailedFilter
+keyless BucketInsertResult.TooManyIncoming = Some InsertResult.TooManyIncoming
+keyless BucketInsertResult.Full = Some InsertResult.Full
+keyless BucketInsertResult.NodeExists = Some InsertResult.NodeExists
+
+back : (r x : InsertResult) → keyless (insert_result_of r) ≡ Some x → r ≡ x
+back InsertResult.Inserted x e = cc
+back (InsertResult.Pending k) x e = cc
+back InsertResult.FailedFilter x e = cc
+back InsertResult.TooManyIncoming x e = cc
+back InsertResult.Full x e = cc
+back InsertResult.NodeExists x e = cc
+
+pub is_answer : (r : Result InsertResult Refusal) (x : InsertResult) {y : BucketInsertResult} → reply_of insert_result_of r ≡ Reply.Answered y → keyless y ≡ Some x → r ≡ Ok x
+is_answer (Err r) x e f = cc
+is_answer (Ok r) x {y} e f =
+    let same : insert_result_of r ≡ y = cc in
+    ap Ok (back r x (ap keyless same ∙ f))

@@ -1,4 +1,4 @@
--- The nodes of the positions, and a bucket into which several of them are inserted.
+-- The nodes of the positions, a bucket into which several of them are inserted, and what is checked of two answers.
 use Rattle.std.specs.Prelude.{ℕ, zero, suc, Bool, false, List, [], ◌∷◌}
 use Rattle.std.proofs.Math.Option.{Option}
 use Rattle.model.specs.Base.{same}

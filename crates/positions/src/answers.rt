@@ -28,7 +28,7 @@ pub(crate) fn applied_key(answer: Result<Option<EndedPending>, Refusal>, key: Ke
 #[derive(Clone, Copy)]
 pub(crate) struct Shown<T>(pub T);
 
-// A refused call by the number of its question, and an answered one by its result.
+// A refused call by its question, and an answered one by its result.
 impl<T: Copy> fmt::Display for Shown<Result<T, Refusal>>
 where
     Shown<T>: fmt::Display,
@@ -36,7 +36,7 @@ where
     fn fmt<W: fmt::Write>(&self, f: &mut fmt::Formatter<W>) -> fmt::Result {
         match self.0 {
             Ok(result) => write!(f, "{}", Shown(result)),
-            Err(refusal) => write!(f, "refused with {}", refusal.number()),
+            Err(refusal) => write!(f, "{refusal}"),
         }
     }
 }
@@ -44,25 +44,15 @@ where
 impl fmt::Display for Shown<InsertResult> {
     fn fmt<W: fmt::Write>(&self, f: &mut fmt::Formatter<W>) -> fmt::Result {
         match self.0 {
-            InsertResult::Inserted => write!(f, "Inserted"),
             InsertResult::Pending(key) => write!(f, "Pending naming {}", Shown(key)),
-            InsertResult::FailedFilter => write!(f, "FailedFilter"),
-            InsertResult::TooManyIncoming => write!(f, "TooManyIncoming"),
-            InsertResult::Full => write!(f, "Full"),
-            InsertResult::NodeExists => write!(f, "NodeExists"),
+            result => write!(f, "{result:?}"),
         }
     }
 }
 
 impl fmt::Display for Shown<UpdateResult> {
     fn fmt<W: fmt::Write>(&self, f: &mut fmt::Formatter<W>) -> fmt::Result {
-        match self.0 {
-            UpdateResult::Updated => write!(f, "Updated"),
-            UpdateResult::UpdatedAndPromoted => write!(f, "UpdatedAndPromoted"),
-            UpdateResult::UpdatedPending => write!(f, "UpdatedPending"),
-            UpdateResult::Failed(_) => write!(f, "Failed"),
-            UpdateResult::NotModified => write!(f, "NotModified"),
-        }
+        write!(f, "{:?}", self.0)
     }
 }
 

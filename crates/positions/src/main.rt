@@ -2,8 +2,11 @@
 // check is proved.
 #![tactic(auto)]
 
+ghost use Rattle.std.specs.Prelude.{◌≡◌};
+
 use answers::Shown;
 use bucket::{InsertResult, UpdateResult};
+use rows::Inserts;
 use std::io;
 
 mod answers;
@@ -69,15 +72,20 @@ fn row7(rt: &impl Print) -> io::Result<()> {
     println!(rt; "{}", b.first_connected_pos)
 }
 
-fn row8(rt: &impl Print) -> io::Result<()> {
-    let (first, second) = rows::row8();
-    prove!(matches!(&first, Ok(InsertResult::TooManyIncoming)));
-    prove!(matches!(&second, Ok(InsertResult::Inserted)));
-    println!(rt;
-        "8: max_incoming 0; connected incoming; disconnected incoming: {}; {}",
-        Shown(first),
-        Shown(second)
-    )
+// Two inserts: the first fails a test, and the second inserts.
+fn row_of_tests(
+    rt: &impl Print,
+    row: &str,
+    inserts: Inserts,
+    failed: InsertResult,
+) -> io::Result<()>
+    requires first_value { inserts.0 ≡ Ok failed }
+    requires second_value { inserts.1 ≡ Ok InsertResult.Inserted }
+{
+    let (first, second) = inserts;
+    prove!(first == Ok(failed));
+    prove!(second == Ok(InsertResult::Inserted));
+    println!(rt; "{row}: {}; {}", Shown(first), Shown(second))
 }
 
 fn row9(rt: &impl Print) -> io::Result<()> {
@@ -106,26 +114,24 @@ fn row10(rt: &impl Print) -> io::Result<()> {
     )
 }
 
-// Not one function with row 8: a `prove!` names the variants that it checks, since an InsertResult has no `==`.
-fn row12(rt: &impl Print) -> io::Result<()> {
-    let (first, second) = rows::row12();
-    prove!(matches!(&first, Ok(InsertResult::FailedFilter)));
-    prove!(matches!(&second, Ok(InsertResult::Inserted)));
-    println!(rt;
-        "12: filter on, 10.0.0.1 and 10.0.0.2 held; a new 10.0.0.3; a new 10.0.0.2: {}; {}",
-        Shown(first),
-        Shown(second)
-    )
-}
-
 fn main(rt: HostRuntime) -> io::Result<()> {
     row1(&rt)?;
     row2(&rt)?;
     row5(&rt)?;
     row6(&rt)?;
     row7(&rt)?;
-    row8(&rt)?;
+    row_of_tests(
+        &rt,
+        "8: max_incoming 0; connected incoming; disconnected incoming",
+        rows::row8(),
+        InsertResult::TooManyIncoming,
+    )?;
     row9(&rt)?;
     row10(&rt)?;
-    row12(&rt)
+    row_of_tests(
+        &rt,
+        "12: filter on, 10.0.0.1 and 10.0.0.2 held; a new 10.0.0.3; a new 10.0.0.2",
+        rows::row12(),
+        InsertResult::FailedFilter,
+    )
 }

@@ -60,16 +60,15 @@ fn empty(max_incoming: usize, filter: Code) -> KBucket
     KBucket::new(60000, max_incoming, filter).bucket
 }
 
-// Internal: inserts n outgoing nodes of one state at time 0, with the keys from k on.
-fn fill(b: KBucket, k: u64, n: u64, state: Code) -> KBucket
+// Inserts n outgoing nodes of one state at time 0, with the keys from k on.
+fn fill(mut b: KBucket, k: u64, n: u64, state: Code) -> KBucket
     requires { k + n ≤ 64 }
     ensures { result ≡ filled n k state b }
 {
-    let mut bucket = b;
     for key in k..k + n {
-        bucket = bucket.insert(node_from(key, state, 0), 0).bucket;
+        b = b.insert(node_from(key, state, 0), 0).bucket;
     }
-    bucket
+    b
 }
 
 // 1 and 2: the index of the key whose highest word is w0 and whose lowest is w3.
@@ -119,8 +118,8 @@ pub(crate) fn row7() -> KBucket
 
 // 8: max_incoming 0; connected incoming; disconnected incoming.
 pub(crate) fn row8() -> Inserts
-    ensures first_value { reply_of insert_result_of result.0 ≡ Reply.Answered BucketInsertResult.TooManyIncoming }
-    ensures second_value { reply_of insert_result_of result.1 ≡ Reply.Answered BucketInsertResult.Inserted }
+    ensures first_value { result.0 ≡ Ok InsertResult.TooManyIncoming }
+    ensures second_value { result.1 ≡ Ok InsertResult.Inserted }
 {
     let b = empty(0, 0);
     let connected = b.insert(node_from(32, 1, 1), 0);
@@ -151,8 +150,8 @@ pub(crate) fn row10() -> Step<Result<UpdateResult, Refusal>>
 
 // 12: bucket filter on, 10.0.0.1 and 10.0.0.2 held once each; a new disconnected key with 10.0.0.3; with 10.0.0.2.
 pub(crate) fn row12() -> Inserts
-    ensures first_value { reply_of insert_result_of result.0 ≡ Reply.Answered BucketInsertResult.FailedFilter }
-    ensures second_value { reply_of insert_result_of result.1 ≡ Reply.Answered BucketInsertResult.Inserted }
+    ensures first_value { result.0 ≡ Ok InsertResult.FailedFilter }
+    ensures second_value { result.1 ≡ Ok InsertResult.Inserted }
 {
     let one = empty(16, 1).insert(node_at(32, 1), 0).bucket;
     let two = one.insert(node_at(33, 2), 0).bucket;

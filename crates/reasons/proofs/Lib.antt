@@ -1,3 +1,2 @@
 -- Laws of the reasons.
 pub mod Rules
-pub mod OfTable

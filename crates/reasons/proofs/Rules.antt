@@ -4,61 +4,57 @@ use mathlib.Core.Path.{◌≡◌, refl, sym, ap, ◌∙◌}
 use mathlib.Core.Bool.{Bool, true, false, not, cond, ◌&&◌}
 use mathlib.Core.Option.{Option, none, some}
 use borrow.Author.Tests.{le-leb}
-use Rattle.std.specs.Prelude.{Some}
+use Rattle.std.specs.Prelude as code
+use Rattle.std.specs.Prelude.{Some, None}
+use Rattle.std.specs.Option.{MatchOption}
 use Rattle.std.specs.Bool.{then_some}
 use Rattle.model.specs.Base.{same}
 use Rattle.model.specs.Value.{Value, same_value}
-use Rattle.model.specs.Node.{Node, PendingNode, with_status}
+use Rattle.model.specs.Node.{Node, with_status}
 use Rattle.model.specs.Result.{is_failed}
 use Rattle.model.specs.Bucket.{Bucket, BucketSettings, max_nodes_per_bucket, num_entries, get, holds, is_full, fails_bucket_filter, is_max_incoming, take_out, taken_out, update_status, update_value}
 use Rattle.model.specs.Explain.{Reason, bucket_filter_reason, incoming_limit_reason, full_reason, insert_reason, reinsert_reason, if_pending_reason, status_reason_of, status_reason, value_reason_of, value_reason, update_node_reason, insert_or_update_reason, remove_reason}
 use Rattle.laws.proofs.KeepFormed.{free_is_full}
 use Rattle.laws.proofs.Tests.{split}
-use Rattle.node.specs.Node.{value_of}
-use Rattle.bucket.specs.declared.FailureReason.{FailureReason}
-use Rattle.bucket.specs.declared.UpdateResult.{UpdateResult}
-use Rattle.bucket.specs.declared.UpdateResult.TheVariants as updated
-use Rattle.bucket.specs.Bucket.{bucket_of, Sound}
-use Rattle.bucket.specs.Calls.{update_result_of}
+use Rattle.key.specs.Key.{num}
+use Rattle.bucket.specs.declared.PendingNode.{PendingNode}
+use Rattle.bucket.specs.Bucket.{pending_of}
 use Rattle.explanation.specs.declared.Reason as declared
 use Rattle.explanation.specs.declared.Reason.TheVariants as reason
-use Rattle.explanation.specs.declared.Why.{Why}
-use Rattle.explanation.specs.Explanation.{reason_of, why_of}
+use Rattle.explanation.specs.Explanation.{reason_of, Reads}
 use Rattle.reasons.specs.Reasons.{Tells}
 
--- what a reason tells, by its parts
-pub tells : (w : Why) → Sound w.bucket → (x : (ℕ → Bucket) → Reason)
-    → ((bs : ℕ → Bucket) → reason_of bs (bucket_of w.bucket) (value_of w.value) w.reason ≡ x bs) → Tells x w
-unfolding why_of
-tells w s x e = record { reason = e; sound = s }
-
 -- the same reason under another name
-pub tells_as : {w : Why} {x : Reason} (y : Reason) → x ≡ y → Tells (λ _. x) w → Tells (λ _. y) w
-tells_as y e t = record { reason = λ bs. t.reason bs ∙ e; sound = t.sound }
+pub tells_as : {r : code.Option declared.Reason} {x : Reason} (y : Reason) → x ≡ y → Tells x r → Tells y r
+tells_as y e t = record { reason = λ bs. t.reason bs ∙ e; reads = t.reads }
 
 -- a reason or none, by a test
-pub reason_if : (bs : ℕ → Bucket) (m : Bucket) (v : Value) (x : Bool) (r : declared.Reason) → reason_of bs m v (then_some x r) ≡ cond x (reason_of bs m v (Some r)) Reason.None
-reason_if bs m v true r = refl
-reason_if bs m v false r = refl
+pub tells_if : (t : Bool) (r : declared.Reason) (x : Reason) → ((bs : ℕ → Bucket) → reason_of bs (Some r) ≡ x) → Reads ⊥ (Some r) → Tells (cond t x Reason.None) (then_some t r)
+tells_if true r x e h = record { reason = e; reads = h }
+tells_if false r x e h = record { reason = λ bs. refl; reads = tt }
+
+-- what a step found in the key's bucket is read where the table is, too
+pub reads_more : (F : Type 0) (r : code.Option declared.Reason) → Reads ⊥ r → Reads F r
+reads_more F None h = tt
+reads_more F (Some (reason.TableFilter k v)) h = absurd h
+reads_more F (Some (reason.BucketFilter b v)) h = h
+reads_more F (Some (reason.IncomingLimit b)) h = h
+reads_more F (Some reason.NewcomerDisconnected) h = tt
+reads_more F (Some reason.AllConnected) h = tt
+reads_more F (Some (reason.Pending k)) h = tt
+reads_more F (Some reason.NoSuchKey) h = tt
+reads_more F (Some reason.LocalKey) h = tt
 
 -- a reason is not none
-pub some_reason : (bs : ℕ → Bucket) (m : Bucket) (v : Value) (r : declared.Reason) → reason_of bs m v (Some r) ≡ Reason.None → ⊥
-some_reason bs m v (reason.TableFilter k) e = cc e
-some_reason bs m v reason.BucketFilter e = cc e
-some_reason bs m v reason.IncomingLimit e = cc e
-some_reason bs m v reason.NewcomerDisconnected e = cc e
-some_reason bs m v reason.AllConnected e = cc e
-some_reason bs m v (reason.Pending k) e = cc e
-some_reason bs m v reason.NoSuchKey e = cc e
-some_reason bs m v reason.LocalKey e = cc e
-
--- a step that did not fail
-pub not_failed : (r : UpdateResult) → ((x : FailureReason) → r ≡ updated.Failed x → ⊥) → is_failed (update_result_of r) ≡ false
-not_failed updated.Updated h = refl
-not_failed updated.UpdatedAndPromoted h = refl
-not_failed updated.UpdatedPending h = refl
-not_failed (updated.Failed x) h = absurd (h x refl)
-not_failed updated.NotModified h = refl
+pub some_reason : (bs : ℕ → Bucket) (r : declared.Reason) → reason_of bs (Some r) ≡ Reason.None → ⊥
+some_reason bs (reason.TableFilter k v) e = cc e
+some_reason bs (reason.BucketFilter b v) e = cc e
+some_reason bs (reason.IncomingLimit b) e = cc e
+some_reason bs reason.NewcomerDisconnected e = cc e
+some_reason bs reason.AllConnected e = cc e
+some_reason bs (reason.Pending k) e = cc e
+some_reason bs reason.NoSuchKey e = cc e
+some_reason bs reason.LocalKey e = cc e
 
 -- the tests of a node that is put into the bucket
 
@@ -91,18 +87,15 @@ module _ (s : BucketSettings) (n : Node) (b : Bucket) where
       split (fails_bucket_filter s n.value b) (λ f. e ∙ rw f)
       (λ f. split (is_max_incoming s n b) (λ m. e ∙ rw (f, m)) (λ m. e ∙ rw (f, m, free_is_full b (h (e ∙ rw (f, m))))))
 
--- a key that is not held
-
-module _ (k : ℕ) (p : Option PendingNode) where
-  pub pending_none : p ≡ none → Reason.NoSuchKey ≡ if_pending_reason k p
-  pending_none e = rw e
-
-  module _ (q : PendingNode) (e : p ≡ some q) where
-    pub pending_same : same q.node.key k ≡ true → Reason.None ≡ if_pending_reason k p
-    pending_same f = rw (e, f)
-
-    pub pending_other : same q.node.key k ≡ false → Reason.NoSuchKey ≡ if_pending_reason k p
-    pending_other f = rw (e, f)
+-- a key that is not held, by whether it is pending
+pub not_pending : (k : ℕ) (p : code.Option PendingNode) (t : Bool) {P : PendingNode → Type 0} → MatchOption p (t ≡ false) P → ((q : PendingNode) → P q → t ≡ same (num q.node.key) k)
+    → cond (not t) Reason.NoSuchKey Reason.None ≡ if_pending_reason k (pending_of p)
+not_pending k None t h f = rw h
+not_pending k (Some q) t h f = rw (← f q h) (cond_not t)
+  where
+    cond_not : (t : Bool) → cond (not t) Reason.NoSuchKey Reason.None ≡ cond t Reason.None Reason.NoSuchKey
+    cond_not true = refl
+    cond_not false = refl
 
 -- the status step
 

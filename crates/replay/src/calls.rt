@@ -1,4 +1,5 @@
 // A record's call, made through the exports. It answers the code; none where the record cannot be read.
+use crate::names::ON_BUCKET;
 use crate::record;
 use crate::record::Arguments;
 use storage::Layout;
@@ -42,7 +43,7 @@ fn on_table(r: &[u8], s: &mut [u8], key: &[u8], out: &mut [u8]) -> Option<u32> {
         time,
         n,
         ..
-    } = Arguments::of(r);
+    } = Arguments::from(r);
     let code = match record::byte(r, 0) {
         1 => kbuckets::kbuckets_new(s, key, time, state, direction, flag),
         2 => kbuckets::kbuckets_update_node_status(s, key, state, direction, time),
@@ -85,7 +86,7 @@ fn inserted(r: &[u8], s: &mut [u8], key: &[u8], out: &mut [u8]) -> Option<u32> {
         day,
         minute,
         ..
-    } = Arguments::of(r);
+    } = Arguments::from(r);
     let windows = record::windows(r);
     let closed = record::closed(r);
     let windows = windows.get(..usize::from(record::byte(r, record::REST_AT)))?;
@@ -117,7 +118,7 @@ fn on_bucket(r: &[u8], s: &mut [u8], key: &[u8], out: &mut [u8]) -> Option<u32> 
         slot,
         time,
         ..
-    } = Arguments::of(r);
+    } = Arguments::from(r);
     let code = match record::byte(r, 0) {
         17 => kbuckets::kbuckets_b_new(s, time, state, direction),
         18 => kbuckets::kbuckets_b_insert(
@@ -136,7 +137,7 @@ fn on_bucket(r: &[u8], s: &mut [u8], key: &[u8], out: &mut [u8]) -> Option<u32> 
 // The call on a table or a bucket, of which as much is handed over as the record says.
 pub(crate) fn made(r: &[u8], s: &mut [u8], out: &mut [u8]) -> Option<u32> {
     let call = record::byte(r, 0);
-    if call % 16 == 0 {
+    if call % ON_BUCKET == 0 {
         return write(s, r);
     }
     let key = r.get(2..usize::from(record::byte(r, 1)) + 2)?;
@@ -144,7 +145,7 @@ pub(crate) fn made(r: &[u8], s: &mut [u8], out: &mut [u8]) -> Option<u32> {
     let out = out.get_mut(..record::number_of_four(r, record::ROOM_AT) as usize)?;
     match call {
         4 | 9 => inserted(r, s, key, out),
-        0..=15 => on_table(r, s, key, out),
+        _ if call < ON_BUCKET => on_table(r, s, key, out),
         _ => on_bucket(r, s, key, out),
     }
 }

@@ -3,7 +3,6 @@
 // calls agree, by call, or the first record that does not.
 #![tactic(auto)]
 
-ghost use Rattle.std.specs.Prelude.{◌≡◌, length};
 ghost use Rattle.std.specs.Io.{ReadsAtMost};
 
 mod calls;
@@ -11,7 +10,7 @@ mod checksum;
 mod names;
 mod record;
 
-use crate::names::{CALLS, NAMES};
+use crate::names::{CALLS, NAMES, ON_BUCKET};
 use bucket::KBucket;
 use std::io::Read;
 use std::{fmt, io};
@@ -37,9 +36,7 @@ fn output() -> [u8; OUTPUT] {
 }
 
 // How many calls agree, by call.
-fn no_counts() -> [u64; CALLS]
-    ensures { 24 ≡ length result }
-{
+fn no_counts() -> [u64; CALLS] {
     [0; CALLS]
 }
 
@@ -96,7 +93,7 @@ fn agrees_on(
     Ok(false)
 }
 
-// Calls below 16 are on the table, the others on the bucket.
+// On the table or the bucket, as the call's number says.
 fn agrees(
     rt: &impl Print,
     number: u64,
@@ -105,7 +102,7 @@ fn agrees(
     bucket: &mut [u8],
     out: &mut [u8],
 ) -> io::Result<bool> {
-    if record::byte(r, 0) < 16 {
+    if record::byte(r, 0) < ON_BUCKET {
         return agrees_on(rt, number, r, table, out);
     }
     agrees_on(rt, number, r, bucket, out)

@@ -1,6 +1,10 @@
 // The names of the calls, by their numbers in a record. A write of bytes that no call leaves has a number too.
 
+// How many calls there are.
 pub(crate) const CALLS: usize = 24;
+
+// From this number on a call is on the bucket. This one and 0 write bytes.
+pub(crate) const ON_BUCKET: u8 = 16;
 
 pub(crate) const NAMES: [&str; CALLS] = [
     "storage written",

@@ -16,7 +16,7 @@
 //   78   the checksum of what the call may write, after the call, 8 bytes
 //   86   five distances of 8 bytes each; the bytes of a write. Of an insert: how many numbers of windows, how many of closed dates,
 //        1 byte each; then 13 numbers of windows and 7 of closed dates, 2 bytes each
-ghost use Rattle.std.specs.Prelude.{◌≡◌, ◌+◌, ◌*◌, ◌≤◌, length};
+ghost use Rattle.std.specs.Prelude.{◌+◌, ◌*◌, ◌≤◌};
 
 use node::{Code, Slot, Value};
 
@@ -65,9 +65,9 @@ pub struct Arguments {
     pub minute: u16,
 }
 
-impl Arguments {
-    // Those of a record.
-    pub(crate) fn of(r: &[u8]) -> Arguments {
+// Those of a record.
+impl From<&[u8]> for Arguments {
+    fn from(r: &[u8]) -> Arguments {
         Arguments {
             state: byte(r, 35),
             direction: byte(r, 36),
@@ -88,9 +88,7 @@ impl Arguments {
 }
 
 // A record, empty.
-pub(crate) fn empty() -> [u8; BYTES]
-    ensures { 128 ≡ length result }
-{
+pub(crate) fn empty() -> [u8; BYTES] {
     [0; BYTES]
 }
 
@@ -107,7 +105,7 @@ pub(crate) fn number_of_eight(r: &[u8], at: usize) -> u64 {
     if r.len() < BYTES {
         return 0;
     }
-    words::get_u64(r, at)
+    words::get_u64(&r[at..at + 8])
 }
 
 // The number of the four bytes at a place that four more follow.
@@ -126,7 +124,6 @@ pub(crate) fn number_of_two(r: &[u8], at: usize) -> u16 {
 // N numbers of two bytes, one behind the other from a place on.
 fn numbers_of_two<const N: usize>(r: &[u8], at: usize) -> [u16; N]
     requires { at + 2 * N ≤ 128 }
-    ensures { N ≡ length result }
 {
     let mut numbers = [0; N];
     for k in 0..N {
@@ -135,9 +132,7 @@ fn numbers_of_two<const N: usize>(r: &[u8], at: usize) -> [u16; N]
     numbers
 }
 
-pub(crate) fn distances(r: &[u8]) -> [u64; 5]
-    ensures { 5 ≡ length result }
-{
+pub(crate) fn distances(r: &[u8]) -> [u64; 5] {
     let mut distances = [0; 5];
     for (k, x) in distances.iter_mut().enumerate() {
         *x = number_of_eight(r, REST_AT + 8 * k);
@@ -146,15 +141,11 @@ pub(crate) fn distances(r: &[u8]) -> [u64; 5]
 }
 
 // Four windows and one number more.
-pub(crate) fn windows(r: &[u8]) -> [u16; 13]
-    ensures { 13 ≡ length result }
-{
+pub(crate) fn windows(r: &[u8]) -> [u16; 13] {
     numbers_of_two(r, WINDOWS_AT)
 }
 
 // Two closed dates and one number more.
-pub(crate) fn closed(r: &[u8]) -> [u16; 7]
-    ensures { 7 ≡ length result }
-{
+pub(crate) fn closed(r: &[u8]) -> [u16; 7] {
     numbers_of_two(r, CLOSED_AT)
 }

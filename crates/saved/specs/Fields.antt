@@ -1,7 +1,5 @@
 -- What the writer answers, and what it puts out of the held nodes: one array of their keys, one of their entries.
-use Rattle.std.specs.Prelude.{ℕ, ◌+◌, ◌*◌, ◌≡◌, List, Result, length}
-use Rattle.model.specs.Base.{joined}
-use Rattle.model.specs.Bytes.{splice}
+use Rattle.std.specs.Prelude.{ℕ, List, Result}
 use Rattle.model.specs.Node.{Node}
 use Rattle.model.specs.Result.{Reply}
 use Rattle.model.specs.Sizes.{key_size}
@@ -22,9 +20,3 @@ field_bytes Field.Entry n = saved_entry n
 unfoldable pub field_size : Field → ℕ
 field_size Field.Key = key_size
 field_size Field.Entry = saved_entry_size
-
--- what is written of the nodes stands in the output from `at` on, up to `next`, and no other byte is changed
-pub record Appended (f : Field) (ns : List Node) (before : List ℕ) (at : ℕ) (after : List ℕ) (next : ℕ) : Type 0 where
-  pub ends : next ≡ at + length ns * field_size f
-  pub size : length after ≡ length before
-  pub output : after ≡ splice before at (joined (field_bytes f) ns)

@@ -1,4 +1,4 @@
 pub mod Threes
 pub mod Months
 pub mod YearTable
-pub mod Hours
+pub mod Fits

@@ -6,7 +6,7 @@ ghost use Rattle.model.specs.Base.{every, any_of};
 ghost use Rattle.model.specs.Question.{first_failed};
 ghost use Rattle.model.specs.Session.{windows_of, dates_of, leap, year_start, month_days, month_start, days_in, is_date, day_number, weekday_of, same_date, max_windows, max_closed, is_window, are_threes, session_fits, covers, is_open, hours_questions};
 ghost use Rattle.node.specs.Refusal.{failed_of};
-ghost use Rattle.session.specs.Hours.{window_of, date_of, entries, window_in, date_in, session_of};
+ghost use Rattle.session.specs.Hours.{window_of, date_of, entries, window_in, date_in, session_of, hours_of};
 
 mod years;
 
@@ -32,7 +32,7 @@ const MONTH_DAYS: [u16; 12] = [31, 28, 31, 30, 31, 30, 31, 31, 30, 31, 30, 31];
 const MONTH_STARTS: [u16; 12] = [0, 31, 59, 90, 120, 151, 181, 212, 243, 273, 304, 334];
 
 // The UTC date and minute of a call.
-#[derive(Clone, Copy)]
+#[derive(Clone, Copy, PartialEq, Eq)]
 pub struct Moment {
     pub year: u16,
     pub month: u16,
@@ -51,6 +51,15 @@ impl Moment {
             day: self.day,
         }
     }
+}
+
+// The session hours of a call: its weekly windows (weekday, opening and closing minute), its closed dates (year, month, day), each three numbers,
+// and the moment of the call.
+#[derive(Clone, Copy)]
+pub struct Hours<'a> {
+    pub windows: &'a [u16],
+    pub closed: &'a [u16],
+    pub moment: Moment,
 }
 
 // A date of the calendar, or three numbers that are none.
@@ -80,7 +89,7 @@ impl Date {
                 && (1 <= self.day && self.day <= days_in(self.year, self.month)))
     }
 
-    // The days from 1 January 2000 to the date. Not a conversion of std: no type has a date's number.
+    // The days from 1 January 2000 to the date. No `From`: an u32 is no type of day numbers.
     fn day_number(self) -> u32
         requires { is_date (date_of self) ≡ true }
         ensures { result ≡ day_number (date_of self) }
@@ -191,13 +200,6 @@ fn entries(numbers: &[u16]) -> &[[u16; 3]]
     numbers.as_chunks::<3>().0
 }
 
-// The windows are what question 10 asks.
-fn windows_fit(windows: &[u16]) -> bool
-    ensures { result ≡ (are_threes max_windows windows.now && every is_window (windows_of windows.now)) }
-{
-    are_threes(windows, MAX_WINDOWS) && entries(windows).iter().all(|e| Window::from(*e).is_valid())
-}
-
 // The entry is a date of the calendar.
 fn is_date(entry: &[u16; 3]) -> bool
     ensures { result ≡ is_date (date_of (date_in entry.now)) }
@@ -205,60 +207,73 @@ fn is_date(entry: &[u16; 3]) -> bool
     Date::from(*entry).is_valid()
 }
 
-// The closed dates are what question 10 asks.
-fn closed_fit(closed: &[u16]) -> bool
-    ensures { result ≡ (are_threes max_closed closed.now && every is_date (dates_of closed.now)) }
-{
-    are_threes(closed, MAX_CLOSED) && entries(closed).iter().all(|e| is_date(e))
+impl Hours<'_> {
+    // The windows are what question 10 asks.
+    fn windows_fit(self) -> bool
+        ensures { result ≡ (are_threes max_windows self.entry.windows.now && every is_window (windows_of self.entry.windows.now)) }
+    {
+        are_threes(self.windows, MAX_WINDOWS)
+            && entries(self.windows)
+                .iter()
+                .all(|e| Window::from(*e).is_valid())
+    }
+
+    // The closed dates are what question 10 asks.
+    fn closed_fit(self) -> bool
+        ensures { result ≡ (are_threes max_closed self.entry.closed.now && every is_date (dates_of self.entry.closed.now)) }
+    {
+        are_threes(self.closed, MAX_CLOSED) && entries(self.closed).iter().all(|e| is_date(e))
+    }
+
+    // Question 10.
+    #[tactic(auto, unfolding(model::specs::Session::session_fits))]
+    fn fits(self) -> bool
+        ensures { result ≡ session_fits (hours_of self.entry) }
+    {
+        self.windows_fit()
+            && (self.closed_fit()
+                && (self.moment.date().is_valid() && self.moment.minute < MINUTES))
+    }
+
+    // The date is among the closed dates.
+    fn is_closed(self, date: Date) -> bool
+        ensures { result ≡ any_of (same_date (date_of date)) (dates_of self.entry.closed.now) }
+    {
+        entries(self.closed).iter().any(|e| date == Date::from(*e))
+    }
+
+    // Some window has the weekday and the minute.
+    fn is_covered(self, weekday: u16, minute: u16) -> bool
+        ensures { result ≡ any_of (covers weekday minute) (windows_of self.entry.windows.now) }
+    {
+        entries(self.windows)
+            .iter()
+            .any(|e| Window::from(*e).covers(weekday, minute))
+    }
+
+    // Question 11 of a key that is not known.
+    #[tactic(auto, unfolding(model::specs::Session::is_open))]
+    fn is_open(self) -> bool
+        requires { session_fits (hours_of self) ≡ true }
+        ensures { result ≡ is_open (hours_of self.entry) }
+    {
+        let today = self.moment.date();
+        !self.is_closed(today) && self.is_covered(today.weekday(), self.moment.minute)
+    }
 }
 
-// Question 10.
-#[tactic(auto, unfolding(model::specs::Session::session_fits))]
-fn session_fits(windows: &[u16], closed: &[u16], moment: Moment) -> bool
-    ensures { result ≡ session_fits (session_of windows.now closed.now moment) }
+// Questions 10 and 11. known: the key is the local one, or was held or pending before the call, so that 11 lets it pass. With no windows neither
+// is asked.
+pub fn asked(hours: Hours, known: bool) -> Result<(), Refusal>
+    ensures { failed_of result ≡ first_failed (hours_questions (hours_of hours.entry) known) }
 {
-    windows_fit(windows)
-        && (closed_fit(closed) && (moment.date().is_valid() && moment.minute < MINUTES))
-}
-
-// The date is among the closed dates.
-fn is_closed(closed: &[u16], date: Date) -> bool
-    ensures { result ≡ any_of (same_date (date_of date)) (dates_of closed.now) }
-{
-    entries(closed).iter().any(|e| date == Date::from(*e))
-}
-
-// Some window has the weekday and the minute.
-fn is_covered(windows: &[u16], weekday: u16, minute: u16) -> bool
-    ensures { result ≡ any_of (covers weekday minute) (windows_of windows.now) }
-{
-    entries(windows)
-        .iter()
-        .any(|e| Window::from(*e).covers(weekday, minute))
-}
-
-// Question 11 of a key that is not known.
-#[tactic(auto, unfolding(model::specs::Session::is_open))]
-fn is_open(windows: &[u16], closed: &[u16], moment: Moment) -> bool
-    requires { session_fits (session_of windows.now closed.now moment) ≡ true }
-    ensures { result ≡ is_open (session_of windows.now closed.now moment) }
-{
-    let today = moment.date();
-    !is_closed(closed, today) && is_covered(windows, today.weekday(), moment.minute)
-}
-
-// Questions 10 and 11: three numbers a window (weekday, opening and closing minute) and three a closed date (year, month, day). known: the key
-// is the local one, or was held or pending before the call, so that 11 lets it pass. With no windows neither is asked.
-pub fn asked(windows: &[u16], closed: &[u16], moment: Moment, known: bool) -> Result<(), Refusal>
-    ensures { failed_of result ≡ first_failed (hours_questions (session_of windows.now closed.now moment) known) }
-{
-    if windows.is_empty() {
+    if hours.windows.is_empty() {
         return Ok(());
     }
-    if !session_fits(windows, closed, moment) {
+    if !hours.fits() {
         return Err(Refusal::Hours);
     }
-    if known || is_open(windows, closed, moment) {
+    if known || hours.is_open() {
         return Ok(());
     }
     Err(Refusal::Closed)

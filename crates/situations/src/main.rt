@@ -5,11 +5,10 @@
 
 ghost use Rattle.std.specs.Prelude.{◌≡◌, length};
 
-use bucket::{FailureReason, UpdateResult};
-use bucket_update::InsertResult;
-use node::{Refusal, Slot, Value};
-use session::Moment;
-use std::io;
+use bucket::KBucket;
+use node::{NodeStatus, Refusal, Slot, Value};
+use session::{Hours, Moment};
+use std::{fmt, io};
 use storage::Layout;
 
 // Storage for a table.
@@ -46,7 +45,7 @@ fn byte(s: &[u8], at: usize) -> u8 {
 
 // Writes the node at a place of bucket 255: the last byte of its key, the last octet of its address, the last byte of its slot.
 fn print_node(rt: &impl Print, s: &[u8], place: usize) -> io::Result<()> {
-    if 16 <= place {
+    if KBucket::MAX_NODES_PER_BUCKET <= place {
         return Ok(());
     }
     let at = Layout::HEADER + 255 * Layout::BUCKET + Layout::PLACES_AT + place * Layout::NODE;
@@ -65,84 +64,48 @@ fn print_bucket(rt: &impl Print, s: &[u8]) -> io::Result<()> {
     println!(rt;)
 }
 
-// Writes what a call answered: its result, or the number of the question that refused it.
-fn print_answer(rt: &impl Print, answer: Result<&'static str, Refusal>) -> io::Result<()> {
+// Writes what a call answered: its result, or the question that refused it.
+fn print_answer<T: Copy + fmt::Debug>(
+    rt: &impl Print,
+    answer: Result<T, Refusal>,
+) -> io::Result<()> {
     match answer {
-        Ok(result) => print!(rt; "{result}"),
-        Err(refusal) => {
-            let q = refusal.number();
-            print!(rt; "refused with {q}")
-        }
-    }
-}
-
-// The results by name. They are of other crates, and so none is given a Display here.
-
-fn failed(reason: FailureReason) -> &'static str {
-    match reason {
-        FailureReason::TooManyIncoming => "Failed(TooManyIncoming)",
-        FailureReason::BucketFilter => "Failed(BucketFilter)",
-        FailureReason::TableFilter => "Failed(TableFilter)",
-        FailureReason::KeyNonExistent => "Failed(KeyNonExistent)",
-        FailureReason::BucketFull => "Failed(BucketFull)",
-        FailureReason::InvalidSelfUpdate => "Failed(InvalidSelfUpdate)",
-    }
-}
-
-fn updated(res: UpdateResult) -> &'static str {
-    match res {
-        UpdateResult::Updated => "Updated",
-        UpdateResult::UpdatedAndPromoted => "UpdatedAndPromoted",
-        UpdateResult::UpdatedPending => "UpdatedPending",
-        UpdateResult::Failed(reason) => failed(reason),
-        UpdateResult::NotModified => "NotModified",
-    }
-}
-
-fn inserted_or_updated(res: InsertResult) -> &'static str {
-    match res {
-        InsertResult::Inserted => "Inserted",
-        InsertResult::Pending(_) => "Pending",
-        InsertResult::StatusUpdated(_) => "StatusUpdated",
-        InsertResult::ValueUpdated => "ValueUpdated",
-        InsertResult::Updated(_) => "Updated",
-        InsertResult::UpdatedPending => "UpdatedPending",
-        InsertResult::Failed(reason) => failed(reason),
-    }
-}
-
-fn inserted(res: bucket::InsertResult) -> &'static str {
-    match res {
-        bucket::InsertResult::Inserted => "Inserted",
-        bucket::InsertResult::Pending(_) => "Pending",
-        bucket::InsertResult::FailedFilter => "FailedFilter",
-        bucket::InsertResult::TooManyIncoming => "TooManyIncoming",
-        bucket::InsertResult::Full => "Full",
-        bucket::InsertResult::NodeExists => "NodeExists",
+        Ok(result) => print!(rt; "{result:?}"),
+        Err(refusal) => print!(rt; "{refusal}"),
     }
 }
 
 // A member joins, connected and outgoing. The table filter lets no eleventh of a /24 in by insert_or_update; an entry's insert passes it by.
 fn join(rt: &impl Print, s: &mut [u8], member: u8) -> io::Result<()> {
     let key = key_of(member);
-    let value = record_of(member, member as Slot);
+    let value = record_of(member, Slot::from(member));
+    let status = NodeStatus {
+        state: 1,
+        direction: 0,
+    };
+    // no session hours: with no windows neither question is asked
+    let hours = Hours {
+        windows: &[],
+        closed: &[],
+        moment: Moment {
+            year: 0,
+            month: 0,
+            day: 0,
+            minute: 0,
+        },
+    };
     print!(rt; " ")?;
-    // no session hours: with an empty window list neither question is asked
-    let none: [u16; 0] = [];
-    let moment = Moment {
-        year: 0,
-        month: 0,
-        day: 0,
-        minute: 0,
-    };
-    let answer = if 10 < member {
-        entry::absent_insert(s, &key, value, 1, 0, 1000, &none, &none, moment).map(inserted)
-    } else {
-        update::insert_or_update(s, &key, value, 1, 0, 1000, &none, &none, moment).map(
-            inserted_or_updated,
+    if 10 < member {
+        print_answer(
+            rt,
+            entry::absent_insert(s, &key, value, status, 1000, hours),
         )
-    };
-    print_answer(rt, answer)
+    } else {
+        print_answer(
+            rt,
+            update::insert_or_update(s, &key, value, status, 1000, hours),
+        )
+    }
 }
 
 fn join_all(rt: &impl Print, s: &mut [u8], members: u8) -> io::Result<()> {
@@ -156,21 +119,17 @@ fn join_all(rt: &impl Print, s: &mut [u8], members: u8) -> io::Result<()> {
 fn resign(rt: &impl Print, s: &mut [u8], member: u8, slot: Slot) -> io::Result<()> {
     let key = key_of(member);
     let value = record_of(member, slot);
-    print_answer(
-        rt,
-        update::update_node(s, &key, value, 2, 2000).map(updated),
-    )
+    print_answer(rt, update::update_node(s, &key, value, 2, 2000))
 }
 
 fn situation(rt: &impl Print, members: u8) -> io::Result<()> {
     let mut space = storage();
     let s = &mut space;
     let local = [0u8; 32];
-    let made = table::new(s, &local, 60000, 16, 1, 0);
-    print_answer(
-        rt,
-        made.map(|_| "a new table, table filter on, bucket filter off"),
-    )?;
+    match table::new(s, &local, 60000, 16, 1, 0) {
+        Ok(()) => print!(rt; "a new table, table filter on, bucket filter off")?,
+        Err(refusal) => print!(rt; "{refusal}")?,
+    }
     print!(rt; "\n{members} members of 10.0.0.0/24 join:")?;
     join_all(rt, s, members)?;
     print!(rt; "\nbefore: ")?;

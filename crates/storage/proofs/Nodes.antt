@@ -1,71 +1,34 @@
 -- The bytes of declared values and nodes, read field by field and written field by field.
-use mathlib.Core.Path.{◌≡◌, refl, ap, ◌∙◌}
+use mathlib.Core.Path.{◌≡◌, refl, sym, ap, ◌∙◌}
 use mathlib.Core.Bool.{Bool, true, ◌&&◌, ◌||◌, and_assoc}
 use mathlib.Core.List.{List, [], ◌∷◌, ◌++◌, append_assoc}
 use mathlib.Core.Option.{Option, none, some}
-use Prim.Native.Nat.{ℕ, ◌+◌, ◌≤◌, ◌<◌}
-use native.Mathlib.Nat.{add-zero}
+use Prim.Native.Nat.{ℕ, ◌+◌, ◌<◌}
 use native.Mathlib.Omega.{arith}
 use lib.Dec.{eqb, leb}
-use lib.ListN.{length, get_or, length-append}
+use lib.ListN.{length, get_or, set, length-append}
 use borrow.Author.Tests.{eqb-true, eqb-false, lt-leb}
 use Rattle.model.specs.Base.{all_below}
-use Rattle.model.specs.Bytes.{number, bytes, part, splice}
+use Rattle.model.specs.Bytes.{bytes, splice}
 use Rattle.model.specs.Value as model-value
 use Rattle.model.specs.Sizes.{key_size, slot_size, value_size, node_size}
 use Rattle.model.specs.Layout.{address_bytes, value_bytes, node_bytes, value_in, node_in}
 use Rattle.model.specs.Formed as formed
 use Rattle.laws.proofs.Tests.{split, and_left, and_right}
-use Rattle.laws.proofs.Parts.{part_part, part_zero, get_d_part, splice_next}
+use Rattle.laws.proofs.Parts.{get_d_part, set_splice, splice_next}
+use borrow.Rule.Slice.PartMut.{put_mid}
+use Rattle.words.proofs.Words.{set_more, put_mid_splice}
+use Rattle.key.proofs.Bytes.{splice_all}
 use Rattle.laws.proofs.Bytes.{length_bytes}
-use Rattle.laws.proofs.NodeBytes.{length_value}
+use Rattle.laws.proofs.NodeBytes.{length_value, length_node}
 use Rattle.laws.proofs.NodeFormed.{flag_back}
-use Rattle.key.specs.Key.{num, key_of}
+use Rattle.key.specs.Key.{num}
 use Rattle.node.specs.declared.Value.{Value}
 use Rattle.node.specs.declared.Node.{Node}
 use Rattle.node.specs.Node.{value_of, node_of, value_codes, node_codes, stored_address}
 use Rattle.key.proofs.Words.{num_key_of}
 use Rattle.node.proofs.Stored.{stored_value_of}
 use Rattle.storage.specs.Read.{read_value, read_node}
-
--- what is read at a place
-
-module _ (s : List ℕ) (at : ℕ) where
-  pub value_at : read_value (part s at value_size)
-      ≡ record {
-        flag = get_or s at 0;
-        a = get_or s (at + 1) 0;
-        b = get_or s (at + 2) 0;
-        c = get_or s (at + 3) 0;
-        d = get_or s (at + 4) 0;
-        slot = number (part s (at + 5) slot_size);
-      }
-  unfolding read_value
-  value_at =
-      rw (
-        get_d_part s at value_size 0 (omega arith),
-        add-zero,
-        get_d_part s at value_size 1 (omega arith),
-        get_d_part s at value_size 2 (omega arith),
-        get_d_part s at value_size 3 (omega arith),
-        get_d_part s at value_size 4 (omega arith),
-        part_part s at value_size 5 slot_size (omega arith),
-      )
-
-  pub node_at : read_node (part s at node_size)
-      ≡ record {
-        key = key_of (number (part s at key_size));
-        value = read_value (part s (at + (key_size + 2)) value_size);
-        status = record { state = get_or s (at + key_size) 0; direction = get_or s (at + (key_size + 1)) 0 };
-      }
-  unfolding read_node
-  node_at =
-      rw (
-        part_zero s at node_size key_size (omega arith),
-        get_d_part s at node_size key_size (omega arith),
-        get_d_part s at node_size (key_size + 1) (omega arith),
-        part_part s at node_size (key_size + 2) value_size (omega arith),
-      )
 
 -- what is read stands for what the model reads
 
@@ -128,30 +91,29 @@ module _ (n : Node) (h : node_codes n ≡ true) where
         flag_back n.status.direction (and_left (leb n.status.direction 1) (value_codes n.value) (and_right (leb n.status.state 1) _ h)),
       )
 
-module _ (s : List ℕ) (at : ℕ) where
-  pub value_put : (v : Value) → value_codes v ≡ true → at + value_size ≤ length s
-      → splice (splice (splice (splice (splice (splice s at (v.flag ∷ [])) (at + 1) (v.a ∷ [])) (at + 2) (v.b ∷ [])) (at + 3) (v.c ∷ [])) (at + 4) (v.d ∷ []))
-      (at + 5) (bytes slot_size v.slot) ≡ splice s at (value_bytes (value_of v))
-  value_put v h l =
-      rw (
-        splice_next s at 1 (v.flag ∷ []) (v.a ∷ []) refl (omega arith),
-        splice_next s at 2 (v.flag ∷ v.a ∷ []) (v.b ∷ []) refl (omega arith),
-        splice_next s at 3 (v.flag ∷ v.a ∷ v.b ∷ []) (v.c ∷ []) refl (omega arith),
-        splice_next s at 4 (v.flag ∷ v.a ∷ v.b ∷ v.c ∷ []) (v.d ∷ []) refl (omega arith),
-        splice_next s at 5 (v.flag ∷ v.a ∷ v.b ∷ v.c ∷ v.d ∷ []) (bytes slot_size v.slot) refl (simp length_bytes (omega arith)),
-        value_bytes_lem v h,
-      )
+-- written into a run that is as long, over all that it held
+module _ (s : List ℕ) where
+  pub value_put : (v : Value) → value_codes v ≡ true → length s ≡ value_size → (w : List ℕ) → w ≡ bytes slot_size v.slot
+      → put_mid 5 8 (set (set (set (set (set s 0 v.flag) 1 v.a) 2 v.b) 3 v.c) 4 v.d) w ≡ value_bytes (value_of v)
+  value_put v h l w e =
+      let e0 : set s 0 v.flag ≡ splice s 0 (v.flag ∷ []) = set_splice s 0 v.flag (omega arith) in
+      let e1 : set (set s 0 v.flag) 1 v.a ≡ splice s 0 (v.flag ∷ v.a ∷ []) = set_more s 0 1 (v.flag ∷ []) v.a e0 refl (omega arith) in
+      let e2 = set_more s 0 2 (v.flag ∷ v.a ∷ []) v.b e1 refl (omega arith) in
+      let e3 = set_more s 0 3 (v.flag ∷ v.a ∷ v.b ∷ []) v.c e2 refl (omega arith) in
+      let e4 = set_more s 0 4 (v.flag ∷ v.a ∷ v.b ∷ v.c ∷ []) v.d e3 refl (omega arith) in
+      put_mid_splice _ 5 8 e (length_bytes 8 v.slot) ∙ ap (λ (t : List ℕ). splice t 5 (bytes slot_size v.slot)) e4
+      ∙ splice_next s 0 5 (v.flag ∷ v.a ∷ v.b ∷ v.c ∷ v.d ∷ []) (bytes slot_size v.slot) refl (simp length_bytes (omega arith))
+      ∙ ap (splice s 0) (sym (value_bytes_lem v h)) ∙ splice_all s (value_bytes (value_of v)) (l ∙ sym (length_value (value_of v)))
 
-  pub node_put : (n : Node) → node_codes n ≡ true → at + node_size ≤ length s
-      → splice
-      (splice (splice (splice s at (bytes key_size (num n.key))) (at + key_size) (n.status.state ∷ [])) (at + (key_size + 1)) (n.status.direction ∷ []))
-      (at + (key_size + 2)) (value_bytes (value_of n.value)) ≡ splice s at (node_bytes (node_of n))
-  node_put n h l =
-      let k : List ℕ = bytes key_size (num n.key) in
-      rw (
-        splice_next s at key_size k (n.status.state ∷ []) (length_bytes key_size _) (omega arith),
-        splice_next s at (key_size + 1) (k ++ (n.status.state ∷ [])) (n.status.direction ∷ []) (simp (length-append, length_bytes)) (omega arith),
-        splice_next s at (key_size + 2) (k ++ (n.status.state ∷ []) ++ (n.status.direction ∷ [])) (value_bytes (value_of n.value)) (simp (length-append, length_bytes)) (simp length_value (omega arith)),
-        node_bytes_lem n h,
-      )
-      (simp append_assoc)
+  pub node_put : (n : Node) → node_codes n ≡ true → length s ≡ node_size → (k w : List ℕ) → k ≡ bytes key_size (num n.key) → w ≡ value_bytes (value_of n.value)
+      → put_mid 34 13 (set (set (put_mid 0 32 s k) 32 n.status.state) 33 n.status.direction) w ≡ node_bytes (node_of n)
+  node_put n h l k w e f =
+      let key : List ℕ = bytes key_size (num n.key) in
+      let d : ℕ = n.status.direction in
+      let front : List ℕ = key ++ (n.status.state ∷ []) in
+      let e0 = put_mid_splice s 0 32 e (length_bytes key_size _) in
+      let e1 = set_more s 0 32 key n.status.state e0 (length_bytes key_size _) (omega arith) in
+      let e2 = set_more s 0 33 front d e1 (simp (length-append, length_bytes)) (omega arith) in
+      put_mid_splice _ 34 13 f (length_value _) ∙ ap (λ (t : List ℕ). splice t 34 (value_bytes (value_of n.value))) e2
+      ∙ splice_next s 0 34 (front ++ (d ∷ [])) (value_bytes (value_of n.value)) (simp (length-append, length_bytes)) (simp length_value (omega arith))
+      ∙ ap (splice s 0) (simp append_assoc (sym (node_bytes_lem n h))) ∙ splice_all s (node_bytes (node_of n)) (l ∙ sym (length_node (node_of n)))

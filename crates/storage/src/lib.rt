@@ -1,10 +1,11 @@
 // The table's bytes: how many each thing takes, and values and nodes read from lent storage and written to it.
 #![tactic(auto)]
 
-ghost use Rattle.std.specs.Prelude.{◌≡◌, true, ◌+◌, ◌≤◌, length};
-ghost use Rattle.model.specs.Bytes.{part, splice};
-ghost use Rattle.model.specs.Sizes.{value_size, node_size};
-ghost use Rattle.model.specs.Layout.{value_bytes, node_bytes};
+ghost use Rattle.std.specs.Prelude.{◌≡◌, true, ◌≤◌, ◌<◌, length};
+ghost use Rattle.model.specs.Bucket.{max_nodes_per_bucket};
+ghost use Rattle.model.specs.Table.{num_buckets, max_records};
+ghost use Rattle.model.specs.Sizes.{value_size, node_size, record_size, bucket_size, header_size, storage_size};
+ghost use Rattle.model.specs.Layout.{value_bytes, node_bytes, place_in, record_part, bucket_part};
 ghost use Rattle.node.specs.Node.{value_of, node_of, value_codes, node_codes};
 ghost use Rattle.storage.specs.Read.{read_value, read_node};
 
@@ -76,56 +77,86 @@ impl Layout {
     pub const STORAGE: usize = Layout::HEADER + model::NUM_BUCKETS * Layout::BUCKET;
 }
 
-// Internal: the value whose bytes stand at `at`.
-pub fn load_value(s: &[u8], at: usize) -> Value
-    requires { at + value_size ≤ length s.now }
-    ensures { result ≡ read_value (part s.now at value_size) }
+// Internal: the value of its bytes.
+pub fn load_value(s: &[u8]) -> Value
+    requires { length s.now ≡ value_size }
+    ensures { result ≡ read_value s.now }
 {
     Value {
-        flag: s[at],
-        a: s[at + 1],
-        b: s[at + 2],
-        c: s[at + 3],
-        d: s[at + 4],
-        slot: words::get_u64(s, at + Layout::SLOT_AT),
+        flag: s[0],
+        a: s[1],
+        b: s[2],
+        c: s[3],
+        d: s[4],
+        slot: words::get_u64(&s[Layout::SLOT_AT..Layout::VALUE]),
     }
 }
 
-// Internal: the node whose bytes stand at `at`.
-pub fn load_node(s: &[u8], at: usize) -> Node
-    requires { at + node_size ≤ length s.now }
-    ensures { result ≡ read_node (part s.now at node_size) }
+// Internal: the node of its bytes.
+pub fn load_node(s: &[u8]) -> Node
+    requires { length s.now ≡ node_size }
+    ensures { result ≡ read_node s.now }
 {
     Node {
-        key: Key::load(s, at),
-        value: load_value(s, at + Layout::VALUE_AT),
+        key: Key::load(&s[0..Layout::KEY]),
+        value: load_value(&s[Layout::VALUE_AT..Layout::NODE]),
         status: NodeStatus {
-            state: s[at + Layout::STATE_AT],
-            direction: s[at + Layout::DIRECTION_AT],
+            state: s[Layout::STATE_AT],
+            direction: s[Layout::DIRECTION_AT],
         },
     }
 }
 
-// Internal: the bytes of a value whose codes are in range, put at `at`.
-pub fn store_value(s: &mut [u8], at: usize, v: Value)
-    requires { (at + value_size ≤ length s.old) × (value_codes v ≡ true) }
-    ensures { s.new ≡ splice s.old at (value_bytes (value_of v)) }
+// Internal: the bytes become those of a value whose codes are in range.
+pub fn store_value(s: &mut [u8], v: Value)
+    requires { (length s.old ≡ value_size) × (value_codes v ≡ true) }
+    ensures { s.new ≡ value_bytes (value_of v) }
 {
-    words::put_byte(s, at, v.flag);
-    words::put_byte(s, at + 1, v.a);
-    words::put_byte(s, at + 2, v.b);
-    words::put_byte(s, at + 3, v.c);
-    words::put_byte(s, at + 4, v.d);
-    words::put_u64(s, at + Layout::SLOT_AT, v.slot);
+    s[0] = v.flag;
+    s[1] = v.a;
+    s[2] = v.b;
+    s[3] = v.c;
+    s[4] = v.d;
+    words::put_u64(&mut s[Layout::SLOT_AT..Layout::VALUE], v.slot);
 }
 
-// Internal: the bytes of a node whose codes are in range, put at `at`.
-pub fn store_node(s: &mut [u8], at: usize, n: Node)
-    requires { (at + node_size ≤ length s.old) × (node_codes n ≡ true) }
-    ensures { s.new ≡ splice s.old at (node_bytes (node_of n)) }
+// Internal: the bytes become those of a node whose codes are in range.
+pub fn store_node(s: &mut [u8], n: Node)
+    requires { (length s.old ≡ node_size) × (node_codes n ≡ true) }
+    ensures { s.new ≡ node_bytes (node_of n) }
 {
-    n.key.store(s, at);
-    words::put_byte(s, at + Layout::STATE_AT, n.status.state);
-    words::put_byte(s, at + Layout::DIRECTION_AT, n.status.direction);
-    store_value(s, at + Layout::VALUE_AT, n.value);
+    n.key.store(&mut s[0..Layout::KEY]);
+    s[Layout::STATE_AT] = n.status.state;
+    s[Layout::DIRECTION_AT] = n.status.direction;
+    store_value(&mut s[Layout::VALUE_AT..Layout::NODE], n.value);
+}
+
+// Internal: the bytes of place j of a bucket.
+#[tactic(auto, using(laws::proofs::Parts::sliced))]
+pub fn place(bucket: &[u8; Layout::BUCKET], j: usize) -> &[u8; Layout::NODE]
+    requires { j < max_nodes_per_bucket }
+    ensures { result.now ≡ place_in bucket.now j }
+{
+    let at = Layout::PLACES_AT + j * Layout::NODE;
+    bucket[at..at + Layout::NODE].as_array().unwrap()
+}
+
+// Internal: the bytes of bucket i of the storage.
+#[tactic(auto, using(laws::proofs::Parts::sliced))]
+pub fn bucket(s: &[u8; Layout::STORAGE], i: usize) -> &[u8; Layout::BUCKET]
+    requires { i < num_buckets }
+    ensures { result.now ≡ bucket_part s.now i }
+{
+    let at = Layout::HEADER + i * Layout::BUCKET;
+    s[at..at + Layout::BUCKET].as_array().unwrap()
+}
+
+// Internal: the bytes of record j of the queue.
+#[tactic(auto, using(laws::proofs::Parts::sliced))]
+pub fn record(s: &[u8; Layout::STORAGE], j: usize) -> &[u8; Layout::RECORD]
+    requires { j < max_records }
+    ensures { result.now ≡ record_part s.now j }
+{
+    let at = Layout::RECORDS_AT + j * Layout::RECORD;
+    s[at..at + Layout::RECORD].as_array().unwrap()
 }

@@ -73,9 +73,6 @@ module _ (s k : List ℕ) (timeout m tf bf : ℕ) where
   unfolding keys_fit codes_in_range clock_fits output_fits kind_fits queue_fits act
   asked_new = rw and-true
 
-  pub new_size : eqb (length s) storage_size ≡ false → Answers (Answer.Refused 1) s (step_bytes made s)
-  new_size e = refused_bytes made s 1 (asked_new ∙ (rw e))
-
   module _ (e : eqb (length s) storage_size ≡ true) where
     pub new_key : eqb (length k) key_size ≡ false → Answers (Answer.Refused 3) s (step_bytes made s)
     new_key f = refused_bytes made s 3 (asked_new ∙ (rw (e, f)))

@@ -1,12 +1,12 @@
 -- What the table's answers mean.
 use Rattle.std.specs.Prelude as code
-use Rattle.std.specs.Prelude.{Result, Ok, Err, Bool, true}
+use Rattle.std.specs.Prelude.{Result, Bool}
 use Rattle.model.specs.Base.{first}
 use Rattle.model.specs.Table.{Answer}
 use Rattle.node.specs.declared.Refusal.{Refusal}
 use Rattle.node.specs.Refusal.{answer_of}
 use Rattle.bucket.specs.declared.EndedPending.{EndedPending}
-use Rattle.bucket.specs.Calls.{records_of, applied_codes}
+use Rattle.bucket.specs.Calls.{records_of, apply_codes}
 
 abbrev pub remove_answer : Result Bool Refusal → Answer
 remove_answer = answer_of Answer.Remove
@@ -16,8 +16,7 @@ take_answer = answer_of (λ a. Answer.TakeAppliedPending (first (records_of a)))
 
 -- 01, question 4: the codes of the node that was evicted, if one was
 abbrev pub take_codes : Result (code.Option EndedPending) Refusal → Bool
-take_codes (Ok a) = applied_codes a
-take_codes (Err r) = true
+take_codes = apply_codes
 
 abbrev pub new_answer : Result (Unit {0}) Refusal → Answer
 new_answer = answer_of (λ u. Answer.New)

@@ -8,6 +8,7 @@ ghost use Rattle.on_key.specs.Answers.{Answers, update_answer};
 ghost use Rattle.table.specs.Calls.{remove_answer, take_answer, take_codes, new_answer};
 
 use bucket::{EndedPending, UpdateResult};
+use key::Key;
 use node::{Code, Refusal};
 use storage::Layout;
 
@@ -15,12 +16,14 @@ use storage::Layout;
 pub fn remove(s: &mut [u8], key: &[u8], time: u64) -> Result<bool, Refusal>
     ensures { Answers (remove_answer result) s.new (step_bytes (Call.on_key key.now (KeyCall.remove time)) s.old) }
 {
+    let s = s.as_mut_array().ok_or(Refusal::Size)?;
     let Some((k, i)) = on_key::begin(s, key, true, Some(time))? else {
         return Ok(false);
     };
     let at = Layout::HEADER + i * Layout::BUCKET;
-    if held::is_quiet(s, at) {
-        return Ok(held::remove(s, at, k));
+    let bucket = &s[at..at + Layout::BUCKET];
+    if held::is_quiet(bucket) {
+        return Ok(held::remove(&mut s[at..at + Layout::BUCKET], k));
     }
     let applied = on_key::apply_at(s, i, time);
     let step = applied.bucket.remove_sound(k, time);
@@ -38,23 +41,21 @@ pub fn update_node_status(
 ) -> Result<UpdateResult, Refusal>
     ensures { Answers (update_answer result) s.new (step_bytes (Call.on_key key.now (KeyCall.update_node_status state direction time)) s.old) }
 {
+    let s = s.as_mut_array().ok_or(Refusal::Size)?;
     let codes = (state <= 1) & (direction <= 2);
     let Some((k, i)) = on_key::begin(s, key, codes, Some(time))? else {
         return Ok(UpdateResult::NotModified);
     };
     let at = Layout::HEADER + i * Layout::BUCKET;
-    if held::is_quiet(s, at) {
-        return Ok(held::update_status(s, at, k, state, direction));
+    let bucket = &s[at..at + Layout::BUCKET];
+    if held::is_quiet(bucket) {
+        let settings = header::settings(s);
+        let bucket = &mut s[at..at + Layout::BUCKET];
+        return Ok(held::update_status(bucket, settings, k, state, direction));
     }
     let applied = on_key::apply_at(s, i, time);
     let step = applied.bucket.update_status_sound(k, state, direction);
-    let record = on_key::record_of(
-        applied.result,
-        applied.bucket.pending,
-        step.bucket.pending,
-        k,
-    );
-    on_key::finish(s, i, record, step.bucket)?;
+    on_key::end(s, i, &applied, step.bucket, k)?;
     Ok(step.result)
 }
 
@@ -63,6 +64,7 @@ pub fn take_applied_pending(s: &mut [u8]) -> Result<Option<EndedPending>, Refusa
     ensures answers { Answers (take_answer result) s.new (step_bytes Call.take_applied_pending s.old) }
     ensures result_value { take_codes result ≡ true }
 {
+    let s = s.as_mut_array().ok_or(Refusal::Size)?;
     on_key::asked_storage(s)?;
     Ok(header::take_record(s))
 }
@@ -78,19 +80,20 @@ pub fn new(
 ) -> Result<(), Refusal>
     ensures { Answers (new_answer result) s.new (step_bytes (Call.new local_key.now pending_timeout max_incoming table_filter bucket_filter) s.old) }
 {
-    if s.len() != Layout::STORAGE {
-        return Err(Refusal::Size);
-    }
+    let s = s
+        .as_mut_array::<{ Layout::STORAGE }>()
+        .ok_or(Refusal::Size)?;
     if local_key.len() != Layout::KEY {
         return Err(Refusal::Key);
     }
-    let codes = (max_incoming <= 16) & ((table_filter <= 1) & (bucket_filter <= 1));
+    let codes = (usize::from(max_incoming) <= model::MAX_NODES_PER_BUCKET)
+        & ((table_filter <= 1) & (bucket_filter <= 1));
     if !codes {
         return Err(Refusal::Code);
     }
     header::clear(
         s,
-        on_key::key_of(local_key),
+        Key::load(local_key),
         pending_timeout,
         max_incoming,
         table_filter,

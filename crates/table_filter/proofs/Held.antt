@@ -5,7 +5,7 @@ use mathlib.Core.List.{List, [], ◌∷◌}
 use mathlib.Core.Option.{none, some}
 use mathlib.Core.Logic.{⊎_elim}
 use Prim.Native.Nat.{ℕ, zero, suc, ◌+◌, ◌/◌, ◌≤◌, ◌<◌}
-use native.Mathlib.Nat.{not-suc-le-zero, eq-or-lt_of_le, add-zero}
+use native.Mathlib.Nat.{not-suc-le-zero, eq-or-lt_of_le}
 use native.Mathlib.Numerals.{add-one}
 use native.Mathlib.Omega.{arith}
 use mir.Val.{bool_byte}
@@ -19,16 +19,14 @@ use Rattle.model.specs.Node.{Node}
 use Rattle.model.specs.Filter.{counts, counted, ip_filter_fails}
 use Rattle.model.specs.Bucket.{Bucket, max_nodes_per_bucket, nodes, find, get, omit}
 use Rattle.model.specs.Table.{num_buckets, held_nodes, other_nodes}
-use Rattle.model.specs.Sizes.{key_size, value_size, node_size, bucket_size, bucket_at, table_filter_at}
+use Rattle.model.specs.Sizes.{key_size, value_size, table_filter_at}
 use Rattle.model.specs.Layout.{value_in, node_in, nodes_in, bucket_in, settings_in, bucket_part, table_of}
-use Rattle.model.specs.Formed.{bucket_formed_at, formed}
+use Rattle.model.specs.Formed.{bucket_formed_at}
 use Rattle.laws.proofs.Tests.{split}
 use Rattle.laws.proofs.Lists.{tabulate_one_more}
 use Rattle.laws.proofs.KeepLists.{length_select_append, find_append, get_nodes}
-use Rattle.laws.proofs.Parts.{part_part, part_zero, get_d_part}
 use Rattle.laws.proofs.BucketFormed.{checked}
 use Rattle.laws.proofs.BucketBack.{nodes_in_lem}
-use Rattle.laws.proofs.TableBytes.{bucket_passes}
 use Rattle.node.specs.declared.Value as declared
 use Rattle.node.specs.Node.{value_of}
 use Rattle.node.proofs.Tests.{and_both, counts_is}
@@ -115,65 +113,48 @@ pub table_bucket : (s : List ℕ) (i : ℕ) → (table_of s).buckets i ≡ bucke
 unfolding table_of
 table_bucket s i = refl
 
-pub nodes_at : (s : List ℕ) (at : ℕ) → nodes (bucket_in (part s at bucket_size)) ≡ tabulate (get_or s at 0) (node_at (part s at bucket_size))
+pub nodes_at : (bs : List ℕ) → nodes (bucket_in bs) ≡ tabulate (get_or bs 0 0) (node_at bs)
 unfolding nodes_in node_at
-nodes_at s at = nodes_in_lem (part s at bucket_size) ∙ rw (get_d_part s at bucket_size 0 (omega arith), add-zero)
+nodes_at bs = nodes_in_lem bs
 
-pub get_at : (k : ℕ) (s : List ℕ) (at : ℕ) → get k (bucket_in (part s at bucket_size)) ≡ find k (tabulate (get_or s at 0) (node_at (part s at bucket_size)))
-get_at k s at = get_nodes k (bucket_in (part s at bucket_size)) ∙ ap (find k) (nodes_at s at)
+pub get_at : (k : ℕ) (bs : List ℕ) → get k (bucket_in bs) ≡ find k (tabulate (get_or bs 0 0) (node_at bs))
+get_at k bs = get_nodes k (bucket_in bs) ∙ ap (find k) (nodes_at bs)
 
-pub counted_at : (k : ℕ) (v : Value) (s : List ℕ) (at : ℕ)
-    → length (select (counts_other k v) (nodes (bucket_in (part s at bucket_size)))) ≡ counted_below k v (part s at bucket_size) (get_or s at 0)
+pub counted_at : (k : ℕ) (v : Value) (bs : List ℕ) → length (select (counts_other k v) (nodes (bucket_in bs))) ≡ counted_below k v bs (get_or bs 0 0)
 unfolding counted_below
-counted_at k v s at = rw (nodes_at s at)
+counted_at k v bs = rw (nodes_at bs)
 
 -- a well-formed bucket has no more than 16 nodes
-pub own_count : (s : List ℕ) (i : ℕ) → bucket_formed_at s i ≡ true → get_or s (bucket_at i) 0 ≤ max_nodes_per_bucket
-own_count s i f =
-    let c = checked _ _ (bucket_part s i) f in
-    rw (get_d_part s (bucket_at i) bucket_size 0 (omega arith), add-zero) at c.at_most
-
-pub bucket_count : (s : List ℕ) (i : ℕ) → formed s ≡ true → i < num_buckets → get_or s (bucket_at i) 0 ≤ max_nodes_per_bucket
-bucket_count s i f l = own_count s i (bucket_passes s f i l)
-
-pub value_at : (s : List ℕ) (at : ℕ) → (node_in (part s at node_size)).value ≡ value_of (read_value (part s (at + (key_size + 2)) value_size))
-unfolding node_in
-value_at s at = ap value_in (part_part s at node_size (key_size + 2) value_size (omega arith)) ∙ sym (value_of_read _)
-
-pub key_at : (s : List ℕ) (at : ℕ) → (node_in (part s at node_size)).key ≡ number (part s at key_size)
-unfolding node_in
-key_at s at = ap number (part_zero s at node_size key_size (omega arith))
+pub own_count : (s : List ℕ) (i : ℕ) → bucket_formed_at s i ≡ true → get_or (bucket_part s i) 0 0 ≤ max_nodes_per_bucket
+own_count s i f = (checked _ _ (bucket_part s i) f).at_most
 
 -- a value that counts has the flag and the octets, with which its bytes begin
-module _ (s : List ℕ) (at : ℕ) (v : declared.Value) where
-  abbrev other : declared.Value
-  other = read_value (part s at value_size)
-
-  net_shared : at + 8 ≤ length s → Bytes s → counts (value_of v) (value_of other) ≡ true
-      → number (part s at 8) / 4294967296 ≡ net_of v
+module _ (s : List ℕ) (v : declared.Value) where
+  net_shared : length s ≡ value_size → Bytes s → counts (value_of v) (value_of (read_value s)) ≡ true → number (part s 0 8) / 4294967296 ≡ net_of v
   unfolding read_value
   net_shared l y e =
-      let both = and_both _ _ (and_both _ _ (counts_is v other _ refl ∙ e)).0 in
+      let both = and_both _ _ (and_both _ _ (counts_is v (read_value s) _ refl ∙ e)).0 in
       let flags = and_both _ _ both.0 in
       let octets = and_both _ _ both.1 in
       let more = and_both _ _ octets.1 in
-      let f : v.flag ≡ get_or s at 0 = eqb-true _ _ flags.0 ∙ sym (eqb-true _ _ flags.1) ∙ get_d_part s at value_size 0 (omega arith) ∙ rw add-zero in
-      let a : v.a ≡ get_or s (at + 1) 0 = eqb-true _ _ octets.0 ∙ get_d_part s at value_size 1 (omega arith) in
-      let b : v.b ≡ get_or s (at + 2) 0 = eqb-true _ _ more.0 ∙ get_d_part s at value_size 2 (omega arith) in
-      let c : v.c ≡ get_or s (at + 3) 0 = eqb-true _ _ more.1 ∙ get_d_part s at value_size 3 (omega arith) in
-      rw (number_8 s at l, f, a, b, c) (omega (arith, y (at + 4), y (at + 5), y (at + 6), y (at + 7)))
+      let f : v.flag ≡ get_or s 0 0 = eqb-true _ _ flags.0 ∙ sym (eqb-true _ _ flags.1) in
+      let a : v.a ≡ get_or s 1 0 = eqb-true _ _ octets.0 in
+      let b : v.b ≡ get_or s 2 0 = eqb-true _ _ more.0 in
+      let c : v.c ≡ get_or s 3 0 = eqb-true _ _ more.1 in
+      rw (number_8 s 0 (omega arith), f, a, b, c) (omega (arith, y 4, y 5, y 6, y 7))
 
-  pub net_differs : at + 8 ≤ length s → Bytes s → (number (part s at 8) / 4294967296 ≡ net_of v → ⊥)
-      → counts (value_of v) (value_of other) ≡ false
-  net_differs l y h = split (counts (value_of v) (value_of other)) (λ e. absurd (h (net_shared l y e))) (λ e. e)
+  pub net_differs : length s ≡ value_size → Bytes s → (number (part s 0 8) / 4294967296 ≡ net_of v → ⊥) → counts (value_of v) (value_of (read_value s)) ≡ false
+  net_differs l y h = split (counts (value_of v) (value_of (read_value s))) (λ e. absurd (h (net_shared l y e))) (λ e. e)
 
--- a place counts, by its value and then its key
-abbrev pub value_there : List ℕ → ℕ → Value
-value_there s at = value_of (read_value (part s (at + (key_size + 2)) value_size))
+-- a node counts, by its value and then its key
+module _ (k : ℕ) (v : Value) (s : List ℕ) where
+  pub value_there : (node_in s).value ≡ value_of (read_value (part s (key_size + 2) value_size))
+  unfolding node_in
+  value_there = sym (value_of_read _)
 
-module _ (k : ℕ) (v : Value) (s : List ℕ) (at : ℕ) where
-  pub place_passed : counts v (value_there s at) ≡ false → false ≡ counts_other k v (node_in (part s at node_size))
-  place_passed e = rw (value_at, e)
+  pub place_passed : counts v (value_of (read_value (part s (key_size + 2) value_size))) ≡ false → false ≡ counts_other k v (node_in s)
+  place_passed e = rw (value_there, e)
 
-  pub place_by_key : counts v (value_there s at) ≡ true → not (same (number (part s at key_size)) k) ≡ counts_other k v (node_in (part s at node_size))
-  place_by_key e = rw (value_at, key_at, e)
+  pub place_by_key : counts v (value_of (read_value (part s (key_size + 2) value_size))) ≡ true → not (same (number (part s 0 key_size)) k) ≡ counts_other k v (node_in s)
+  unfolding node_in
+  place_by_key e = let f : counts v (value_in (part s (key_size + 2) value_size)) ≡ true = ap (counts v) (sym (value_of_read _)) ∙ e in rw f

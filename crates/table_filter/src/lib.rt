@@ -2,8 +2,7 @@
 // question 2 before it is counted (document 02, slip 7).
 #![tactic(auto)]
 
-ghost use Rattle.std.specs.Prelude.{◌≡◌, true, ◌+◌, ◌≤◌, ◌<◌, length, get_or};
-ghost use Rattle.model.specs.Bytes.{part};
+ghost use Rattle.std.specs.Prelude.{◌≡◌, true, ◌≤◌, ◌<◌, length, get_or};
 ghost use Rattle.model.specs.Base.{select};
 ghost use Rattle.model.specs.Bucket.{max_nodes_per_bucket, nodes, get};
 ghost use Rattle.model.specs.Table.{num_buckets, is_duplicate};
@@ -12,7 +11,7 @@ ghost use Rattle.model.specs.Layout.{node_in, bucket_in, table_of};
 ghost use Rattle.model.specs.Formed.{bucket_formed_at};
 ghost use Rattle.key.specs.Key.{num};
 ghost use Rattle.node.specs.Node.{value_of};
-ghost use Rattle.table_filter.specs.Counted.{counts_other, counted_below, net_of};
+ghost use Rattle.table_filter.specs.Counted.{counts_other, net_of};
 ghost use Rattle.table_filter.specs.Filtered.{Walked, AskedFilter};
 
 use key::Key;
@@ -26,48 +25,37 @@ fn net(value: Value) -> u64
     u64::from(u32::from_be_bytes([value.flag, value.a, value.b, value.c]))
 }
 
-// The node at `at` counts against the value of the key. The key's own does not (document 02, slip 3). Where flag and /24 differ, nothing
-// else is read.
-fn counts_at(s: &[u8], at: usize, key: Key, value: Value) -> bool
-    requires { at + node_size ≤ length s.now }
-    ensures { result ≡ counts_other (num key) (value_of value) (node_in (part s.now at node_size)) }
+// The node counts against the value of the key. The key's own does not (document 02, slip 3). Where flag and /24 differ, nothing else is
+// read.
+fn counts(node: &[u8; Layout::NODE], key: Key, value: Value) -> bool
+    ensures { result ≡ counts_other (num key) (value_of value) (node_in node.now) }
 {
-    if words::get_u64(s, at + Layout::VALUE_AT) / 0x1_0000_0000 != net(value) {
+    if words::get_u64(&node[Layout::VALUE_AT..Layout::VALUE_AT + 8]) / 0x1_0000_0000 != net(value) {
         return false;
     }
-    let other = storage::load_value(s, at + Layout::VALUE_AT);
+    let other = storage::load_value(&node[Layout::VALUE_AT..Layout::NODE]);
     if !node::filter::counts(value, other) {
         return false;
     }
-    let held = Key::load(s, at);
+    let held = Key::load(&node[0..Layout::KEY]);
     !held.eq(key)
 }
 
-// How many of the places below count of the bucket at `at` count against the value of the key.
-fn counted_below(s: &[u8], at: usize, count: usize, key: Key, value: Value) -> usize
-    requires { (at + bucket_size ≤ length s.now) × (count ≤ max_nodes_per_bucket) }
-    ensures { (result ≡ counted_below (num key) (value_of value) (part s.now at bucket_size) count) × (result ≤ max_nodes_per_bucket) }
+// How many of the held nodes of the bucket count against the value of the key. The pending is not among them.
+fn counted(bucket: &[u8; Layout::BUCKET], key: Key, value: Value) -> usize
+    requires { get_or bucket.now 0 0 ≤ max_nodes_per_bucket }
+    ensures { (result ≡ length (select (counts_other (num key) (value_of value)) (nodes (bucket_in bucket.now)))) × (result ≤ max_nodes_per_bucket) }
 {
     let mut n: usize = 0;
-    for j in 0..count {
-        let place = at + (Layout::PLACES_AT + j * Layout::NODE);
-        n += usize::from(counts_at(s, place, key, value));
+    for j in 0..usize::from(bucket[0]) {
+        n += usize::from(counts(storage::place(bucket, j), key, value));
     }
     n
 }
 
-// How many of the held nodes of the bucket at `at` count against the value of the key. The pending is not among them.
-fn counted(s: &[u8], at: usize, key: Key, value: Value) -> usize
-    requires { (at + bucket_size ≤ length s.now) × (get_or s.now at 0 ≤ max_nodes_per_bucket) }
-    ensures { (result ≡ length (select (counts_other (num key) (value_of value)) (nodes (bucket_in (part s.now at bucket_size))))) × (result ≤ max_nodes_per_bucket) }
-{
-    counted_below(s, at, usize::from(s[at]), key, value)
-}
-
 // Question 2 of every bucket, each before it is counted for the value of the key; then: does the value fail the IP filter of the table?
 // Against a value without an address none counts.
-fn walked(s: &[u8], key: Key, value: Value) -> Result<bool, Refusal>
-    requires { length s.now ≡ storage_size }
+fn walked(s: &[u8; Layout::STORAGE], key: Key, value: Value) -> Result<bool, Refusal>
     ensures { Walked s.now (num key) (value_of value) result }
 {
     if value.flag != 1 {
@@ -81,39 +69,42 @@ fn walked(s: &[u8], key: Key, value: Value) -> Result<bool, Refusal>
         if !well_formed::bucket_formed_at(s, i) {
             return Err(Refusal::Form);
         }
-        n += counted(s, Layout::HEADER + i * Layout::BUCKET, key, value);
+        n += counted(storage::bucket(s, i), key, value);
     }
     Ok(node::filter::MAX_NODES_PER_SUBNET_TABLE <= n)
 }
 
-// The bucket at `at` holds the key with an equal value.
-fn holds_value(s: &[u8], at: usize, key: Key, value: Value) -> bool
-    requires { (at + bucket_size ≤ length s.now) × (get_or s.now at 0 ≤ max_nodes_per_bucket) }
-    ensures { result ≡ is_duplicate (value_of value) (get (num key) (bucket_in (part s.now at bucket_size))) }
+// The bucket holds the key with an equal value.
+fn holds_value(bucket: &[u8; Layout::BUCKET], key: Key, value: Value) -> bool
+    requires { get_or bucket.now 0 0 ≤ max_nodes_per_bucket }
+    ensures { result ≡ is_duplicate (value_of value) (get (num key) (bucket_in bucket.now)) }
 {
-    for j in 0..usize::from(s[at]) {
-        let place = at + (Layout::PLACES_AT + j * Layout::NODE);
-        let held = Key::load(s, place);
-        if held.eq(key) {
-            let old = storage::load_value(s, place + Layout::VALUE_AT);
-            return old.eq(value);
+    for j in 0..usize::from(bucket[0]) {
+        let node = storage::place(bucket, j);
+        if well_formed::has_key(&node[0..Layout::KEY], key) {
+            return storage::load_value(&node[Layout::VALUE_AT..Layout::NODE]).eq(value);
         }
     }
     false
 }
 
 // Bucket i holds the key with an equal value.
-fn is_duplicate(s: &[u8], i: usize, key: Key, value: Value) -> bool
-    requires { (length s.now ≡ storage_size) × (i < num_buckets) × (bucket_formed_at s.now i ≡ true) }
+fn is_duplicate(s: &[u8; Layout::STORAGE], i: usize, key: Key, value: Value) -> bool
+    requires { (i < num_buckets) × (bucket_formed_at s.now i ≡ true) }
     ensures { result ≡ is_duplicate (value_of value) (get (num key) ((table_of s.now).buckets i)) }
 {
-    holds_value(s, Layout::HEADER + i * Layout::BUCKET, key, value)
+    holds_value(storage::bucket(s, i), key, value)
 }
 
 // Internal: does the value of the key, whose bucket is i and has passed question 2, fail the table filter? Where the filter is off, or
 // skipped because the key is held with an equal value, no other bucket is read.
-pub fn asked_filter(s: &[u8], i: usize, key: Key, value: Value) -> Result<bool, Refusal>
-    requires { (length s.now ≡ storage_size) × (i < num_buckets) × (bucket_formed_at s.now i ≡ true) }
+pub fn asked_filter(
+    s: &[u8; Layout::STORAGE],
+    i: usize,
+    key: Key,
+    value: Value,
+) -> Result<bool, Refusal>
+    requires { (i < num_buckets) × (bucket_formed_at s.now i ≡ true) }
     ensures { AskedFilter s.now i (num key) (value_of value) result }
 {
     if s[Layout::TABLE_FILTER_AT] != 1 {

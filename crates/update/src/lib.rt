@@ -7,13 +7,13 @@ ghost use Rattle.model.specs.Call.{Call, KeyCall};
 ghost use Rattle.model.specs.StepBytes.{step_bytes};
 ghost use Rattle.node.specs.Node.{argument_of};
 ghost use Rattle.on_key.specs.Answers.{Answers, update_answer};
-ghost use Rattle.session.specs.Hours.{session_of};
+ghost use Rattle.session.specs.Hours.{hours_of};
 ghost use Rattle.update.specs.Calls.{insert_or_update_answer};
 
 use bucket::{FailureReason, UpdateResult};
 use bucket_update::InsertResult;
 use node::{Code, Node, NodeStatus, Refusal, Value};
-use session::Moment;
+use session::Hours;
 use storage::Layout;
 
 // Updates the value of the node of the key, and its state; state 2 is none given.
@@ -26,24 +26,22 @@ pub fn update_node(
 ) -> Result<UpdateResult, Refusal>
     ensures { Answers (update_answer result) s.new (step_bytes (Call.on_key key.now (KeyCall.update_node (argument_of value) state time)) s.old) }
 {
+    let s = s.as_mut_array().ok_or(Refusal::Size)?;
     let codes = value.in_range() & (state <= 2);
     let Some((k, i)) = on_key::begin(s, key, codes, Some(time))? else {
         return Ok(UpdateResult::NotModified);
     };
     let fails = table_filter::asked_filter(s, i, k, value)?;
     let at = Layout::HEADER + i * Layout::BUCKET;
-    if held::is_quiet(s, at) {
-        return Ok(held_update::update_node(s, at, fails, k, value, state));
+    let bucket = &s[at..at + Layout::BUCKET];
+    if held::is_quiet(bucket) {
+        let settings = header::settings(s);
+        let bucket = &mut s[at..at + Layout::BUCKET];
+        return Ok(held_update::update_node(bucket, settings, fails, k, value, state));
     }
     let applied = on_key::apply_at(s, i, time);
     let step = bucket_update::update_node_in(applied.bucket, fails, k, value, state, time);
-    let record = on_key::record_of(
-        applied.result,
-        applied.bucket.pending,
-        step.bucket.pending,
-        k,
-    );
-    on_key::finish(s, i, record, step.bucket)?;
+    on_key::end(s, i, &applied, step.bucket, k)?;
     Ok(step.result)
 }
 
@@ -53,32 +51,32 @@ pub fn insert_or_update(
     s: &mut [u8],
     key: &[u8],
     value: Value,
-    state: Code,
-    direction: Code,
+    status: NodeStatus,
     time: u64,
-    windows: &[u16],
-    closed: &[u16],
-    moment: Moment,
+    hours: Hours,
 ) -> Result<InsertResult, Refusal>
-    ensures { Answers (insert_or_update_answer result) s.new (step_bytes (Call.on_key key.now (KeyCall.insert_or_update (argument_of value) state direction time (session_of windows.now closed.now moment))) s.old) }
+    ensures { Answers (insert_or_update_answer result) s.new (step_bytes (Call.on_key key.now (KeyCall.insert_or_update (argument_of value) status.state status.direction time (hours_of hours.entry))) s.old) }
 {
-    let codes = value.in_range() & ((state <= 1) & (direction <= 1));
+    let s = s.as_mut_array().ok_or(Refusal::Size)?;
+    let codes = value.in_range() & ((status.state <= 1) & (status.direction <= 1));
     let Some((k, i)) = on_key::begin(s, key, codes, Some(time))? else {
-        session::asked(windows, closed, moment, true)?;
+        session::asked(hours, true)?;
         return Ok(InsertResult::Failed(FailureReason::InvalidSelfUpdate));
     };
     let node = Node {
         key: k,
         value,
-        status: NodeStatus { state, direction },
+        status,
     };
     let fails = table_filter::asked_filter(s, i, k, node.value)?;
     let at = Layout::HEADER + i * Layout::BUCKET;
-    if held::is_quiet(s, at) {
-        let count = usize::from(s[at]);
-        let pos = held::position(s, at, count, k);
-        session::asked(windows, closed, moment, pos < count)?;
-        return Ok(held_update::insert_or_update(s, at, count, pos, fails, node, time));
+    let bucket = &s[at..at + Layout::BUCKET];
+    if held::is_quiet(bucket) {
+        let pos = held::position(bucket, k);
+        session::asked(hours, pos < usize::from(bucket[0]))?;
+        let settings = header::settings(s);
+        let bucket = &mut s[at..at + Layout::BUCKET];
+        return Ok(held_update::insert_or_update(bucket, settings, pos, fails, node, time));
     }
     let applied = on_key::apply_at(s, i, time);
     let step = bucket_update::insert_or_update_in(applied.bucket, fails, node, time);
@@ -88,10 +86,8 @@ pub fn insert_or_update(
         step.bucket.pending,
         k,
     );
-    if !on_key::has_room(s, record) {
-        return Err(Refusal::Queue);
-    }
-    admission::asked(s, i, k, windows, closed, moment)?;
+    on_key::asked_queue(s, usize::from(record.is_some()))?;
+    admission::asked(s, i, k, hours)?;
     on_key::write_back(s, i, record, step.bucket);
     Ok(step.result)
 }

@@ -18,9 +18,11 @@ use Rattle.model.specs.Fits.{All}
 use Rattle.laws.proofs.Tests.{same_true, same_false, split, clash}
 use Rattle.laws.proofs.All.{all_any, all_zip}
 use Rattle.laws.proofs.Applied.{apply_again}
+use Rattle.std.specs.Prelude.{Err}
+use Rattle.node.specs.declared.Refusal.{Refusal}
 use Rattle.visit.specs.declared.Counted.{Counted}
 use Rattle.visit.specs.declared.Tally.{Tally}
-use Rattle.visit.specs.Passes.{held, records, records_given, CountedAt, visit_one, visited_by, visit_all, left_of, Once, Visitable, Told}
+use Rattle.visit.specs.Passes.{held, records, records_given, CountedAt, visit_one, visited_by, visit_all, left_of, Once, Visitable, Told, Surveyed}
 use Rattle.visit.proofs.Visitable.{once_visited, visited_none, visited_end, visited_next}
 
 agree : (z a b : Bool) (x : ℕ) → (b ≡ true → a ≡ false) → cond (z && b) 0 x ≡ cond ((z || a) && b) 0 x
@@ -132,9 +134,9 @@ module _ (now n : ℕ) (is : List ℕ) (s : List ℕ) where
         }
 
     pub counting_fails : (i : ℕ) (rest : List ℕ) → 0 < c.left → bucket_formed_at s i ≡ false → Counting now n is s c (i ∷ rest)
-        → buckets_formed s (visited_by now n is t) ≡ false
+        → Surveyed now n is s (Err Refusal.Form)
     counting_fails i rest h f w =
-        sym (asked_at i rest h w) ∙ ap (λ (b : Bool). b && buckets_formed s (visited (held now t) (c.left - held now t i) rest)) f
+        (sym (asked_at i rest h w) ∙ ap (λ (b : Bool). b && buckets_formed s (visited (held now t) (c.left - held now t i) rest)) f, refl)
 
     counting_done : (rest : List ℕ) (y : Tally) → visited (held now t) c.left rest ≡ [] → left_of (held now t) c.left rest ≡ c.left
         → Counting now n is s c rest → y.records ≡ c.records → y.count ≡ n - c.left → Told now n is s y

@@ -1,6 +1,6 @@
 -- The applying pass, bucket by bucket, on the storage.
 use mathlib.Core.Path.{◌≡◌, refl, sym, ap, ◌∙◌, subst}
-use mathlib.Core.Bool.{true, false}
+use mathlib.Core.Bool.{Bool, true, false}
 use mathlib.Core.List.{List, [], ◌∷◌, ◌++◌}
 use Prim.Native.Nat.{ℕ, ◌+◌, ◌-◌, ◌≤◌, ◌<◌}
 use native.Mathlib.Omega.{arith}
@@ -12,7 +12,7 @@ use Rattle.model.specs.Bucket.{Bucket, num_entries, apply_pending}
 use Rattle.model.specs.Table.{Table, num_buckets, max_records}
 use Rattle.model.specs.Sizes.{storage_size}
 use Rattle.model.specs.Listing.{visited}
-use Rattle.model.specs.Layout.{table_of}
+use Rattle.model.specs.Layout.{bucket_in, bucket_part, table_of}
 use Rattle.model.specs.Formed.{header_formed, buckets_formed}
 use Rattle.laws.proofs.Touched.{all_visited}
 use Rattle.on_key.specs.Answers.{Ready, Timely, is_due, room_for, rewritten}
@@ -22,6 +22,12 @@ use Rattle.visit.proofs.Visitable.{visited_none, visited_end, visited_next}
 use Rattle.visit.proofs.Applying.{Appliable, Applying, applying_starts, applying_timely, applying_ready, applying_room, applying_next, applying_held, applying_ends, applying_nothing}
 
 -- one bucket
+
+-- whether its pending is due, as its bytes tell
+pub due_here : (s : List ℕ) (now i : ℕ) {u : List ℕ} {d b : Bool} → u ≡ bucket_part s i → d ≡ is_due now (bucket_in u).pending → d ≡ b
+    → is_due now ((table_of s).buckets i).pending ≡ b
+unfolding table_of
+due_here s now i e f g = ap (λ (u : List ℕ). is_due now (bucket_in u).pending) (sym e) ∙ sym f ∙ g
 
 -- question 8 of it
 pub visit_room : (s : List ℕ) (now i : ℕ) (rs : List EndedPending) → rs ≡ (apply_pending (table_of s).settings.bucket now ((table_of s).buckets i)).1
@@ -84,9 +90,6 @@ module _ (now n : ℕ) (is : List ℕ) (s₀ : List ℕ) where
       module _ (s' : List ℕ) (e : s' ≡ applied_in s now (i ∷ [])) where
         next : Applying s₀ now (visited_by now n is t₀) s' (visited_by now (left - held now t₀ i) rest t₀)
         next = applying_next s₀ now (visited_by now n is t₀) p s i (visited_by now (left - held now t₀ i) rest t₀) here s' e
-
-        pub visiting_size : length s' ≡ storage_size
-        visiting_size = next.restored.size
 
         pub visiting_next : (left' : ℕ) → left' ≡ left - num_entries ((table_of s').buckets i) → Visiting s' left' rest
         visiting_next left' g =

@@ -1,5 +1,5 @@
 -- The visit of the buckets: the pendings that are due, the records that the buckets give, and the table that is left.
-use Rattle.std.specs.Prelude.{ℕ, ◌+◌, ◌-◌, ◌≤◌, ◌<◌, ◌≡◌, Bool, true, false, cond, ◌&&◌, ◌||◌, List, [], ◌∷◌, length, drop, eqb, Option, MatchOption}
+use Rattle.std.specs.Prelude.{ℕ, ◌+◌, ◌-◌, ◌≤◌, ◌<◌, ◌≡◌, Bool, true, false, cond, ◌&&◌, ◌||◌, List, [], ◌∷◌, length, drop, eqb, Result, Ok, Err}
 use Rattle.model.specs.Base.{tabulate}
 use Rattle.model.specs.Node.{EndedPending, placed_of}
 use Rattle.model.specs.Bucket.{num_entries, apply_pending}
@@ -10,6 +10,7 @@ use Rattle.model.specs.Formed.{buckets_formed}
 use Rattle.model.specs.StepBytes.{restore}
 use Rattle.model.specs.Fits.{All}
 use Rattle.key.specs.Visits.{remaining}
+use Rattle.node.specs.declared.Refusal.{Refusal}
 use Rattle.visit.specs.declared.Counted.{Counted}
 use Rattle.visit.specs.declared.Given.{Given}
 use Rattle.visit.specs.declared.Tally.{Tally}
@@ -72,8 +73,9 @@ pub record Told (now n : ℕ) (is : List ℕ) (s : List ℕ) (y : Tally) : Type 
   pub records : y.records ≡ length (visit_all now n is (table_of s)).1
   pub count : y.count ≡ n - left_of (held now (table_of s)) n is
 
-abbrev pub Surveyed : ℕ → ℕ → List ℕ → List ℕ → Option Tally → Type 0
-Surveyed now n is s r = MatchOption r (buckets_formed s (visited_by now n is (table_of s)) ≡ false) (Told now n is s)
+abbrev pub Surveyed : ℕ → ℕ → List ℕ → List ℕ → Result Tally Refusal → Type 0
+Surveyed now n is s (Ok y) = Told now n is s y
+Surveyed now n is s (Err r) = (buckets_formed s (visited_by now n is (table_of s)) ≡ false) × (r ≡ Refusal.Form)
 
 -- no bucket but bucket 0 stands twice
 abbrev pub Once : List ℕ → Type 0

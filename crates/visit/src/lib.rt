@@ -5,13 +5,13 @@
 ghost use Rattle.std.specs.Prelude.{◌≡◌, true, [], ◌∷◌, ◌+◌, ◌-◌, ◌≤◌, ◌<◌, length};
 ghost use Rattle.model.specs.Bucket.{num_entries};
 ghost use Rattle.model.specs.Table.{num_buckets, max_records};
-ghost use Rattle.model.specs.Sizes.{storage_size};
 ghost use Rattle.model.specs.Layout.{table_of};
 ghost use Rattle.model.specs.Formed.{header_formed, buckets_formed};
 ghost use Rattle.on_key.specs.Answers.{Ready, Timely};
 ghost use Rattle.visit.specs.Passes.{GivenAt, CountedAt, visit_one, visited_by, visit_all, Visitable, order, Surveyed, applied_in};
 
 use key::ClosestBucketsIter;
+use node::Refusal;
 use storage::Layout;
 
 // What a bucket holds once its due pending is applied, how many records it gives, and how many of them tell of a placed pending.
@@ -76,15 +76,15 @@ impl Iterator for Visit {
 }
 
 // How many nodes bucket i holds.
-fn held_at(s: &[u8], i: usize) -> usize
-    requires { (length s.now ≡ storage_size) × (i < num_buckets) }
+fn held_at(s: &[u8; Layout::STORAGE], i: usize) -> usize
+    requires { i < num_buckets }
     ensures { result ≡ num_entries ((table_of s.now).buckets i) }
 {
-    usize::from(s[Layout::HEADER + i * Layout::BUCKET])
+    usize::from(storage::bucket(s, i)[0])
 }
 
 // What bucket i gives once its pending is applied, if it is due, without writing it.
-fn applied_at(s: &[u8], i: usize, time: u64) -> Given
+fn applied_at(s: &[u8; Layout::STORAGE], i: usize, time: u64) -> Given
     requires ready { Ready s.now i }
     requires timely { Timely s.now time }
     ensures { GivenAt time (table_of s.now) i result }
@@ -98,12 +98,12 @@ fn applied_at(s: &[u8], i: usize, time: u64) -> Given
 }
 
 // Internal: what bucket i gives, without writing it.
-pub fn given_at(s: &[u8], i: usize, time: u64) -> Given
+pub fn given_at(s: &[u8; Layout::STORAGE], i: usize, time: u64) -> Given
     requires ready { Ready s.now i }
     requires timely { Timely s.now time }
     ensures { GivenAt time (table_of s.now) i result }
 {
-    if !on_key::is_due(s, i, time) {
+    if !on_key::is_due(storage::bucket(s, i), time) {
         return Given {
             count: held_at(s, i),
             ..Given::default()
@@ -113,7 +113,7 @@ pub fn given_at(s: &[u8], i: usize, time: u64) -> Given
 }
 
 // The count, one bucket further.
-fn count_at(s: &[u8], i: usize, time: u64, c: Counted) -> Counted
+fn count_at(s: &[u8; Layout::STORAGE], i: usize, time: u64, c: Counted) -> Counted
     requires ready { Ready s.now i }
     requires timely { Timely s.now time }
     requires records_bound { c.records < num_buckets + num_buckets }
@@ -130,8 +130,13 @@ fn count_at(s: &[u8], i: usize, time: u64, c: Counted) -> Counted
 
 // Internal: question 2 of each bucket that the visit comes to, up to the one that yields the n-th item; the records that they would give,
 // and how many items there are. Nothing of a bucket is read before it is asked, and nothing is written.
-pub fn survey(s: &[u8], visit: Visit, n: usize, time: u64) -> Option<Tally>
-    requires s_len { (length s.now ≡ storage_size) × (header_formed s.now ≡ true) }
+pub fn survey(
+    s: &[u8; Layout::STORAGE],
+    visit: Visit,
+    n: usize,
+    time: u64,
+) -> Result<Tally, Refusal>
+    requires header { header_formed s.now ≡ true }
     requires timely { Timely s.now time }
     requires visitable { Visitable (order visit) }
     ensures { Surveyed time n (order visit) s.now result }
@@ -145,24 +150,24 @@ pub fn survey(s: &[u8], visit: Visit, n: usize, time: u64) -> Option<Tally>
             break;
         }
         if !well_formed::bucket_formed_at(s, i) {
-            return None;
+            return Err(Refusal::Form);
         }
         c = count_at(s, i, time, c);
     }
-    Some(Tally {
+    Ok(Tally {
         records: c.records,
         count: n - c.left,
     })
 }
 
 // Internal: applies the pending of bucket i in the storage, if it is due.
-pub fn apply_in(s: &mut [u8], i: usize, time: u64)
+pub fn apply_in(s: &mut [u8; Layout::STORAGE], i: usize, time: u64)
     requires ready { Ready s.old i }
     requires timely { Timely s.old time }
     requires s_len_bound { length (visit_one time i (table_of s.old)).queue ≤ max_records }
     ensures { s.new ≡ applied_in s.old time (i ∷ []) }
 {
-    if on_key::is_due(s, i, time) {
+    if on_key::is_due(storage::bucket(s, i), time) {
         let step = on_key::apply_at(s, i, time);
         on_key::write_back(s, i, step.result, step.bucket);
     }
@@ -170,8 +175,8 @@ pub fn apply_in(s: &mut [u8], i: usize, time: u64)
 
 // Internal: visits the buckets that yield n items and applies their due pendings in the storage. records: what the survey counted; where
 // there is none, none is due.
-pub fn apply_all(s: &mut [u8], visit: Visit, n: usize, time: u64, records: usize)
-    requires s_len { (length s.old ≡ storage_size) × (header_formed s.old ≡ true) }
+pub fn apply_all(s: &mut [u8; Layout::STORAGE], visit: Visit, n: usize, time: u64, records: usize)
+    requires header { header_formed s.old ≡ true }
     requires timely { Timely s.old time }
     requires visitable { Visitable (order visit) }
     requires s_value { buckets_formed s.old (visited_by time n (order visit) (table_of s.old)) ≡ true }

@@ -3,7 +3,6 @@ use mathlib.Core.Path.{◌≡◌, refl, sym, ap, ◌∙◌}
 use mathlib.Core.Bool.{Bool, true, false, ◌&&◌, and-true, and-false, and_assoc}
 use mathlib.Core.List.{List}
 use Prim.Native.Nat.{ℕ, zero, suc, ◌+◌, ◌*◌, ◌-◌, ◌≤◌, ◌<◌}
-use native.Mathlib.Nat.{add-zero}
 use native.Mathlib.Omega.{arith}
 use lib.Dec.{eqb, leb}
 use lib.ListN.{length, get_or}
@@ -12,12 +11,12 @@ use Rattle.model.specs.Base.{all_below, tabulate}
 use Rattle.model.specs.Bytes.{part}
 use Rattle.model.specs.Bucket.{max_nodes_per_bucket, incoming_nodes, empty_bucket}
 use Rattle.model.specs.Table.{num_buckets, max_records}
-use Rattle.model.specs.Sizes.{key_size, node_size, record_size, place_at, bucket_size, max_incoming_at, table_filter_at, bucket_filter_at, record_count_at, padding_at, padding_size, record_at, bucket_at, storage_size}
+use Rattle.model.specs.Sizes.{key_size, node_size, record_size, place_at, bucket_size, max_incoming_at, table_filter_at, bucket_filter_at, record_count_at, padding_at, padding_size, record_at}
 use Rattle.model.specs.Layout.{evicting_kind, last_kind, nodes_in, place_in, bucket_part}
 use Rattle.model.specs.Formed as model
 use Rattle.model.specs.Formed.{are_zero, key_in, state_at, pending_formed, bucket_formed, bucket_formed_at, record_formed, header_formed, formed}
-use Rattle.laws.proofs.Parts.{part_part, get_d_part}
-use Rattle.laws.proofs.Zeros.{part_are_zero, are_zero_within}
+use Rattle.laws.proofs.Parts.{part_all}
+use Rattle.laws.proofs.Zeros.{part_are_zero}
 use Rattle.laws.proofs.BucketBytes.{bytes_empty}
 use Rattle.laws.proofs.BucketFormed.{bucket_formed_lem}
 use Rattle.laws.proofs.KeepFormed.{empty_formed}
@@ -50,56 +49,42 @@ regroup false i s f n p c z = refl
 
 -- a bucket
 
-module _ (p : ℕ → Bool) (m : ℕ) (s : List ℕ) (at : ℕ) where
+module _ (p : ℕ → Bool) (m : ℕ) (bs : List ℕ) where
   -- zero bytes are an empty bucket
-  pub bucket_zero : at + bucket_size ≤ length s → are_zero s at bucket_size ≡ true → bucket_formed p m (part s at bucket_size) ≡ true
-  bucket_zero l z = rw (part_are_zero s at bucket_size l z, ← bytes_empty) (bucket_formed_lem p m empty_bucket (record { formed = empty_formed m; of_the_index = record { held = tt; pending = tt } }) empty_fits)
+  pub bucket_zero : length bs ≡ bucket_size → are_zero bs 0 bucket_size ≡ true → bucket_formed p m bs ≡ true
+  bucket_zero l z =
+      rw (sym (part_all bs bucket_size (omega arith)) ∙ part_are_zero bs 0 bucket_size (omega arith) z, ← bytes_empty)
+      (bucket_formed_lem p m empty_bucket (record { formed = empty_formed m; of_the_index = record { held = tt; pending = tt } }) empty_fits)
 
-  module _ (n f : ℕ) (en : n ≡ get_or s at 0) (ef : f ≡ get_or s (at + 1) 0) where
-    pub bucket_many : max_nodes_per_bucket < n → bucket_formed p m (part s at bucket_size) ≡ false
+  module _ (n f : ℕ) (en : n ≡ get_or bs 0 0) (ef : f ≡ get_or bs 1 0) where
+    pub bucket_many : max_nodes_per_bucket < n → bucket_formed p m bs ≡ false
     unfolding bucket_formed
-    bucket_many h = rw (get_d_part s at bucket_size 0 (omega arith), add-zero, ← en, lt-leb n max_nodes_per_bucket h)
+    bucket_many h = rw (← en, lt-leb n max_nodes_per_bucket h)
 
-    pub bucket_held : n ≤ max_nodes_per_bucket → bucket_formed p m (part s at bucket_size)
-        ≡ ((all_below n (differs (part s at bucket_size))
-        && (all_below n (place_formed p f (part s at bucket_size)) && are_zero (part s at bucket_size) (place_at n) ((max_nodes_per_bucket - n) * node_size)))
-        && (leb f n && (leb (length (incoming_nodes (tabulate n (node_at (part s at bucket_size))))) m && pending_formed p (part s at bucket_size))))
+    pub bucket_held : n ≤ max_nodes_per_bucket → bucket_formed p m bs
+        ≡ ((all_below n (differs bs) && (all_below n (place_formed p f bs) && are_zero bs (place_at n) ((max_nodes_per_bucket - n) * node_size)))
+        && (leb f n && (leb (length (incoming_nodes (tabulate n (node_at bs)))) m && pending_formed p bs)))
     unfolding bucket_formed nodes_in differs place_formed node_at
     bucket_held h =
-        let bs : List ℕ = part s at bucket_size in
         let c : Bool = all_below n (λ j. model.node_codes (place_in bs j)) in
         let i : Bool = all_below n (λ j. p (key_in (place_in bs j))) in
         let t : Bool = all_below n (λ j. eqb (get_or (place_in bs j) key_size 0) (state_at f j)) in
         let e : all_below n (λ j. (model.node_codes (place_in bs j) && p (key_in (place_in bs j))) && eqb (get_or (place_in bs j) key_size 0) (state_at f j)) ≡ ((c && i) && t) =
         all_and n (λ j. model.node_codes (place_in bs j) && p (key_in (place_in bs j))) (λ j. eqb (get_or (place_in bs j) key_size 0) (state_at f j))
         ∙ ap (λ (x : Bool). x && t) (all_and n (λ j. model.node_codes (place_in bs j)) (λ j. p (key_in (place_in bs j)))) in
-        rw (e, get_d_part s at bucket_size 0 (omega arith), get_d_part s at bucket_size 1 (omega arith), add-zero, ← en, ← ef, le-leb n max_nodes_per_bucket h)
+        rw (e, ← en, ← ef, le-leb n max_nodes_per_bucket h)
         (regroup (all_below n (differs bs)) i t (leb f n) (leb (length (incoming_nodes (tabulate n (node_at bs)))) m) (pending_formed p bs) c (are_zero bs (place_at n) ((max_nodes_per_bucket - n) * node_size)))
 
 -- a record
 
-module _ (s : List ℕ) (at : ℕ) where
-  pub record_plain : (get_or s (at + key_size) 0 ≡ evicting_kind → ⊥)
-      → record_formed (part s at record_size) ≡ (leb (get_or s (at + key_size) 0) last_kind && are_zero s (at + (key_size + 1)) node_size)
+module _ (bs : List ℕ) where
+  pub record_plain : (get_or bs key_size 0 ≡ evicting_kind → ⊥) → record_formed bs ≡ (leb (get_or bs key_size 0) last_kind && are_zero bs (key_size + 1) node_size)
   unfolding record_formed
-  record_plain e =
-      rw (
-        get_d_part s at record_size key_size (omega arith),
-        ne_eqb (get_or s (at + key_size) 0) evicting_kind e,
-        are_zero_within s at record_size (key_size + 1) node_size (omega arith),
-      )
+  record_plain e = rw (ne_eqb (get_or bs key_size 0) evicting_kind e)
 
-  pub record_evicting : get_or s (at + key_size) 0 ≡ evicting_kind → (n : declared.Node) → n ≡ read_node (part s (at + (key_size + 1)) node_size)
-      → record_formed (part s at record_size) ≡ node_codes n
+  pub record_evicting : get_or bs key_size 0 ≡ evicting_kind → (n : declared.Node) → n ≡ read_node (part bs (key_size + 1) node_size) → record_formed bs ≡ node_codes n
   unfolding record_formed
-  record_evicting e n q =
-      rw (
-        get_d_part s at record_size key_size (omega arith),
-        e,
-        part_part s at record_size (key_size + 1) node_size (omega arith),
-        q,
-        codes_read,
-      )
+  record_evicting e n q = rw (e, q, codes_read)
 
 -- the header
 
@@ -121,9 +106,8 @@ formed_at s i {local} {m} e f =
     ap (λ (l : ℕ). bucket_formed (of_index l i) m (bucket_part s i)) e ∙ ap (λ (n : ℕ). bucket_formed (of_index (key_in s) i) n (bucket_part s i)) f
 
 -- an empty bucket of the storage
-pub formed_empty : (s : List ℕ) (i : ℕ) → storage_size ≤ length s → i < num_buckets → are_zero s (bucket_at i) bucket_size ≡ true → bucket_formed_at s i ≡ true
-formed_empty s i l h z =
-    sym (formed_at s i refl refl) ∙ bucket_zero (of_index (key_in s) i) (get_or s max_incoming_at 0) s (bucket_at i) (omega arith) z
+pub formed_empty : (s : List ℕ) (i : ℕ) → length (bucket_part s i) ≡ bucket_size → are_zero (bucket_part s i) 0 bucket_size ≡ true → bucket_formed_at s i ≡ true
+formed_empty s i l z = sym (formed_at s i refl refl) ∙ bucket_zero (of_index (key_in s) i) (get_or s max_incoming_at 0) (bucket_part s i) l z
 
 -- the table
 

@@ -9,9 +9,7 @@ use lib.Dec.{eqb}
 use lib.ListN.{length, get_or}
 use borrow.Author.Tests.{not-true, eq-eqb, ne_eqb}
 use Rattle.model.specs.Base.{same, tabulate}
-use Rattle.model.specs.Bytes.{part}
 use Rattle.model.specs.Node.{Node}
-use Rattle.model.specs.Sizes.{bucket_size}
 use Rattle.model.specs.Layout.{node_in, place_in}
 use Rattle.model.specs.Formed.{key_in, not_held}
 use Rattle.laws.proofs.Tests.{clash, split}
@@ -38,29 +36,26 @@ before_past p (x ∷ xs) d e (suc j) l =
 
 -- a key's place in a bucket's bytes
 
-module _ (s : List ℕ) (at count k : ℕ) where
-  abbrev bs : List ℕ
-  bs = part s at bucket_size
-
+module _ (bs : List ℕ) (count k : ℕ) where
   misses : (i : ℕ) → i ≤ count → not_held bs i k ≡ true → (j : ℕ) → j < i → same (get_or (tabulate count (node_at bs)) j (node_in [])).key k ≡ false
   unfolding not_held node_at node_in
   misses i l h j m =
       ap (λ (n : Node). same n.key k) (get_d_tabulate count (node_at bs) j (node_in []) (omega arith))
       ∙ not-true (same (key_in (place_in bs j)) k) (all_gives i (λ x. not (same (key_in (place_in bs x)) k)) j m h)
 
-  pub found_here : (i : ℕ) → i < count → not_held bs i k ≡ true → same (key_in (place_in bs i)) k ≡ true → place k (nodes_here s at count) ≡ i
+  pub found_here : (i : ℕ) → i < count → not_held bs i k ≡ true → same (key_in (place_in bs i)) k ≡ true → place k (nodes_here bs count) ≡ i
   unfolding nodes_here node_at node_in
   found_here i l h e =
       before_is (λ (n : Node). same n.key k) (tabulate count (node_at bs)) (node_in []) i (rw length_tabulate l) (misses i (omega arith) h)
       (ap (λ (n : Node). same n.key k) (get_d_tabulate count (node_at bs) i (node_in []) l) ∙ e)
 
-  pub absent_here : not_held bs count k ≡ true → place k (nodes_here s at count) ≡ count
+  pub absent_here : not_held bs count k ≡ true → place k (nodes_here bs count) ≡ count
   unfolding nodes_here
   absent_here h =
       before_none (λ (n : Node). same n.key k) (tabulate count (node_at bs)) (node_in []) (λ j l. misses count (omega arith) h j (rw length_tabulate at l))
       ∙ length_tabulate count (node_at bs)
 
-  held_here : place k (nodes_here s at count) ≡ count → not_held bs count k ≡ true
+  held_here : place k (nodes_here bs count) ≡ count → not_held bs count k ≡ true
   unfolding nodes_here not_held node_at node_in
   held_here e =
       all_if count (λ j. not (same (key_in (place_in bs j)) k))
@@ -69,7 +64,7 @@ module _ (s : List ℕ) (at count k : ℕ) where
       ap not (sym (ap (λ (n : Node). same n.key k) (get_d_tabulate count (node_at bs) j (node_in []) l)) ∙ m))
 
   -- no place has it
-  pub not_held_by_place : eqb (place k (nodes_here s at count)) count ≡ not_held bs count k
+  pub not_held_by_place : eqb (place k (nodes_here bs count)) count ≡ not_held bs count k
   not_held_by_place =
       split (not_held bs count k)
       (λ h. rw h (eq-eqb _ _ (absent_here h)))

@@ -4,7 +4,6 @@ use mathlib.Core.Bool.{Bool, true, false, cond, not, ◌&&◌}
 use mathlib.Core.List.{List, [], ◌∷◌, append-nil}
 use mathlib.Core.Option.{Option}
 use Prim.Native.Nat.{ℕ, ◌+◌, ◌*◌, ◌-◌, ◌^◌, ◌≤◌, ◌<◌}
-use native.Mathlib.Nat.{add-zero}
 use native.Mathlib.Omega.{arith}
 use lib.Count.{count_leading_zeros}
 use lib.Dec.{eqb}
@@ -18,14 +17,13 @@ use Rattle.model.specs.Key.{distance, less_one}
 use Rattle.model.specs.Node.{Node, connected_incoming}
 use Rattle.model.specs.Bucket.{max_nodes_per_bucket, incoming_nodes}
 use Rattle.model.specs.Sizes.{key_size, time_size, node_size, place_at, pending_at, bucket_size}
-use Rattle.model.specs.Layout.{node_in, place_in}
+use Rattle.model.specs.Layout.{place_in}
 use Rattle.model.specs.Formed.{are_zero, key_in, state_at, not_held, pending_formed, is_at}
 use Rattle.laws.proofs.Tests.{cases, split, same_of, same_not}
 use Rattle.laws.proofs.Lists.{length_tabulate, tabulate_one_more, all_if}
 use Rattle.laws.proofs.KeepLists.{more, length_select_insert}
-use Rattle.laws.proofs.Parts.{part_part, part_zero, part_append, get_d_part, length_part}
+use Rattle.laws.proofs.Parts.{part_all, part_append, get_d_part, length_part}
 use Rattle.laws.proofs.Bytes.{number_append, number_fits, number_one_more}
-use Rattle.laws.proofs.Zeros.{are_zero_within}
 use Rattle.laws.proofs.Index.{bucket_index_lem}
 use Rattle.key.specs.declared.Key.{Key}
 use Rattle.key.specs.Key.{num, Words}
@@ -35,19 +33,19 @@ use Rattle.node.specs.Node.{node_codes}
 use Rattle.key.proofs.Words.{lows, num_key_of}
 use Rattle.storage.specs.Read.{read_node}
 use Rattle.storage.proofs.Nodes.{codes_read}
-use Rattle.well_formed.specs.Tests.{of_index, differs, place_formed, node_at}
+use Rattle.well_formed.specs.Tests.{of_index, differs, place_formed}
 
 -- keys
 
 -- keys that differ in the last word differ
-pub last_differs : (s : List ℕ) (at w : ℕ) (key : Key) → at + key_size ≤ length s → Bytes s → Words key → w ≡ number (part s (at + 24) 8) → (w ≡ key.w3 → ⊥)
-    → same (number (part s at key_size)) (num key) ≡ false
+pub last_differs : (s : List ℕ) (w : ℕ) (key : Key) → length s ≡ key_size → Bytes s → Words key → w ≡ number (part s 24 8) → (w ≡ key.w3 → ⊥)
+    → same (number s) (num key) ≡ false
 unfolding num
-last_differs s at w key l b k e h =
-    let n : number (part s at key_size) ≡ number (part s at 24) * 2 ^ 64 + w =
-    ap number (part_append s at 24 8) ∙ number_append (part s at 24) (part s (at + 24) 8) ∙ rw (length_part s (at + 24) 8 (omega arith), e) in
-    let f : w < 2 ^ 64 = rw e (number_fits s (at + 24) 8 (omega arith) b) in
-    same_not (number (part s at key_size)) (num key) (λ q. h (lows (number (part s at 24)) ((key.w0 * 2 ^ 64 + key.w1) * 2 ^ 64 + key.w2) f k.word3 (sym n ∙ q)))
+last_differs s w key l b k e h =
+    let n : number s ≡ number (part s 0 24) * 2 ^ 64 + w =
+    ap number (sym (part_all s 32 (omega arith)) ∙ part_append s 0 24 8) ∙ number_append (part s 0 24) (part s 24 8) ∙ rw (length_part s 24 8 (omega arith), e) in
+    let f : w < 2 ^ 64 = rw e (number_fits s 24 8 (omega arith) b) in
+    same_not (number s) (num key) (λ q. h (lows (number (part s 0 24)) ((key.w0 * 2 ^ 64 + key.w1) * 2 ^ 64 + key.w2) f k.word3 (sym n ∙ q)))
 
 -- the index by the leading zeros of the distance
 pub index_by_zeros : (local key i : ℕ) → distance local key < 2 ^ 256 → of_index local i key ≡ eqb (256 - count_leading_zeros 256 (distance local key)) (i + 1)
@@ -72,40 +70,31 @@ index_by_zeros local key i h =
 
 -- places
 
-module _ (s : List ℕ) (at j : ℕ) (h : j < max_nodes_per_bucket) where
-  pub place_part : place_in (part s at bucket_size) j ≡ part s (at + place_at j) node_size
-  place_part = part_part s at bucket_size (place_at j) node_size (omega arith)
-
-  pub place_key : key_in (place_in (part s at bucket_size) j) ≡ number (part s (at + place_at j) key_size)
-  place_key = rw place_part (ap number (part_zero s (at + place_at j) node_size key_size (omega arith)))
-
-  pub place_node : node_at (part s at bucket_size) j ≡ node_in (part s (at + place_at j) node_size)
-  unfolding node_at
-  place_node = rw place_part
-
-  pub place_formed_lem : (p : ℕ → Bool) (first : ℕ) (n : declared.Node) → n ≡ read_node (part s (at + place_at j) node_size)
-      → place_formed p first (part s at bucket_size) j ≡ ((node_codes n && p (num n.key)) && eqb n.status.state (state_at first j))
-  unfolding place_formed read_node
-  place_formed_lem p first n e = rw (place_part, e, codes_read, num_key_of)
+pub place_formed_lem : (bs : List ℕ) (j : ℕ) (p : ℕ → Bool) (first : ℕ) (n : declared.Node) → n ≡ read_node (place_in bs j)
+    → place_formed p first bs j ≡ ((node_codes n && p (num n.key)) && eqb n.status.state (state_at first j))
+unfolding place_formed read_node
+place_formed_lem bs j p first n e = rw (e, codes_read, num_key_of)
 
 -- the last byte of the key of place k
-abbrev pub last_at : List ℕ → ℕ → ℕ → ℕ
-last_at s at k = get_or s (at + place_at k + 31) 0
+abbrev pub last_at : List ℕ → ℕ → ℕ
+last_at bs k = get_or (part (place_in bs k) 0 key_size) 31 0
+
+pub last_is : (bs : List ℕ) (k : ℕ) → last_at bs k ≡ get_or bs (place_at k + 31) 0
+last_is bs k = get_d_part (place_in bs k) 0 key_size 31 (omega arith) ∙ get_d_part bs (place_at k) node_size 31 (omega arith)
 
 -- a place's key differs from those before it where its last byte differs from theirs
-pub last_bytes_differ : (s : List ℕ) (at j : ℕ) → at + bucket_size ≤ length s → Bytes s → j < max_nodes_per_bucket → ((k : ℕ) → k < j → last_at s at k ≡ last_at s at j → ⊥)
-    → differs (part s at bucket_size) j ≡ true
+pub last_bytes_differ : (bs : List ℕ) (j : ℕ) → length bs ≡ bucket_size → Bytes bs → j < max_nodes_per_bucket → ((k : ℕ) → k < j → last_at bs k ≡ last_at bs j → ⊥)
+    → differs bs j ≡ true
 unfolding differs not_held
-last_bytes_differ s at j l b h d = all_if j _ (λ k i. ap not (other k i))
+last_bytes_differ bs j l b h d = all_if j _ (λ k i. ap not (same_not _ _ (λ q. d k i (lows k i q))))
   where
-    key_last : (k : ℕ) → k < max_nodes_per_bucket → number (part s (at + place_at k) key_size) ≡ number (part s (at + place_at k) 31) * 256 + last_at s at k
-    key_last k i = number_one_more s (at + place_at k) 31 (omega arith)
+    key_last : (k : ℕ) → k < max_nodes_per_bucket → key_in (place_in bs k) ≡ number (part (place_in bs k) 0 31) * 256 + last_at bs k
+    key_last k i =
+        number_one_more (place_in bs k) 0 31 (omega (arith, length_part bs (place_at k) node_size (omega arith)))
+        ∙ ap (λ (x : ℕ). number (part (place_in bs k) 0 31) * 256 + x) (sym (get_d_part (place_in bs k) 0 key_size 31 (omega arith)))
 
-    lows : (k : ℕ) → k < j → number (part s (at + place_at k) key_size) ≡ number (part s (at + place_at j) key_size) → last_at s at k ≡ last_at s at j
-    lows k i q = omega (arith, key_last k (omega arith), key_last j h, q, b (at + place_at k + 31), b (at + place_at j + 31))
-
-    other : (k : ℕ) → k < j → same (key_in (place_in (part s at bucket_size) k)) (key_in (place_in (part s at bucket_size) j)) ≡ false
-    other k i = rw (place_key s at k (omega arith), place_key s at j h) (same_not _ _ (λ q. d k i (lows k i q)))
+    lows : (k : ℕ) → k < j → key_in (place_in bs k) ≡ key_in (place_in bs j) → last_at bs k ≡ last_at bs j
+    lows k i q = omega (arith, key_last k (omega arith), key_last j h, q, last_is bs k, last_is bs j, b (place_at k + 31), b (place_at j + 31))
 
 -- what is marked stays marked where one more is
 pub marked_more : (seen : List Bool) (f : ℕ → ℕ) (j : ℕ) → f j < length seen → ((k : ℕ) → k < j → get_or seen (f k) false ≡ true)
@@ -149,22 +138,12 @@ incoming_at_most f k = omega (arith, select_at_most connected_incoming (tabulate
 
 -- the pending
 
-module _ (p : ℕ → Bool) (s : List ℕ) (at : ℕ) where
-  pub pending_none : get_or s (at + pending_at) 0 ≡ 0 → pending_formed p (part s at bucket_size) ≡ are_zero s (at + (pending_at + 1)) (node_size + time_size)
+module _ (p : ℕ → Bool) (bs : List ℕ) where
+  pub pending_none : get_or bs pending_at 0 ≡ 0 → pending_formed p bs ≡ are_zero bs (pending_at + 1) (node_size + time_size)
   unfolding pending_formed
-  pending_none e = rw (get_d_part s at bucket_size pending_at (omega arith), e) (are_zero_within s at bucket_size (pending_at + 1) (node_size + time_size) (omega arith))
+  pending_none e = rw e
 
-  pub pending_some : (get_or s (at + pending_at) 0 ≡ 0 → ⊥) → (n : declared.Node) → n ≡ read_node (part s (at + (pending_at + 1)) node_size) → pending_formed p (part s at bucket_size)
-      ≡ (eqb (get_or s (at + pending_at) 0) 1 && (p (num n.key) && (not_held (part s at bucket_size) (get_or s at 0) (num n.key) && node_codes n)))
+  pub pending_some : (get_or bs pending_at 0 ≡ 0 → ⊥) → (n : declared.Node) → n ≡ read_node (part bs (pending_at + 1) node_size) → pending_formed p bs
+      ≡ (eqb (get_or bs pending_at 0) 1 && (p (num n.key) && (not_held bs (get_or bs 0 0) (num n.key) && node_codes n)))
   unfolding pending_formed read_node
-  pending_some e n q =
-      rw (
-        get_d_part s at bucket_size pending_at (omega arith),
-        ne_eqb (get_or s (at + pending_at) 0) 0 e,
-        part_part s at bucket_size (pending_at + 1) node_size (omega arith),
-        get_d_part s at bucket_size 0 (omega arith),
-        add-zero,
-        q,
-        codes_read,
-        num_key_of,
-      )
+  pending_some e n q = rw (ne_eqb (get_or bs pending_at 0) 0 e, q, codes_read, num_key_of)

@@ -1,10 +1,9 @@
 -- Question 2's tests of one place, as the code runs them: what they are together is the model's `bucket_formed`. And the place of a key.
 use Rattle.std.specs.Prelude.{ℕ, Bool, ◌&&◌, List, get_or, eqb}
 use Rattle.model.specs.Base.{same, tabulate}
-use Rattle.model.specs.Bytes.{part}
 use Rattle.model.specs.Key.{bucket_index}
 use Rattle.model.specs.Node.{Node}
-use Rattle.model.specs.Sizes.{key_size, bucket_size}
+use Rattle.model.specs.Sizes.{key_size}
 use Rattle.model.specs.Layout.{place_in, node_in, record_part}
 use Rattle.model.specs.Formed.{node_codes, key_in, state_at, not_held, is_at, record_formed, bucket_formed_at}
 use Rattle.places.specs.Places.{before}
@@ -25,9 +24,9 @@ place_formed index first bs j = (node_codes (place_in bs j) && index (key_in (pl
 unfoldable pub node_at : List ℕ → ℕ → Node
 node_at bs j = node_in (place_in bs j)
 
--- the nodes of the first count places of the bucket at `at`
-unfoldable pub nodes_here : List ℕ → ℕ → ℕ → List Node
-nodes_here s at count = tabulate count (node_at (part s at bucket_size))
+-- the nodes of the first count places of a bucket
+unfoldable pub nodes_here : List ℕ → ℕ → List Node
+nodes_here bs count = tabulate count (node_at bs)
 
 -- the place of a key, or the number of nodes where none has it
 abbrev pub place : ℕ → List Node → ℕ

@@ -1,119 +1,96 @@
-// Internal: big-endian numbers in a lent run of bytes. To read or write a word is one load or store and one swap.
+// Internal: big-endian numbers as bytes, and runs of bytes. To read or write a word is one load or store and one swap.
 #![tactic(auto)]
 
-ghost use Rattle.std.specs.Prelude.{◌≡◌, ◌+◌, ◌*◌, ◌/◌, ◌≤◌, ◌<◌, [], ◌∷◌, length};
+ghost use Rattle.std.specs.Prelude.{◌≡◌, ◌-◌, ◌*◌, ◌/◌, ◌≤◌, ◌<◌, eqb, length};
+ghost use Rattle.model.specs.Base.{every};
 ghost use Rattle.model.specs.Bytes.{number, bytes, part, splice, zeros};
 ghost use Rattle.model.specs.Formed.{are_zero};
 
-// Internal: the number of the eight bytes at `at`.
-pub fn get_u64(s: &[u8], at: usize) -> u64
-    requires { at + 8 ≤ length s.now }
-    ensures { result ≡ number (part s.now at 8) }
+// Internal: the number that eight bytes are.
+pub fn get_u64(s: &[u8]) -> u64
+    requires { length s.now ≡ 8 }
+    ensures { result ≡ number s.now }
 {
-    // Each byte by its index: `first_chunk` tests the length, and that test stays in the compiled code.
-    u64::from_be_bytes([
-        s[at],
-        s[at + 1],
-        s[at + 2],
-        s[at + 3],
-        s[at + 4],
-        s[at + 5],
-        s[at + 6],
-        s[at + 7],
-    ])
+    // Each byte by its index: `try_into` and `first_chunk` test the length, and that test stays in the compiled code.
+    u64::from_be_bytes([s[0], s[1], s[2], s[3], s[4], s[5], s[6], s[7]])
 }
 
-// Internal: the eight bytes of x, put at `at`.
-pub fn put_u64(s: &mut [u8], at: usize, x: u64)
-    requires { at + 8 ≤ length s.old }
-    ensures { s.new ≡ splice s.old at (bytes 8 x) }
+// Internal: eight bytes become those of x.
+pub fn put_u64(s: &mut [u8], x: u64)
+    requires { length s.old ≡ 8 }
+    ensures { s.new ≡ bytes 8 x }
 {
-    s[at..at + 8].copy_from_slice(&x.to_be_bytes());
+    s.copy_from_slice(&x.to_be_bytes());
 }
 
-// Internal: the byte b, put at `at`.
-pub fn put_byte(s: &mut [u8], at: usize, b: u8)
-    requires { at + 1 ≤ length s.old }
-    ensures { s.new ≡ splice s.old at (b ∷ []) }
+// Internal: all bytes become zero.
+pub fn put_zeros(s: &mut [u8])
+    ensures { s.new ≡ zeros (length s.old) }
 {
-    s[at] = b;
+    s.fill(0);
 }
 
-// Internal: n zero bytes, put at `at`.
-pub fn put_zeros(s: &mut [u8], at: usize, n: usize)
-    requires { at + n ≤ length s.old }
-    ensures { s.new ≡ splice s.old at (zeros n) }
-{
-    s[at..at + n].fill(0);
-}
-
-// Internal: the n bytes from `at` on are zero. The loop has no early end, so that it takes 16 bytes at a time; a run of constant length is
-// compiled without a loop.
-pub fn all_zero(s: &[u8], at: usize, n: usize) -> bool
-    requires { at + n ≤ length s.now }
-    ensures { result ≡ are_zero s.now at n }
+// Internal: all bytes are zero. The loop has no early end, so that it takes 16 bytes at a time; a run of constant length is compiled without a
+// loop.
+pub fn all_zero(s: &[u8]) -> bool
+    ensures { result ≡ every (λ b. eqb b 0) s.now }
 {
     let mut x: u8 = 0;
-    for b in &s[at..at + n] {
+    for b in s {
         x |= *b;
     }
     x == 0
 }
 
-// The n bytes from `at` on, without those behind the last whole STEP, are zero. STEP bytes at a time: each step is a run of constant
-// length.
-fn steps_zero<const STEP: usize>(s: &[u8], at: usize, n: usize) -> bool
-    requires step { 0 < STEP }
-    requires in_bounds { at + n ≤ length s.now }
-    ensures { result ≡ are_zero s.now at (n / STEP * STEP) }
+// All bytes but those behind the last whole STEP are zero. STEP bytes at a time: each step is a run of constant length.
+fn steps_zero<const STEP: usize>(s: &[u8]) -> bool
+    requires { 0 < STEP }
+    ensures { result ≡ are_zero s.now 0 (length s.now / STEP * STEP) }
 {
-    for i in 0..n / STEP {
-        if !all_zero(s, at + i * STEP, STEP) {
+    for i in 0..s.len() / STEP {
+        if !all_zero(&s[i * STEP..i * STEP + STEP]) {
             return false;
         }
     }
     true
 }
 
-// Internal: the n bytes from `at` on are zero, for a long run: 512 bytes at a time.
-pub fn all_zero_long(s: &[u8], at: usize, n: usize) -> bool
-    requires { at + n ≤ length s.now }
-    ensures { result ≡ are_zero s.now at n }
+// Internal: all bytes are zero, of a long run: 512 bytes at a time.
+pub fn all_zero_long(s: &[u8]) -> bool
+    ensures { result ≡ every (λ b. eqb b 0) s.now }
 {
-    let rest = n % 512;
-    steps_zero::<512>(s, at, n) && all_zero(s, at + (n - rest), rest)
+    let rest = s.len() % 512;
+    steps_zero::<512>(s) && all_zero(&s[s.len() - rest..])
 }
 
-// Internal: the n bytes from `at` on are zero, for a run of some hundred bytes. 128 bytes at a time, and at the end the last 128, some of
-// them for the second time.
-pub fn all_zero_steps(s: &[u8], at: usize, n: usize) -> bool
-    requires { at + n ≤ length s.now }
-    ensures { result ≡ are_zero s.now at n }
+// Internal: all bytes are zero, of a run of some hundred bytes. 128 bytes at a time, and at the end the last 128, some of them for the second
+// time.
+pub fn all_zero_steps(s: &[u8]) -> bool
+    ensures { result ≡ every (λ b. eqb b 0) s.now }
 {
-    if n < 128 {
-        return all_zero(s, at, n);
+    if s.len() < 128 {
+        return all_zero(s);
     }
-    steps_zero::<128>(s, at, n) && all_zero(s, at + (n - 128), 128)
+    steps_zero::<128>(s) && all_zero(&s[s.len() - 128..])
 }
 
-// Internal: the n bytes at `at` go up by `by` bytes, the last first. Where `by` is constant the loop is one `memmove`, and `copy_within` is
-// not.
-pub fn shift_up(s: &mut [u8], at: usize, by: usize, n: usize)
-    requires n_in_bounds { at + by + n ≤ length s.old }
-    requires le_by { 1 ≤ by }
-    ensures { s.new ≡ splice s.old (at + by) (part s.old at n) }
+// Internal: the bytes go up by `by` bytes, the last first; the last `by` go out, and the first `by` stay. Where `by` is constant the loop is one
+// `memmove`, and `copy_within` is not.
+pub fn shift_up(s: &mut [u8], by: usize)
+    requires { (1 ≤ by) × (by ≤ length s.old) }
+    ensures { s.new ≡ splice s.old by (part s.old 0 (length s.old - by)) }
 {
-    for i in (0..n).rev() {
-        s[at + by + i] = s[at + i];
+    for i in (0..s.len() - by).rev() {
+        s[by + i] = s[i];
     }
 }
 
-// Internal: the n bytes that stand `by` bytes behind `at` go down to `at`, the first first. It compiles as `shift_up` does.
-pub fn shift_down(s: &mut [u8], at: usize, by: usize, n: usize)
-    requires { at + by + n ≤ length s.old }
-    ensures { s.new ≡ splice s.old at (part s.old (at + by) n) }
+// Internal: the bytes go down by `by` bytes, the first first; the first `by` go out, and the last `by` stay. It compiles as `shift_up` does.
+pub fn shift_down(s: &mut [u8], by: usize)
+    requires { by ≤ length s.old }
+    ensures { s.new ≡ splice s.old 0 (part s.old by (length s.old - by)) }
 {
-    for i in 0..n {
-        s[at + i] = s[at + by + i];
+    for i in 0..s.len() - by {
+        s[i] = s[by + i];
     }
 }

@@ -33,5 +33,5 @@ returns c =
     (c.only_placed.ensures.result_value ∙ ap placed_of c.apply_pending_sound-step.ensures.result_value) c.apply_pending_sound-step.ensures.becomes in
     done (BucketCall.apply_pending a.time) a.answer.now a.s.now
     (roomy a.s.now true true (some a.time) a.answer.now c.in_ok-asked.ensures.value c.if-answer-lt-BYTES.false)
-    (c.put_applied.ensures.value ∙ ap (λ (r : List EndedPending). applied_code (first r)) z.answer) z.bucket c.store_at.ensures
+    (c.put_applied.ensures.value ∙ ap (λ (r : List EndedPending). applied_code (first r)) z.answer) z.bucket c.store.ensures
     (c.put_applied.ensures.answer_after ∙ ap (λ (r : List EndedPending). splice a.answer.now 0 (applied_bytes (first r))) z.answer)

@@ -28,8 +28,8 @@ pub returns : goal.returns
 unfolding bucket_act
 returns c =
     let a = c.args in
-    let z = stepped c.load.ensures (λ (u : rules.BucketSettings) (k : ℕ) (b : rules.Bucket). rules.insert u a.time (record { key = k; value = value_of a.value; connected = eqb a.status.state 1; incoming = eqb a.status.direction 1 }) b) c.key_of.ensures c.insert_sound-step.ensures.result_value c.insert_sound-step.ensures.becomes in
+    let z = stepped c.load-2.ensures (λ (u : rules.BucketSettings) (k : ℕ) (b : rules.Bucket). rules.insert u a.time (record { key = k; value = value_of a.value; connected = eqb a.status.state 1; incoming = eqb a.status.direction 1 }) b) c.load.ensures c.insert_sound-step.ensures.result_value c.insert_sound-step.ensures.becomes in
     done (BucketCall.insert a.key.now (argument_of a.value) a.status.state a.status.direction a.time) a.answer.now a.s.now
     (roomy a.s.now (key_fits a.key.now) (value_codes a.value && (leb a.status.state 1 && leb a.status.direction 1)) (some a.time) a.answer.now (rw c.in_range.ensures at c.in_ok-asked.ensures.value) c.if-answer-lt-BYTES.false)
-    (c.put_bucket_insert.ensures.value ∙ ap bucket_insert_code z.answer) z.bucket c.store_at.ensures
+    (c.put_bucket_insert.ensures.value ∙ ap bucket_insert_code z.answer) z.bucket c.store.ensures
     (c.put_bucket_insert.ensures.answer_after ∙ ap (λ (r : BucketInsertResult). splice a.answer.now 0 (bucket_insert_bytes r)) z.answer)

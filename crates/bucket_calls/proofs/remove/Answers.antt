@@ -13,5 +13,5 @@ returns-in_err-asked c =
 pub returns : goal.returns
 unfolding bucket_act
 returns c =
-    let z = stepped c.load.ensures (λ (u : rules.BucketSettings) (k : ℕ) (b : rules.Bucket). rules.remove u c.args.time k b) c.key_of-k.ensures c.remove_sound-step.ensures.result_value c.remove_sound-step.ensures.becomes in
-    left_done (BucketCall.remove c.args.key.now c.args.time) c.args.s.now c.in_ok-asked.ensures.value (c.from.ensures ∙ ap flag_byte z.answer) z.bucket c.store_at.ensures refl
+    let z = stepped c.load.ensures (λ (u : rules.BucketSettings) (k : ℕ) (b : rules.Bucket). rules.remove u c.args.time k b) c.load-k.ensures c.remove_sound-step.ensures.result_value c.remove_sound-step.ensures.becomes in
+    left_done (BucketCall.remove c.args.key.now c.args.time) c.args.s.now c.in_ok-asked.ensures.value (c.from.ensures ∙ ap flag_byte z.answer) z.bucket c.store.ensures refl

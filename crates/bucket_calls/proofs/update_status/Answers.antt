@@ -14,5 +14,5 @@ returns-in_err-asked c =
 pub returns : goal.returns
 unfolding bucket_act
 returns c =
-    let z = stepped c.load.ensures (λ (u : rules.BucketSettings) (k : ℕ) (b : rules.Bucket). rules.update_status u k (is_one c.args.state) (optional c.args.direction) b) c.key_of-k.ensures c.update_status_sound-step.ensures.result_value c.update_status_sound-step.ensures.becomes in
-    left_done (BucketCall.update_status c.args.key.now c.args.state c.args.direction) c.args.s.now c.in_ok-asked.ensures.value (c.update_code.ensures ∙ ap update_code z.answer) z.bucket c.store_at.ensures refl
+    let z = stepped c.load.ensures (λ (u : rules.BucketSettings) (k : ℕ) (b : rules.Bucket). rules.update_status u k (is_one c.args.state) (optional c.args.direction) b) c.load-k.ensures c.update_status_sound-step.ensures.result_value c.update_status_sound-step.ensures.becomes in
+    left_done (BucketCall.update_status c.args.key.now c.args.state c.args.direction) c.args.s.now c.in_ok-asked.ensures.value (c.update_code.ensures ∙ ap update_code z.answer) z.bucket c.store.ensures refl

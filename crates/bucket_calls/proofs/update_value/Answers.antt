@@ -14,5 +14,5 @@ returns-in_err-asked c =
 pub returns : goal.returns
 unfolding bucket_act
 returns c =
-    let z = stepped c.load.ensures (λ (u : rules.BucketSettings) (k : ℕ) (b : rules.Bucket). rules.update_value u k (value_of c.args.value) b) c.key_of-k.ensures c.update_value_sound-step.ensures.result_value c.update_value_sound-step.ensures.becomes in
-    left_done (BucketCall.update_value c.args.key.now (argument_of c.args.value)) c.args.s.now (rw c.in_range.ensures at c.in_ok-asked.ensures.value) (c.update_code.ensures ∙ ap update_code z.answer) z.bucket c.store_at.ensures refl
+    let z = stepped c.load.ensures (λ (u : rules.BucketSettings) (k : ℕ) (b : rules.Bucket). rules.update_value u k (value_of c.args.value) b) c.load-k.ensures c.update_value_sound-step.ensures.result_value c.update_value_sound-step.ensures.becomes in
+    left_done (BucketCall.update_value c.args.key.now (argument_of c.args.value)) c.args.s.now (rw c.in_range.ensures at c.in_ok-asked.ensures.value) (c.update_code.ensures ∙ ap update_code z.answer) z.bucket c.store.ensures refl

@@ -1,29 +1,37 @@
-use Rattle.std.proofs.Common.{Bool, ◌≡◌, ◌≤◌, true, refl, sym, ap, ◌∙◌, arith, ne_eqb}
+use Rattle.std.proofs.Common.{rules as search_rules}
+use Rattle.std.proofs.Common.{Bool, ◌≡◌, ◌≤◌, true, false, refl, sym, ap, ◌∙◌, subst, arith, ne_eqb}
 use mathlib.Core.Option.{some}
 use Rattle.std.proofs.lemmas.Grind.{common_steps}
 use Rattle.model.specs.Base.{is_some}
 use Rattle.model.specs.Result.{UpdateResult, is_failed}
 use Rattle.model.specs.Bucket as rules
-use Rattle.model.specs.Table.{Answer, inserts, insert_or_update_in}
+use Rattle.model.specs.Table.{Answer, inserts, insert_updates, insert_or_update_in}
+use Rattle.bucket_update.specs.Results.{table_insert_result_of}
+use Rattle.bucket_update.specs.Again.{put_again}
 use Rattle.model.specs.Call.{is_one}
 use Rattle.key.specs.Key.{num}
 use Rattle.node.specs.Node.{value_of, node_of}
 use Rattle.bucket.specs.Bucket.{bucket_of, settings_of, Becomes}
 use Rattle.bucket.specs.Calls.{update_result_of}
-use Rattle.bucket.proofs.Steps.{found_at, absent_at, told, then_becomes}
+use Rattle.laws.proofs.Tests.{clash}
+use Rattle.bucket.proofs.Steps as steps
+use Rattle.bucket.proofs.Steps.{found_at, absent_at, then_becomes}
 use Rattle.bucket.proofs.Held.{get_found}
 use Rattle.bucket_update.proofs.Again.{insert_again}
 use Rattle.bucket_update.proofs.Rules.{is_given, not_failed, stated, insert_absent, insert_failed, insert_both}
 use Rattle.bucket_update.proofs.insert_or_update_in.Goals as goal
-use Rattle.bucket_update.proofs.insert_or_update_in.Goals.{After-update_status_sound-stated}
+use Rattle.bucket_update.proofs.insert_or_update_in.Goals.{After-update_status_sound-stated, in-Failed, in_default}
 
 pub returns-then-b-pos : goal.returns-then-b-pos
 returns-then-b-pos c =
     rw (insert_absent (settings_of c.args.b) c.args.fails c.args.time (node_of c.args.node) (bucket_of c.args.b) c.if-fails.false (ap is_some (absent_at c.args.b c.requires.sound (num c.args.node.key) _ (omega arith) c.if-b-pos.true)))
-    (record { result_value = ap Answer.InsertOrUpdate (c.inserts.ensures ∙ ap inserts c.insert_sound-put.ensures.result_value); becomes = c.insert_sound-put.ensures.becomes })
+    (record {
+      result_value = ap Answer.InsertOrUpdate (c.map.ensures.answer ∙ ap inserts c.insert_sound.ensures.result_value);
+      becomes = subst (Becomes (settings_of c.args.b) (rules.insert (settings_of c.args.b) c.args.time (node_of c.args.node) (bucket_of c.args.b)).1) (sym c.map.ensures.bucket) c.insert_sound.ensures.becomes;
+    })
 
-pub put_again-again-requires-clause-pos_value : goal.put_again-again-requires-clause-pos_value
-put_again-again-requires-clause-pos_value c =
+pub put_again-requires-clause-pos_value : goal.put_again-requires-clause-pos_value
+put_again-requires-clause-pos_value c =
     found_at c.args.b c.requires.sound (num c.args.node.key) c.position-pos.result (omega arith) c.if-b-pos.false
 
 pub returns-then-b-ne1 : goal.returns-then-b-ne1
@@ -34,8 +42,12 @@ returns-then-b-ne1 c =
     ap (λ (f : Bool). insert_or_update_in (settings_of b) f c.args.time (node_of c.args.node) (bucket_of b)) c.if-fails.false
     ∙ insert_again (settings_of b) c.args.time (bucket_of b) _ (node_of c.args.node) (get_found b c.requires.sound c.position-pos.result c.if-b-pos.false k (omega arith))
     (found_at b c.requires.sound k c.position-pos.result (omega arith) c.if-b-pos.false) (ne_eqb _ _ c.if-b-ne1.true) in
+    let told : table_insert_result_of c.map-then-b-ne1.result.result ≡ insert_updates (update_result_of c.value_result-of_value.result) (update_result_of c.put_again.result.result) = search search_rules in
     rw e
-    (record { result_value = ap Answer.InsertOrUpdate (c.insert_updates.ensures ∙ rw (c.value_result.ensures, c.put_again-again.ensures.result_value)); becomes = c.put_again-again.ensures.becomes })
+    (record {
+      result_value = ap Answer.InsertOrUpdate (told ∙ rw (c.value_result-of_value.ensures, c.put_again.ensures.result_value));
+      becomes = subst (Becomes (settings_of b) (put_again (settings_of b) (node_of c.args.node) (bucket_of b)).1) (sym c.map-then-b-ne1.ensures.bucket) c.put_again.ensures.becomes;
+    })
 
 module _ (c : After-update_status_sound-stated) where
   abbrev of_status : UpdateResult × rules.Bucket
@@ -51,23 +63,35 @@ module _ (c : After-update_status_sound-stated) where
       let low : c.args.node.status.direction ≤ 1 = grind (arith, common_steps) in
       stated (settings_of c.args.b) (bucket_of c.args.b) (num c.args.node.key) (is_one c.args.node.status.state) (is_given c.args.node.status.direction (λ q. omega arith)) c.update_status_sound-stated.ensures.result_value c.update_status_sound-stated.ensures.becomes
 
-pub returns-in-Failed : goal.returns-in-Failed
-returns-in-Failed c =
-    let w = (goal.at.returns-in-Failed c).After-update_status_sound-stated in
-    rw (insert_failed (settings_of c.args.b) c.args.fails c.args.time (node_of c.args.node) (bucket_of c.args.b) c.if-fails.false (held w) (ap is_failed (sym (of_step w).0) ∙ rw c.in-Failed.is))
+pub returns-then-matches : goal.returns-then-matches
+returns-then-matches c =
+    let w = (goal.at.returns-then-matches c).After-update_status_sound-stated in
+    let failed : is_failed (update_result_of c.update_status_sound-stated.result.result) ≡ true =
+    elim c.match-matches.branch [
+      | in-Failed v ↦ rw v.in-Failed.is refl
+      | in_default v ↦ clash c.if-matches.true v.matches-is
+    ] in
+    rw (insert_failed (settings_of c.args.b) c.args.fails c.args.time (node_of c.args.node) (bucket_of c.args.b) c.if-fails.false (held w) (ap is_failed (sym (of_step w).0) ∙ failed))
     (record { result_value = refl; becomes = (of_step w).1 })
 
 pub returns : goal.returns
 returns c =
     let w = (goal.at.returns c).After-update_status_sound-stated in
     let x = of_step w in
+    let s = settings_of c.args.b in
     let k = num c.args.node.key in
     let v = value_of c.args.node.value in
-    rw (insert_both (settings_of c.args.b) c.args.fails c.args.time (node_of c.args.node) (bucket_of c.args.b) c.if-fails.false (held w) (ap is_failed (sym x.0) ∙ not_failed _ c.in_default.not-Failed))
+    let fine : is_failed (update_result_of c.update_status_sound-stated.result.result) ≡ false =
+    elim c.match-matches.branch [
+      | in-Failed u ↦ clash u.matches-is c.if-matches.false
+      | in_default u ↦ not_failed _ u.in_default.not-Failed
+    ] in
+    let told : table_insert_result_of c.map-2.result.result ≡ insert_updates (update_result_of c.update_value_sound.result.result) (update_result_of c.update_status_sound-stated.result.result) = search search_rules in
+    let of_value = then_becomes x.1 (λ (t : rules.BucketSettings) (m : rules.Bucket). (rules.update_value t k v m).1) c.update_value_sound.ensures.becomes in
+    rw (insert_both s c.args.fails c.args.time (node_of c.args.node) (bucket_of c.args.b) c.if-fails.false (held w) (ap is_failed (sym x.0) ∙ fine))
     (record {
       result_value =
           ap Answer.InsertOrUpdate
-          (c.insert_updates-2.ensures
-          ∙ rw (c.update_value_sound-valued.ensures.result_value ∙ told x.1 (λ (t : rules.BucketSettings) (m : rules.Bucket). (rules.update_value t k v m).0), x.0));
-      becomes = then_becomes x.1 (λ (t : rules.BucketSettings) (m : rules.Bucket). (rules.update_value t k v m).1) c.update_value_sound-valued.ensures.becomes;
+          (told ∙ rw (c.update_value_sound.ensures.result_value ∙ steps.told x.1 (λ (t : rules.BucketSettings) (m : rules.Bucket). (rules.update_value t k v m).0), x.0));
+      becomes = subst (Becomes s (rules.update_value s k v (of_status w).1).1) (sym c.map-2.ensures.bucket) of_value;
     })

@@ -1,38 +1,52 @@
-use Rattle.std.proofs.Common.{ℕ, refl, ap, ◌∙◌, arith}
-use Rattle.std.proofs.lemmas.Result.{err_from_is_err_and}
+use Rattle.std.proofs.Common.{ℕ, refl, ap, ◌∙◌}
+use Rattle.model.specs.Bytes.{Bytes}
 use Rattle.model.specs.Bucket as rules
 use Rattle.model.specs.Table.{Answer, kind_of}
-use Rattle.model.specs.Call.{KeyCall}
-use Rattle.model.specs.Sizes.{bucket_at}
+use Rattle.model.specs.Call.{Call, KeyCall}
 use Rattle.model.specs.Layout.{table_of}
 use Rattle.key.specs.Key.{num}
-use Rattle.held.proofs.Steps.{untouched}
 use Rattle.on_key.proofs.OneKey.{refused_early, answers_self}
 use Rattle.on_key.proofs.Steps.{timely}
-use Rattle.on_key.proofs.Ended.{own_formed, ends_full, ends}
+use Rattle.on_key.proofs.Ended.{refused_exit, refused_size, own_formed, ends_full, ends}
 use Rattle.on_key.proofs.Endings.{no_own}
 use Rattle.on_key.proofs.InPlace.{in_place_at}
+use Rattle.entry.proofs.InPlace.{formed_read, told_here, none_read}
 use Rattle.entry.proofs.entry.Goals as goal
+
+pub returns-in_err-s-clause-answers : goal.returns-in_err-s-clause-answers
+returns-in_err-s-clause-answers c =
+    refused_size _ (Call.on_key c.args.key.now (KeyCall.entry c.args.time)) _ c.in_err-s.ensures.value c.in_err-s.ensures.ok_part
+    (rw c.in_err-s.ensures.ok_part at c.as_mut_array.ensures.cases) c.from_residual.ensures.1
 
 pub returns-in_err-k-clause-answers : goal.returns-in_err-k-clause-answers
 returns-in_err-k-clause-answers c =
-    let p = err_from_is_err_and c.from_residual.result c.from_residual.ensures.1 in
-    rw (p.1, p.2) (refused_early c.args.s.now c.args.key.now (KeyCall.entry c.args.time) _ c.in_err-k.ensures)
+    let w = rw c.in_ok-s.ensures.ok_part at c.as_mut_array.ensures.cases in
+    rw (← w.same) (refused_exit _ _ _ c.from_residual-in_err-k.ensures.1 (refused_early c.in_ok-s.s.now c.args.key.now (KeyCall.entry c.args.time) _ c.in_err-k.ensures))
 
 pub returns-in_default-clause-answers : goal.returns-in_default-clause-answers
 returns-in_default-clause-answers c =
+    let w = rw c.in_ok-s.ensures.ok_part at c.as_mut_array.ensures.cases in
+    let h : Bytes c.args.s.now = λ j. (c.slice_known-1.given j).fits in
     let y = rw c.in_default.is at c.in_ok-k.ensures in
-    answers_self c.args.s.now c.args.key.now (KeyCall.entry c.args.time) y.0 refl (λ j. (c.slice_known-1.given j).fits) y.1
+    rw (← w.same) (answers_self c.in_ok-s.s.now c.args.key.now (KeyCall.entry c.args.time) y.0 refl (rw (← w.same) at h) y.1)
+
+pub kind_here-requires : goal.kind_here-requires
+kind_here-requires c =
+    let y = rw c.in-Some.is at c.in_ok-k.ensures in
+    c.is_quiet.ensures _ _ (formed_read y c.bucket-bucket.ensures) c.if-is_quiet.true
 
 -- in place: nothing is written
 pub returns-then-is_quiet-clause-answers : goal.returns-then-is_quiet-clause-answers
 returns-then-is_quiet-clause-answers c =
-    let s = c.args.s.now in
-    let call = KeyCall.entry c.args.time in
+    let w = rw c.in_ok-s.ensures.ok_part at c.as_mut_array.ensures.cases in
+    let h : Bytes c.args.s.now = λ j. (c.slice_known-1.given j).fits in
     let y = rw c.in-Some.is at c.in_ok-k.ensures in
-    let q = c.is_quiet.ensures _ _ y.ready.bucket c.if-is_quiet.true in
-    in_place_at s c.args.key.now call y (own_formed s c.args.key.now call y refl) refl (λ j. (c.slice_known-1.given j).fits) q (λ (u : rules.BucketSettings) (k : ℕ) (x : rules.Bucket). (kind_of k x, x))
-    (record { answers = c.kind_here.ensures.result_value; leaves = untouched s (bucket_at c.in-Some.i) q (omega (arith, y.ready.size, y.ready.below)) }) Answer.Entry c.args.time refl refl
+    let s = c.in_ok-s.s.now in
+    let call = KeyCall.entry c.args.time in
+    let q = c.is_quiet.ensures _ _ (formed_read y c.bucket-bucket.ensures) c.if-is_quiet.true in
+    rw (← w.same)
+    (in_place_at s c.args.key.now call y (own_formed s c.args.key.now call y refl) refl (rw (← w.same) at h) (none_read y c.bucket-bucket.ensures q)
+    (λ (u : rules.BucketSettings) (k : ℕ) (x : rules.Bucket). (kind_of k x, x)) (told_here y c.bucket-bucket.ensures q c.kind_here.ensures.result_value) Answer.Entry c.args.time refl refl)
 
 pub apply_at-applied-requires-clause-timely : goal.apply_at-applied-requires-clause-timely
 apply_at-applied-requires-clause-timely c =
@@ -41,19 +55,22 @@ apply_at-applied-requires-clause-timely c =
 
 pub returns-in_err-finish-clause-answers : goal.returns-in_err-finish-clause-answers
 returns-in_err-finish-clause-answers c =
-    let s = c.args.s.now in
-    let call = KeyCall.entry c.args.time in
+    let w = rw c.in_ok-s.ensures.ok_part at c.as_mut_array.ensures.cases in
     let y = rw c.in-Some.is at c.in_ok-k.ensures in
-    let p = err_from_is_err_and c.from_residual-in_err-finish.result c.from_residual-in_err-finish.ensures.1 in
-    rw (p.1, p.2) (ends_full s c.args.key.now call y (own_formed s c.args.key.now call y refl) refl _ c.finish.ensures.s_after (no_own c.apply_at-applied.ensures.records) c.in_err-finish.ensures.value)
+    let s = c.in_ok-s.s.now in
+    let call = KeyCall.entry c.args.time in
+    rw (← w.same)
+    (refused_exit _ _ _ c.from_residual-in_err-finish.ensures.1
+    (ends_full s c.args.key.now call y (own_formed s c.args.key.now call y refl) refl c.in_err-finish.ensures (no_own c.apply_at-applied.ensures.records)))
 
 pub returns-clause-answers : goal.returns-clause-answers
 returns-clause-answers c =
-    let s = c.args.s.now in
+    let w = rw c.in_ok-s.ensures.ok_part at c.as_mut_array.ensures.cases in
+    let y = rw c.in-Some.is at c.in_ok-k.ensures in
+    let s = c.in_ok-s.s.now in
     let t = table_of s in
     let call = KeyCall.entry c.args.time in
-    let y = rw c.in-Some.is at c.in_ok-k.ensures in
     let x = c.apply_at-applied.ensures in
     let b = (rules.apply_pending t.settings.bucket c.args.time (t.buckets c.in-Some.i)).0 in
     let z = c.kind_of-found.ensures.result_value ∙ ap (kind_of (num c.in-Some.k)) x.bucket.bucket ∙ ap (λ (k : ℕ). kind_of k b) y.key_is in
-    ends s c.args.key.now call y (own_formed s c.args.key.now call y refl) refl _ c.finish.ensures.s_after (no_own x.records) c.in_ok-finish.ensures.value (ap Answer.Entry z) x.bucket.bucket
+    rw (← w.same) (ends s c.args.key.now call y (own_formed s c.args.key.now call y refl) refl c.in_ok-finish.ensures (no_own x.records) (ap Answer.Entry z) x.bucket.bucket)

@@ -15,10 +15,10 @@ returns-in_err-asked c =
 pub returns-then-room-lt-ROOM : goal.returns-then-room-lt-ROOM
 returns-then-room-lt-ROOM c = opened_short c.args.s.now c.args.key.now c.args.codes (option_of c.args.time) _ (sym c.in_ok-asked.ensures) (lt-leb _ _ c.if-room-lt-ROOM.true)
 
-pub located-requires-clause-s_len : goal.located-requires-clause-s_len
-located-requires-clause-s_len c =
+pub located-requires-clause-s_value : goal.located-requires-clause-s_value
+located-requires-clause-s_value c =
     let p = passed_five c.args.s.now c.args.key.now c.args.codes (option_of c.args.time) (sym c.in_ok-asked.ensures) in
-    (p.size, p.header)
+    p.header
 
 pub located-requires-clause-key_len : goal.located-requires-clause-key_len
 located-requires-clause-key_len c = key_length c.args.s.now c.args.key.now c.args.codes (option_of c.args.time) (sym c.in_ok-asked.ensures)

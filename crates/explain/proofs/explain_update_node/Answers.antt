@@ -15,31 +15,41 @@ use Rattle.on_key.proofs.OneKey.{reads_are}
 use Rattle.on_key.proofs.Questions.{passed_five}
 use Rattle.on_key.proofs.Steps.{timely, timely_there, stepped}
 use Rattle.on_key.proofs.Endings.{update_records}
-use Rattle.reasons.proofs.OfTable.{own_update_node, own_unless, filter_told}
-use Rattle.explain.proofs.Ends.{refused_exit, own_ready, refused_early, refused_read, ends_local, ends_at, reason_told}
+use Rattle.reasons.proofs.Rules.{reads_more}
+use Rattle.explanation.specs.Explanation.{reason_of}
+use Rattle.explain.proofs.Ends.{refused_exit, refused_size, own_header, refused_early, refused_read, ends_local, ends_at, reason_told}
 use Rattle.explain.proofs.explain_update_node.Goals as goal
+use Rattle.explain.proofs.explain_update_node.Goals.{then-fails, else-fails}
 
 -- the codes that question 4 was asked of
 in_range : (v : Value) (st : ℕ) → (value_codes v && leb st 2) ≡ true → (value_codes v ≡ true) × (st ≤ 2)
 in_range v st e = (and_left (value_codes v) (leb st 2) e, leb-true st 2 (and_right (value_codes v) (leb st 2) e))
 
+pub returns-in_err-s : goal.returns-in_err-s
+returns-in_err-s c =
+    let a = c.args in
+    let e = c.in_err-s.ensures in
+    refused_size a.s.now a.key.now (KeyCall.update_node (argument_of a.value) a.state a.time) a.out.now c.from_residual.result e.value e.ok_part (rw e.ok_part at c.as_array.ensures.cases) c.from_residual.ensures.1
+
 pub returns-in_err-k : goal.returns-in_err-k
 returns-in_err-k c =
     let a = c.args in
     let y = rw c.in_range.ensures at c.in_err-k.ensures in
-    refused_exit _ _ c.from_residual.ensures.1 (refused_early a.s.now a.key.now (KeyCall.update_node (argument_of a.value) a.state a.time) a.out.now _ y)
+    let same = rw c.in_ok-s.ensures.ok_part at c.as_array.ensures.cases in
+    rw (← same.same) (refused_exit _ _ c.from_residual-in_err-k.ensures.1 (refused_early c.in_ok-s.s.now a.key.now (KeyCall.update_node (argument_of a.value) a.state a.time) a.out.now _ y))
 
-pub ended_local-requires-clause-s_len : goal.ended_local-requires-clause-s_len
-ended_local-requires-clause-s_len c =
+pub ended_local-requires-clause-header : goal.ended_local-requires-clause-header
+ended_local-requires-clause-header c =
     let a = c.args in
     let y = rw (c.in_default.is, c.in_range.ensures) at c.in_ok-k.ensures in
-    own_ready a.s.now a.key.now (KeyCall.update_node (argument_of a.value) a.state a.time) a.out.now y.1.0
+    own_header c.in_ok-s.s.now a.key.now (KeyCall.update_node (argument_of a.value) a.state a.time) a.out.now y.1.0
 
 pub returns-in_default : goal.returns-in_default
 returns-in_default c =
     let a = c.args in
     let y = rw (c.in_default.is, c.in_range.ensures) at c.in_ok-k.ensures in
-    ends_local a.s.now a.key.now (KeyCall.update_node (argument_of a.value) a.state a.time) a.out.now y.0 y.1.0 refl refl y.1.1 refl refl c.ended_local.ensures
+    let same = rw c.in_ok-s.ensures.ok_part at c.as_array.ensures.cases in
+    rw (← same.same) (ends_local c.in_ok-s.s.now a.key.now (KeyCall.update_node (argument_of a.value) a.state a.time) a.out.now y.0 y.1.0 refl refl y.1.1 refl refl c.ended_local.ensures)
 
 pub returns-in_err-fails : goal.returns-in_err-fails
 returns-in_err-fails c =
@@ -47,13 +57,15 @@ returns-in_err-fails c =
     let call = KeyCall.update_node (argument_of a.value) a.state a.time in
     let y = rw (c.in-Some.is, c.in_range.ensures) at c.in_ok-k.ensures in
     let w = rw y.1.key_is at c.in_err-fails.ensures in
-    refused_exit _ _ c.from_residual-in_err-fails.ensures.1
-    (rw w.1 (refused_read a.s.now a.key.now call a.out.now y.0 y.1.passed (reads_are a.s.now a.key.now call y.1.index w.0)))
+    let same = rw c.in_ok-s.ensures.ok_part at c.as_array.ensures.cases in
+    rw (← same.same)
+    (refused_exit _ _ c.from_residual-in_err-fails.ensures.1
+    (rw w.1 (refused_read c.in_ok-s.s.now a.key.now call a.out.now y.0 y.1.passed (reads_are c.in_ok-s.s.now a.key.now call y.1.index w.0))))
 
 pub apply_at-applied-requires-clause-timely : goal.apply_at-applied-requires-clause-timely
 apply_at-applied-requires-clause-timely c =
     let y = rw c.in-Some.is at c.in_ok-k.ensures in
-    timely c.args.s.now c.args.key.now _ c.args.time y.1.passed
+    timely c.in_ok-s.s.now c.args.key.now _ c.args.time y.1.passed
 
 pub update_node_in-step-requires-clause-value_value : goal.update_node_in-step-requires-clause-value_value
 update_node_in-step-requires-clause-value_value c =
@@ -68,33 +80,31 @@ update_node_in-step-requires-clause-state_bound c =
 pub update_node_in-step-requires-clause-pending_timeout_bound : goal.update_node_in-step-requires-clause-pending_timeout_bound
 update_node_in-step-requires-clause-pending_timeout_bound c =
     let y = rw c.in-Some.is at c.in_ok-k.ensures in
-    timely_there c.args.s.now c.args.time c.apply_at-applied.ensures.bucket (timely c.args.s.now c.args.key.now _ c.args.time y.1.passed)
+    timely_there c.in_ok-s.s.now c.args.time c.apply_at-applied.ensures.bucket (timely c.in_ok-s.s.now c.args.key.now _ c.args.time y.1.passed)
 
-pub update_node_why-why-requires-clause-value_value : goal.update_node_why-why-requires-clause-value_value
-update_node_why-why-requires-clause-value_value c =
+pub update_node_reason-why-requires-clause-value_value : goal.update_node_reason-why-requires-clause-value_value
+update_node_reason-why-requires-clause-value_value c =
     let y = rw (c.in-Some.is, c.in_range.ensures) at c.in_ok-k.ensures in
     (in_range c.args.value c.args.state (passed_five _ _ _ _ y.1.passed).in_range).0
 
-pub update_node_why-why-requires-clause-state_bound : goal.update_node_why-why-requires-clause-state_bound
-update_node_why-why-requires-clause-state_bound c =
+pub update_node_reason-why-requires-clause-state_bound : goal.update_node_reason-why-requires-clause-state_bound
+update_node_reason-why-requires-clause-state_bound c =
     let y = rw (c.in-Some.is, c.in_range.ensures) at c.in_ok-k.ensures in
     (in_range c.args.value c.args.state (passed_five _ _ _ _ y.1.passed).in_range).1
 
-pub ended-requires-clause-s_len : goal.ended-requires-clause-s_len
-ended-requires-clause-s_len c =
-    let s = c.args.s.now in
+pub ended-requires-clause-reads : goal.ended-requires-clause-reads
+ended-requires-clause-reads c =
     let y = rw c.in-Some.is at c.in_ok-k.ensures in
-    let fails = c.in_ok-fails.fails in (
-      y.1.ready.size,
-      y.1.ready.header,
-      filter_told c.update_node_why-why.ensures s fails (own_unless fails _ _ (own_update_node _ _ _ _ _))
-          (λ e. failed_formed s c.in-Some.i _ _ fails c.in_ok-fails.ensures e y.1.ready.header),
-    )
+    elim c.if-fails.branch [
+      | then-fails w ↦ rw w.why-is (failed_formed c.in_ok-s.s.now c.in-Some.i _ _ c.in_ok-fails.fails c.in_ok-fails.ensures w.if-fails.true y.1.ready.header)
+      | else-fails w ↦ rw w.why-is (reads_more _ _ w.update_node_reason-why.ensures.reads)
+    ]
 
 pub returns : goal.returns
 returns c =
     let a = c.args in
-    let s = a.s.now in
+    let s = c.in_ok-s.s.now in
+    let same = rw c.in_ok-s.ensures.ok_part at c.as_array.ensures.cases in
     let key = a.key.now in
     let call = KeyCall.update_node (argument_of a.value) a.state a.time in
     let y = rw (c.in-Some.is, c.in_range.ensures) at c.in_ok-k.ensures in
@@ -109,10 +119,17 @@ returns c =
     let u = t.settings.bucket in
     let there = (rules.apply_pending u a.time (t.buckets i)).0 in
     let does = λ (fails : Bool) (u : rules.BucketSettings) (n : ℕ) (b : rules.Bucket). update_node_in u fails a.time n v o b in
-    let why = λ (fails : Bool) (bs : ℕ → rules.Bucket) (u : rules.BucketSettings) (n : ℕ) (b : rules.Bucket). cond fails (table_filter_reason n v bs) (update_node_reason u n v o b) in
+    let G = λ (u : rules.BucketSettings) (n : ℕ) (b : rules.Bucket). update_node_reason u n v o b in
+    let why = λ (fails : Bool). cond fails (table_filter_reason k v t.buckets) (G u k there) in
     let z = stepped x.bucket (does c.in_ok-fails.fails) y.1.key_is step.result_value step.becomes in
-    ends_at s key call a.out.now y.0 y.1.passed refl refl y.1.index (reads_are s key call y.1.index w.0)
+    let told_why : reason_of t.buckets c.if-fails.why ≡ why c.in_ok-fails.fails =
+    elim c.if-fails.branch [
+      | then-fails z ↦ rw (z.why-is, z.if-fails.true) (ap (λ (n : ℕ). table_filter_reason n v t.buckets) y.1.key_is)
+      | else-fails z ↦ rw (z.why-is, z.if-fails.false) (reason_told x.bucket G y.1.key_is z.update_node_reason-why.ensures _)
+    ] in
+    rw (← same.same)
+    (ends_at s key call a.out.now y.0 y.1.passed refl refl y.1.index (reads_are s key call y.1.index w.0)
     (update_records _ a.time _ _ c.update_node_in-step.result.bucket x.bucket x.records y.1.key_is c.record_of-record.ensures.result_value (fails_table_filter t i k v) v o
     (z.bucket ∙ ap (λ (q : Bool). (does q u k there).1) w.1))
     (c.from.ensures ∙ ap told (z.answer ∙ ap (λ (q : Bool). (does q u k there).0) w.1))
-    (reason_told x.bucket (why c.in_ok-fails.fails) y.1.key_is c.update_node_why-why.ensures _ ∙ ap (λ (q : Bool). why q t.buckets u k there) w.1) c.ended.ensures
+    (told_why ∙ ap why w.1) c.ended.ensures)

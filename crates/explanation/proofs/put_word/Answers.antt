@@ -1,8 +1,6 @@
-use Rattle.std.proofs.Common.{refl, arith}
-use Rattle.words.proofs.Words.{put_mid_splice}
+use Rattle.std.proofs.Common.{arith}
+use Rattle.explanation.proofs.Text.{put_front}
 use Rattle.explanation.proofs.put_word.Goals as goal
 
 pub returns : goal.returns
-returns c =
-    let a = c.args in
-    record { output = put_mid_splice a.out.now a.at _ c.copy_from_slice.ensures.after (omega arith); next = refl }
+returns c = put_front _ _ c.copy_from_slice.ensures.after (omega arith) (omega arith) (omega arith)

@@ -1,11 +1,12 @@
-use Rattle.std.proofs.Common.{arith, rules}
+use Rattle.std.proofs.Common.{refl, arith, rules}
 use Rattle.header.proofs.Queue.{pushed_record, pushed_nothing}
 use Rattle.header.proofs.push_record.Goals as goal
 
-pub returns-then-is_none : goal.returns-then-is_none
-returns-then-is_none c = pushed_nothing c.args.s.now c.requires.s_len (λ i. (c.type_inv.s i).fits) c.requires.s_value c.args.ended (rw c.if-is_none.true at c.is_none.ensures)
+pub returns-in_default : goal.returns-in_default
+returns-in_default c = rw c.in_default.is (pushed_nothing c.args.s.now c.told-s c.fits-s c.requires.s_value)
 
 pub returns : goal.returns
 returns c =
     let n = c.record_count-count in
-    cc (pushed_record c.args.s.now c.requires.s_len (search rules) c.requires.s_value c.args.ended (rw c.if-is_none.false at c.is_none.ensures) n.result n.ensures (omega (arith, n.ensures)))
+    let e = c.in-Some in
+    rw e.is (pushed_record c.args.s.now c.told-s (search rules) c.requires.s_value e.ended n.result _ _ n.ensures (omega (arith, n.ensures, rw e.is at c.requires.ended_len_bound)) refl (omega arith) c.store_record.ensures)

@@ -1,9 +1,9 @@
-use Rattle.std.proofs.Common.{ℕ}
-use Rattle.std.proofs.Math.ListN.{length-replicate}
+use Rattle.std.proofs.Common.{arith, refl, ap, ◌∙◌}
 use Rattle.model.specs.Bytes.{zeros}
 use Rattle.model.specs.Sizes.{node_size}
-use Rattle.held.proofs.Moves.{written_behind}
+use Rattle.held.proofs.Moves.{rest_length, behind_is}
 use Rattle.held.proofs.close_place.Goals as goal
 
 pub returns : goal.returns
-returns c = cc (written_behind c.args.s.now c.args.at c.args.n (zeros node_size) (length-replicate {A = ℕ} node_size 0) c.requires)
+returns c =
+    behind_is c.args.run.now c.requires (zeros node_size) (c.put_zeros.ensures ∙ ap zeros (rest_length c.shift_down.new.s (omega (arith, c.shift_down.auto.s)) refl refl)) refl c.shift_down.ensures refl refl

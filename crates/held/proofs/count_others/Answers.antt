@@ -1,21 +1,32 @@
-use Rattle.std.proofs.Common.{arith, Bool, not, ◌&&◌, ap, ◌∙◌}
-use Rattle.places.proofs.Laws.{flag≤1}
-use Rattle.std.proofs.Math.Dec.{eqb}
+use Rattle.std.proofs.Common.{arith, rules, refl, Bool, not, ◌&&◌, ap, ◌∙◌, ◌≡◌, ℕ, List, length, get_or}
+use Rattle.std.proofs.lemmas.Fn.{says_at}
 use mir.Val.{bool_byte}
-use Rattle.held.proofs.Places.{count_none, others_more}
+use lib.Dec.{eqb}
+use Rattle.model.specs.Base.{select}
+use Rattle.model.specs.Layout.{node_in, place_in}
+use Rattle.places.specs.Places.{remove_at}
+use Rattle.places.proofs.Laws.{flag≤1}
+use Rattle.well_formed.specs.Tests.{nodes_here}
+use Rattle.held.proofs.Places.{count_none, count_next, others_are}
 use Rattle.held.proofs.count_others.Goals as goal
 
 pub loop-j-init : goal.loop-j-init
-loop-j-init g c = record {
-  few = omega arith;
-  counts = λ s p h. count_none p s c.args.at c.args.skip;
-}
+loop-j-init g c = record { few = omega arith; counts = λ p h. count_none p c.args.bucket.now c.args.skip }
 
 pub loop-j-preserved : goal.loop-j-preserved
-loop-j-preserved g c = record {
-  few = omega (arith, flag≤1 (c.passes.result && not (eqb c.loop-j.j c.args.skip)));
-  counts = λ s p h.
-      let e = h c.loop-j.j c.passes.result (omega arith) c.passes.ensures in
-      let f = c.from-n.ensures ∙ ap (λ (r : Bool). bool_byte (r && not (eqb c.loop-j.j c.args.skip))) e in
-      omega (arith, c.loop-j.invariant.counts s p h, f, others_more p s c.args.at c.args.skip c.loop-j.j);
-}
+loop-j-preserved g c =
+    let s : c.unwrap-places.result.now ≡ c.args.bucket.now = search rules in
+    record {
+      few = omega (arith, flag≤1 (c.passes.result && not (eqb c.loop-j.j c.args.skip)));
+      counts = λ p h.
+          let e = h c.place.result.now c.passes.result (says_at g.F.Fn c.passes.ensures refl) ∙ ap (λ (w : List ℕ). p (node_in w)) (c.place.ensures ∙ ap (λ (w : List ℕ). place_in w c.loop-j.j) s) in
+          let f = c.from-n.ensures ∙ ap (λ (r : Bool). bool_byte (r && not (eqb c.loop-j.j c.args.skip))) e in
+          omega (arith, c.loop-j.invariant.counts p h, f, count_next p c.args.bucket.now c.args.skip c.loop-j.j);
+    }
+
+pub returns : goal.returns
+returns g c =
+    λ p h.
+    let e : c.loop-j.j ≡ get_or c.args.bucket.now 0 0 = omega arith in
+    c.loop-j.invariant.counts p h ∙ ap (λ (j : ℕ). length (select p (remove_at c.args.skip (nodes_here c.args.bucket.now j)))) e
+    ∙ ap (λ l. length (select p l)) (others_are c.args.bucket.now c.args.skip)

@@ -1,24 +1,20 @@
-use Rattle.std.proofs.Common.{arith, sym, ◌∙◌}
+use Rattle.std.proofs.Common.{arith, refl, ap, sym, ◌∙◌, ◌≤◌, ℕ}
+use Rattle.model.specs.Bytes.{part}
+use Rattle.model.specs.Layout.{bucket_in}
 use Rattle.node.specs.Node.{node_of}
-use Rattle.held.proofs.Moves.{two_writes, placed_connected, placed_disconnected}
-use Rattle.held.proofs.Quiet.{first_low}
+use Rattle.held.specs.Held.{Goes}
+use Rattle.held.proofs.Moves.{goes_end, goes_between, placed}
 use Rattle.held.proofs.place.Goals as goal
+use Rattle.held.proofs.place.Goals.{then-is_connected, else-is_connected}
 
-pub overflow_sub-count : goal.overflow_sub-count
-overflow_sub-count c = omega (arith, first_low c.args.s.now c.args.at c.requires.count_value.1, c.requires.count_value.0, c.from-first.ensures)
-
-pub put_before-requires-else-is_connected : goal.put_before-requires-else-is_connected
-put_before-requires-else-is_connected c = (omega (arith, first_low c.args.s.now c.args.at c.requires.count_value.1, c.requires.count_value.0, c.from-first.ensures), c.requires.bucket_size_in_bounds.2)
-
-pub put_counts-requires-else-is_connected : goal.put_counts-requires-else-is_connected
-put_counts-requires-else-is_connected c = omega (arith, first_low c.args.s.now c.args.at c.requires.count_value.1, c.requires.count_value.0, c.from-first.ensures)
-
-pub returns-then-is_connected : goal.returns-then-is_connected
-returns-then-is_connected c =
-    two_writes c.args.at _ c.put_before.ensures c.put_counts.ensures
-    (placed_connected c.args.s.now c.args.at c.requires.count_value.1 c.requires.bucket_size_in_bounds.0 c.args.count c.from-first.result c.requires.count_value.0 c.from-first.ensures (node_of c.args.node) (omega arith) (sym c.is_connected.ensures ∙ c.if-is_connected.true))
-
-pub returns-else-is_connected : goal.returns-else-is_connected
-returns-else-is_connected c =
-    two_writes c.args.at _ c.put_before-else-is_connected.ensures c.put_counts-else-is_connected.ensures
-    (placed_disconnected c.args.s.now c.args.at c.requires.count_value.1 c.requires.bucket_size_in_bounds.0 c.args.count c.from-first.result c.requires.count_value.0 c.from-first.ensures (node_of c.args.node) (omega arith) (sym c.is_connected.ensures ∙ c.if-is_connected.false))
+pub returns : goal.returns
+unfolding part
+returns c =
+    let q = c.requires.quiet in
+    let to = c.if-is_connected.to in
+    let g : Goes (node_of c.args.node) to.0 to.1 (bucket_in c.args.bucket.now) × (to.0 ≤ c.from-count.result) =
+    elim c.if-is_connected.branch [
+      | then-is_connected w ↦ (goes_end q c.from-count.ensures c.from-first.ensures _ (sym c.is_connected.ensures ∙ w.if-is_connected.true) (ap (λ (x : ℕ × ℕ). x.0) w.to-is) (ap (λ (x : ℕ × ℕ). x.1) w.to-is), omega (arith, ap (λ (x : ℕ × ℕ). x.0) w.to-is))
+      | else-is_connected w ↦ (goes_between q c.from-count.ensures c.from-first.ensures _ (sym c.is_connected.ensures ∙ w.if-is_connected.false) (ap (λ (x : ℕ × ℕ). x.0) w.to-is) (ap (λ (x : ℕ × ℕ). x.1) w.to-is), omega (arith, ap (λ (x : ℕ × ℕ). x.0) w.to-is))
+    ] in
+    placed q c.from-count.ensures c.from-first.ensures (node_of c.args.node) to.0 to.1 g.0 (omega arith) g.1 refl c.put_before.ensures

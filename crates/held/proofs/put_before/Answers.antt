@@ -1,6 +1,6 @@
-use Rattle.node.specs.Node.{node_of}
-use Rattle.held.proofs.Moves.{written_before}
+use Rattle.laws.proofs.NodeBytes.{length_node}
+use Rattle.held.proofs.Moves.{before_is}
 use Rattle.held.proofs.put_before.Goals as goal
 
 pub returns : goal.returns
-returns c = cc (written_before c.args.s.now c.args.at c.args.n (node_of c.args.node) c.requires.0)
+returns c = before_is c.args.run.now c.requires.0 _ c.store_node.ensures (length_node _) c.shift_up.ensures

@@ -1,8 +1,7 @@
+use Rattle.std.proofs.Common.{refl}
 use Rattle.laws.proofs.NodeBytes.{length_node}
-use Rattle.node.specs.Node.{node_of}
-use Rattle.model.specs.Layout.{node_bytes}
-use Rattle.held.proofs.Moves.{written_behind}
+use Rattle.held.proofs.Moves.{behind_is}
 use Rattle.held.proofs.put_behind.Goals as goal
 
 pub returns : goal.returns
-returns c = cc (written_behind c.args.s.now c.args.at c.args.n (node_bytes (node_of c.args.node)) (length_node (node_of c.args.node)) c.requires.0)
+returns c = behind_is c.args.run.now c.requires.0 _ c.store_node.ensures (length_node _) c.shift_down.ensures refl refl

@@ -1,19 +1,23 @@
+use Rattle.std.proofs.Common.{arith, refl, ap, ◌∙◌}
+use Rattle.storage.specs.Read.{read_value}
+use Rattle.laws.proofs.Parts.{sliced}
+use Rattle.bucket.specs.Settings.{settings_of}
 use Rattle.held.proofs.Steps.{value_kept, value_out, value_set}
 use Rattle.held.proofs.value_at.Goals as goal
 
 pub returns-then-eq : goal.returns-then-eq
 returns-then-eq c =
-    λ k p.
-    value_kept c.args.s.now c.args.at c.requires.count_value.1 c.requires.bucket_size_in_bounds.0 c.args.count c.requires.count_value.0 c.requires.bucket_size_in_bounds.1 k c.args.pos p c.requires.bucket_size_in_bounds.2 c.args.value c.load_value-old.result c.load_value-old.ensures c.eq.result c.eq.ensures c.if-eq.true
+    λ k e.
+    value_kept c.requires.quiet (settings_of c.args.settings) k c.args.pos e c.requires.held c.args.value (c.load_value.ensures ∙ ap read_value (sliced c.args.bucket.now _ 13)) c.eq.ensures c.if-eq.true
 
 pub returns-then-fails_filter : goal.returns-then-fails_filter
 returns-then-fails_filter c =
-    λ k p.
-    value_out c.args.s.now c.args.at c.requires.count_value.1 c.requires.bucket_size_in_bounds.0 c.args.count c.requires.count_value.0 c.requires.bucket_size_in_bounds.1 k c.args.pos p c.requires.bucket_size_in_bounds.2 c.args.value c.load_value-old.result c.load_value-old.ensures c.eq.result c.eq.ensures c.if-eq.false
-    c.fails_filter.result c.fails_filter.ensures _ c.if-fails_filter.true (c.take_out.ensures k p)
+    λ k e.
+    value_out c.requires.quiet (settings_of c.args.settings) k c.args.pos e c.requires.held c.args.value (c.load_value.ensures ∙ ap read_value (sliced c.args.bucket.now _ 13)) c.eq.ensures c.if-eq.false
+    c.fails_filter.ensures c.if-fails_filter.true (c.take_out.ensures k e)
 
 pub returns : goal.returns
 returns c =
-    λ k p.
-    value_set c.args.s.now c.args.at c.requires.count_value.1 c.requires.bucket_size_in_bounds.0 c.args.count c.requires.count_value.0 c.requires.bucket_size_in_bounds.1 k c.args.pos p c.requires.bucket_size_in_bounds.2 c.args.value c.load_value-old.result c.load_value-old.ensures c.eq.result c.eq.ensures c.if-eq.false
-    c.fails_filter.result c.fails_filter.ensures _ c.if-fails_filter.false c.store_value.ensures
+    λ k e.
+    value_set c.requires.quiet (settings_of c.args.settings) k c.args.pos e c.requires.held c.args.value (c.load_value.ensures ∙ ap read_value (sliced c.args.bucket.now _ 13)) c.eq.ensures c.if-eq.false
+    c.fails_filter.ensures c.if-fails_filter.false refl (omega arith) c.store_value.ensures

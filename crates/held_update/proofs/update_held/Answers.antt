@@ -1,31 +1,34 @@
-use Rattle.std.proofs.Common.{ℕ, Bool, ◌&&◌, List, length, get_or, ◌≡◌, ◌∙◌, ap}
+use Rattle.std.proofs.Common.{Bool, ◌&&◌, length, ◌≡◌, ◌∙◌, ap}
 use mathlib.Core.Option.{some}
-use lib.Dec.{eqb, leb}
+use lib.Dec.{leb}
 use Rattle.model.specs.Value.{Value}
 use Rattle.model.specs.Node.{Node, connected_incoming}
 use Rattle.model.specs.Filter.{ip_filter_fails, max_nodes_per_subnet_bucket}
 use Rattle.model.specs.Result.{UpdateResult}
-use Rattle.model.specs.Bucket.{Bucket, get, fails_bucket_filter, is_max_incoming, incoming_nodes, take_out}
-use Rattle.model.specs.Sizes.{max_incoming_at, bucket_filter_at}
+use Rattle.model.specs.Bucket.{Bucket, BucketSettings, get, fails_bucket_filter, is_max_incoming, incoming_nodes, take_out}
 use Rattle.model.specs.Table.{insert_updates}
+use Rattle.model.specs.Layout.{bucket_in}
+use Rattle.laws.proofs.Parts.{sliced}
 use Rattle.node.specs.Node.{node_of}
+use Rattle.storage.specs.Read.{read_node}
+use Rattle.bucket.specs.Settings.{settings_of}
 use Rattle.bucket.specs.Calls.{update_result_of}
 use Rattle.bucket_update.specs.Again.{value_result}
-use Rattle.held.specs.Held.{bucket_here, settings_here, place, nodes_here, others}
-use Rattle.held.proofs.Steps.{here, get_old, key_old, fails_left, max_left}
+use Rattle.held.specs.Held.{others}
+use Rattle.held.proofs.Steps.{get_old, key_old, fails_left, max_left}
 use Rattle.held_update.proofs.Laws.{old_refused, held_many, new_refused, held_put}
 use Rattle.held_update.proofs.update_held.Goals as goal
 use Rattle.held_update.proofs.update_held.Goals.{After-fails_filter, then-fails_filter-via-then-fails_filter, then-fails_filter-via-else-fails_filter+then-is_max_incoming}
 
 module _ (c : After-fails_filter) where
-  abbrev s : List ℕ
-  s = c.args.s.now
+  abbrev b : Bucket
+  b = bucket_in c.args.bucket.now
 
-  abbrev at : ℕ
-  at = c.args.at
+  abbrev settings : BucketSettings
+  settings = settings_of c.args.settings
 
   abbrev left : Bucket
-  left = take_out (node_of c.args.node).key (bucket_here s at)
+  left = take_out (node_of c.args.node).key b
 
   abbrev m : Node
   m = node_of c.load_node-old.result
@@ -33,23 +36,18 @@ module _ (c : After-fails_filter) where
   abbrev n : Node
   n = node_of c.args.node
 
-  found : c.args.pos ≡ place n.key (nodes_here s at c.args.count)
-  found = here s at c.requires.count_value.1 c.requires.bucket_size_in_bounds.0 c.args.count c.requires.count_value.0 n.key c.requires.node_value.1
-
-  is_held : get n.key (bucket_here s at) ≡ some m
-  is_held = get_old s at c.requires.count_value.1 c.requires.bucket_size_in_bounds.0 c.args.count c.requires.count_value.0 n.key c.args.pos found c.requires.bucket_size_in_bounds.2 c.requires.bucket_size_in_bounds.1 c.load_node-old.result c.load_node-old.ensures
+  is_held : get n.key b ≡ some m
+  is_held = get_old c.requires.quiet c.args.pos c.requires.held (c.load_node-old.ensures ∙ ap read_node (sliced c.args.bucket.now _ 47)) n.key c.requires.node.1
 
   same_key : m.key ≡ n.key
-  same_key = key_old s at c.requires.count_value.1 c.requires.bucket_size_in_bounds.0 c.args.count c.requires.count_value.0 n.key c.args.pos found c.requires.bucket_size_in_bounds.2 c.requires.bucket_size_in_bounds.1 c.load_node-old.result c.load_node-old.ensures
+  same_key = key_old c.requires.quiet c.args.pos c.requires.held (c.load_node-old.ensures ∙ ap read_node (sliced c.args.bucket.now _ 47)) n.key c.requires.node.1
 
   -- the tests, with the node of the key taken out
-  filter : (v : Value) {r : Bool} → r ≡ (eqb (get_or s bucket_filter_at 0) 1 && ip_filter_fails max_nodes_per_subnet_bucket v (others s at c.args.count c.args.pos))
-      → fails_bucket_filter (settings_here s) v left ≡ r
-  filter = fails_left s at c.requires.count_value.1 c.requires.bucket_size_in_bounds.0 c.args.count c.requires.count_value.0 n.key c.args.pos c.requires.node_value.1 c.requires.bucket_size_in_bounds.2
+  filter : (v : Value) {r : Bool} → r ≡ (settings.filter && ip_filter_fails max_nodes_per_subnet_bucket v (others c.args.bucket.now c.args.pos)) → fails_bucket_filter settings v left ≡ r
+  filter = fails_left c.requires.quiet settings n.key c.args.pos c.requires.node.1 c.requires.held
 
-  maximum : {r : Bool} → r ≡ (connected_incoming n && leb (get_or s max_incoming_at 0) (length (incoming_nodes (others s at c.args.count c.args.pos))))
-      → is_max_incoming (settings_here s) n left ≡ r
-  maximum = max_left s at c.requires.count_value.1 c.requires.bucket_size_in_bounds.0 c.args.count c.requires.count_value.0 n.key c.args.pos c.requires.node_value.1 c.requires.bucket_size_in_bounds.2 n
+  maximum : {r : Bool} → r ≡ (connected_incoming n && leb settings.max_incoming (length (incoming_nodes (others c.args.bucket.now c.args.pos)))) → is_max_incoming settings n left ≡ r
+  maximum = max_left c.requires.quiet settings n.key c.args.pos c.requires.node.1 c.requires.held n
 
 pub returns-then-fails_filter : goal.returns-then-fails_filter
 returns-then-fails_filter c =
@@ -57,27 +55,27 @@ returns-then-fails_filter c =
     λ time.
     elim c.then-fails_filter.branch [
       | then-fails_filter-via-then-fails_filter x ↦
-          old_refused (s w) (at w) (n w) time c.requires.count_value.1.pending (m w) (is_held w) (same_key w) (filter w (m w).value c.fails_filter.ensures ∙ x.if-fails_filter.true) (c.take_out.ensures (n w).key c.requires.node_value.1)
+          old_refused (settings w) (b w) (n w) time c.requires.quiet.pending (m w) (is_held w) (same_key w) (filter w (m w).value c.fails_filter.ensures ∙ x.if-fails_filter.true) (c.take_out.ensures (n w).key c.requires.node.1)
       | then-fails_filter-via-else-fails_filter+then-is_max_incoming x ↦
-          held_many (s w) (at w) (n w) time c.requires.count_value.1.pending (m w) (is_held w) (same_key w) (filter w (m w).value c.fails_filter.ensures ∙ x.if-fails_filter.false)
+          held_many (settings w) (b w) (n w) time c.requires.quiet.pending (m w) (is_held w) (same_key w) (filter w (m w).value c.fails_filter.ensures ∙ x.if-fails_filter.false)
           (maximum w x.is_max_incoming.ensures ∙ x.if-is_max_incoming.true)
-          (c.take_out.ensures (n w).key c.requires.node_value.1)
+          (c.take_out.ensures (n w).key c.requires.node.1)
     ]
 
 pub returns-then-fails_filter-2 : goal.returns-then-fails_filter-2
 returns-then-fails_filter-2 c =
     let w = (goal.at.returns-then-fails_filter-2 c).After-fails_filter in
     λ time.
-    new_refused (s w) (at w) (n w) time c.requires.count_value.1.pending (m w) (is_held w) (same_key w) (filter w (m w).value c.fails_filter.ensures ∙ c.if-fails_filter.false)
+    new_refused (settings w) (b w) (n w) time c.requires.quiet.pending (m w) (is_held w) (same_key w) (filter w (m w).value c.fails_filter.ensures ∙ c.if-fails_filter.false)
     (maximum w c.is_max_incoming.ensures ∙ c.if-is_max_incoming.false)
     (filter w (n w).value c.fails_filter-2.ensures ∙ c.if-fails_filter-2.true)
-    (c.take_out-then-fails_filter-2.ensures (n w).key c.requires.node_value.1)
+    (c.take_out-then-fails_filter-2.ensures (n w).key c.requires.node.1)
 
 pub returns : goal.returns
 returns c =
     let w = (goal.at.returns c).After-fails_filter in
     λ time.
-    held_put (s w) (at w) (n w) time c.requires.count_value.1.pending (m w) (is_held w) (same_key w) (filter w (m w).value c.fails_filter.ensures ∙ c.if-fails_filter.false)
+    held_put (settings w) (b w) (n w) time c.requires.quiet.pending (m w) (is_held w) (same_key w) (filter w (m w).value c.fails_filter.ensures ∙ c.if-fails_filter.false)
     (maximum w c.is_max_incoming.ensures ∙ c.if-is_max_incoming.false)
     (filter w (n w).value c.fails_filter-2.ensures ∙ c.if-fails_filter-2.false)
     (c.insert_updates.ensures

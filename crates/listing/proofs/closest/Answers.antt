@@ -8,38 +8,56 @@ use Rattle.items.proofs.Asked.{lists_refused}
 use Rattle.on_key.specs.Answers.{first_five}
 use Rattle.on_key.proofs.Questions.{passed_five}
 use Rattle.on_key.proofs.Steps.{timely}
+use Rattle.on_key.proofs.Ended.{size_told}
 use Rattle.listing.specs.Listed.{closest_listing}
 use Rattle.listing.proofs.Shapes.{closest_gives}
-use Rattle.listing.proofs.Steps.{refused_first, listed_is, first_five_lem, closest_asked}
+use Rattle.listing.proofs.Steps.{five_unsized, refused_first, listed_is, first_five_lem, closest_asked}
 use Rattle.listing.proofs.closest.Goals as goal
+
+pub returns-in_err-s : goal.returns-in_err-s
+returns-in_err-s c =
+    let a = c.args in
+    let s = a.s.now in
+    let target = a.target.now in
+    let v = c.in_err-s.ensures in
+    let n = rw v.ok_part at c.as_mut_array.ensures.cases in
+    lists_refused _ _ c.from_residual.ensures.1
+    (rw (size_told v.value v.ok_part)
+    (refused_first (closest_listing a.form target) a.n a.time a.out.now s (first_five target (form_codes a.form) (some a.time) s)
+    (closest_asked a.form target a.n a.time a.out.now s) 1 (five_unsized s n target (form_codes a.form) a.time)))
 
 pub returns-in_err-asked : goal.returns-in_err-asked
 returns-in_err-asked c =
     let a = c.args in
-    let s = a.s.now in
+    let s = c.in_ok-s.s.now in
     let target = a.target.now in
-    lists_refused _ _ c.from_residual.ensures.1
+    let w = rw c.in_ok-s.ensures.ok_part at c.as_mut_array.ensures.cases in
+    rw (← w.same)
+    (lists_refused _ _ c.from_residual-in_err-asked.ensures.1
     (refused_first (closest_listing a.form target) a.n a.time a.out.now s (first_five target (form_codes a.form) (some a.time) s)
-    (closest_asked a.form target a.n a.time a.out.now s) _ (first_five_lem target a.time s c.in_range.ensures (sym c.in_err-asked.ensures)))
+    (closest_asked a.form target a.n a.time a.out.now s) _ (first_five_lem target a.time s c.in_range.ensures (sym c.in_err-asked.ensures))))
 
-pub key_of-key-requires : goal.key_of-key-requires
-key_of-key-requires c =
+pub load-requires : goal.load-requires
+load-requires c =
     let a = c.args in
-    eqb-true _ _ (passed_five a.s.now a.target.now _ (some a.time) (sym c.in_ok-asked.ensures)).key_size_lem
+    eqb-true _ _ (passed_five c.in_ok-s.s.now a.target.now _ (some a.time) (sym c.in_ok-asked.ensures)).key_size_lem
 
 pub list-requires : goal.list-requires
 list-requires c =
     let a = c.args in
+    let s = c.in_ok-s.s.now in
     let q = sym c.in_ok-asked.ensures in
-    let p = passed_five a.s.now a.target.now _ (some a.time) q in
-    record { s_len = (p.size, p.header); timely = timely a.s.now a.target.now _ a.time q }
+    let p = passed_five s a.target.now _ (some a.time) q in
+    record { header = p.header; timely = timely s a.target.now _ a.time q }
 
 pub returns : goal.returns
 returns c =
     let a = c.args in
-    let s = a.s.now in
+    let s = c.in_ok-s.s.now in
     let target = a.target.now in
     let q = sym c.in_ok-asked.ensures in
-    listed_is (closest_listing a.form target) a.n a.time a.out.now s (first_five target (form_codes a.form) (some a.time) s)
+    let w = rw c.in_ok-s.ensures.ok_part at c.as_mut_array.ensures.cases in
+    rw (← w.same)
+    (listed_is (closest_listing a.form target) a.n a.time a.out.now s (first_five target (form_codes a.form) (some a.time) s)
     (closest_asked a.form target a.n a.time a.out.now s) (first_five_lem target a.time s c.in_range.ensures q)
-    (Shape.Closest c.key_of-key.result a.form) (closest_gives a.form target c.key_of-key.result c.key_of-key.ensures (table_of s) a.n a.time) c.list.ensures
+    (Shape.Closest c.load.result a.form) (closest_gives a.form target c.load.result c.load.ensures (table_of s) a.n a.time) c.list.ensures)

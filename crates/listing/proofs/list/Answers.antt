@@ -16,7 +16,7 @@ pub list_visited-requires : goal.list_visited-requires
 list_visited-requires c =
     let a = c.args in
     record {
-      s_len = c.requires.s_len;
+      header = c.requires.header;
       timely = c.requires.timely;
       visitable = rw c.visit_of.ensures (visitable_by a.shape (table_of a.s.now));
       n_le_max_count = room_fits a.shape a.n a.time a.out.now a.s.now (room_passes a.shape a.n a.time a.out.now a.s.now c.item_size.ensures c.in_ok-asked_output.ensures);

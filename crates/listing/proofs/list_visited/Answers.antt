@@ -1,29 +1,29 @@
 use Rattle.std.proofs.Common.{rules}
-use Rattle.visit.specs.Passes.{order, Told}
+use Rattle.visit.specs.Passes.{order}
 use Rattle.visit.proofs.Passes.{visit_appliable}
-use Rattle.items.proofs.Asked.{told_some, told_none, lists_refused}
-use Rattle.listing.proofs.Steps.{room_left, listed_malformed, listed_full, left_size, left_header, left_formed, left_fits, listed_found}
+use Rattle.items.proofs.Asked.{lists_refused}
+use Rattle.listing.proofs.Steps.{room_left, listed_malformed, listed_full, left_header, left_formed, left_fits, listed_found}
 use Rattle.listing.proofs.list_visited.Goals as goal
 
 pub returns-in_err-tally : goal.returns-in_err-tally
 returns-in_err-tally c =
     let a = c.args in
-    let t = told_none _ (Told a.time a.n (order a.visit) a.s.now) c.survey.result c.in_err-tally.ensures.value c.survey.ensures in
-    lists_refused _ _ c.from_residual.ensures.1 (rw t.1 (listed_malformed a.shape a.n a.time (order a.visit) a.out.now a.s.now t.0))
+    let e = c.in_err-tally.ensures in
+    lists_refused _ _ c.from_residual.ensures.1 (rw e.1 (listed_malformed a.shape a.n a.time (order a.visit) a.out.now a.s.now e.0))
 
 pub returns-in_err-asked_queue : goal.returns-in_err-asked_queue
 returns-in_err-asked_queue c =
     let a = c.args in
-    let y = told_some _ (Told a.time a.n (order a.visit) a.s.now) c.survey.result c.in_ok-tally.ensures.value c.survey.ensures in
+    let y = c.in_ok-tally.ensures in
     lists_refused _ _ c.from_residual-in_err-asked_queue.ensures.1 (listed_full a.shape a.n a.time (order a.visit) a.out.now a.s.now y.records y.formed _ c.in_err-asked_queue.ensures)
 
 pub apply_all-requires : goal.apply_all-requires
 apply_all-requires c =
     let a = c.args in
     let r = c.requires in
-    let y = told_some _ (Told a.time a.n (order a.visit) a.s.now) c.survey.result c.in_ok-tally.ensures.value c.survey.ensures in
+    let y = c.in_ok-tally.ensures in
     record {
-      s_len = r.s_len;
+      header = r.header;
       timely = r.timely;
       visitable = r.visitable;
       s_value = y.formed;
@@ -35,12 +35,12 @@ pub put_all-requires : goal.put_all-requires
 put_all-requires c =
     let a = c.args in
     let r = c.requires in
-    let y = told_some _ (Told a.time a.n (order a.visit) a.s.now) c.survey.result c.in_ok-tally.ensures.value c.survey.ensures in
+    let y = c.in_ok-tally.ensures in
     let is = order a.visit in
     let q = room_left a.shape a.n a.time is a.out.now a.s.now y.records c.in_ok-asked_queue.ensures in
-    let p = visit_appliable a.time a.n is a.s.now (λ j. search rules) r.s_len.0 r.s_len.1 r.timely r.visitable y.formed q in
+    let p = visit_appliable a.time a.n is a.s.now (λ j. search rules) c.told-s r.header r.timely r.visitable y.formed q in
     record {
-      s_len = (left_size a.shape a.n a.time is a.out.now a.s.now y.formed p c.apply_all.ensures, left_header a.shape a.n a.time is a.out.now a.s.now y.formed p c.apply_all.ensures);
+      header = left_header a.shape a.n a.time is a.out.now a.s.now y.formed p c.apply_all.ensures;
       visitable = r.visitable;
       visit_value = left_formed a.shape a.n a.time is a.out.now a.s.now y.formed p c.apply_all.ensures y.count;
       n_le_max_count = left_fits a.shape a.n a.time is a.out.now a.s.now y.formed p c.apply_all.ensures y.count r.n_le_max_count;
@@ -50,8 +50,8 @@ pub returns : goal.returns
 returns c =
     let a = c.args in
     let r = c.requires in
-    let y = told_some _ (Told a.time a.n (order a.visit) a.s.now) c.survey.result c.in_ok-tally.ensures.value c.survey.ensures in
+    let y = c.in_ok-tally.ensures in
     let is = order a.visit in
     let q = room_left a.shape a.n a.time is a.out.now a.s.now y.records c.in_ok-asked_queue.ensures in
-    let p = visit_appliable a.time a.n is a.s.now (λ j. search rules) r.s_len.0 r.s_len.1 r.timely r.visitable y.formed q in
+    let p = visit_appliable a.time a.n is a.s.now (λ j. search rules) c.told-s r.header r.timely r.visitable y.formed q in
     listed_found a.shape a.n a.time is a.out.now a.s.now y.formed p c.apply_all.ensures y.count q _ _ c.put_all.ensures

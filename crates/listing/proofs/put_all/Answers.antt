@@ -15,7 +15,7 @@ put_bucket-k-requires c =
     let w = rw c.in-Some.ensures.steps at v in
     let h : c.loop-i.k < a.n = omega arith in
     record {
-      ready = putting_ready a.shape a.s.now a.n _ a.out.now c.loop-i.out c.loop-i.k _ _ c.requires.s_len.0 c.requires.s_len.1 h w;
+      ready = putting_ready a.shape a.s.now a.n _ a.out.now c.loop-i.out c.loop-i.k _ _ c.told-s c.requires.header h w;
       k_le_n = v.within;
       n_le_max_count = c.requires.n_le_max_count.0;
       shape_in_bounds = rw v.size c.requires.n_le_max_count.1;

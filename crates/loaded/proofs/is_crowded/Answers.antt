@@ -1,5 +1,6 @@
-use Rattle.std.proofs.Common.{◌≡◌, ◌+◌, ◌*◌, ℕ, length-set, refl, subst, arith}
-use Rattle.model.specs.Sizes.{node_size}
+use Rattle.std.proofs.Common.{◌≡◌, ◌<◌, ℕ, List, get_or, length-set, refl, ap, ◌∙◌, subst, arith}
+use Rattle.model.specs.Sizes.{node_size, place_at}
+use Rattle.laws.proofs.Bytes.{Bytes_part}
 use Rattle.loaded.specs.Load.{NoThree, octet_at}
 use Rattle.loaded.proofs.Crowded.{seen_none, seen_more}
 use Rattle.loaded.proofs.is_crowded.Goals as goal
@@ -9,14 +10,14 @@ loop-j-init c = (refl, seen_none _ _)
 
 pub loop-j-preserved : goal.loop-j-preserved
 loop-j-preserved c =
-    let a = c.args in
     let l = c.loop-j in
-    let o : ℕ → ℕ = octet_at a.s.now a.at in
-    let e : c.from-octet.result ≡ o l.j = c.from-octet.ensures in
-    let b = (c.type_inv.s (a.at + (2 + l.j * node_size) + 34 + 3)).fits in
+    let bs = c.args.bucket.now in
+    let o : ℕ → ℕ = octet_at bs in
+    let e : c.from-octet.result ≡ o l.j = c.from-octet.ensures ∙ ap (λ (s : List ℕ). get_or s 37 0) c.place.ensures in
+    let b : c.from-octet.result < 256 = rw e (Bytes_part bs (place_at l.j) node_size c.fits-bucket 37) in
     (rw length-set l.invariant.0, rw e (seen_more o l.j l.seen l.invariant.1 (rw (← e) (omega (arith, b))) (rw (← e) (omega arith))))
 
 pub returns : goal.returns
 returns c =
-    let e : c.loop-j.j ≡ c.args.count = omega arith in
-    λ q. subst (NoThree (octet_at c.args.s.now c.args.at)) e c.loop-j.invariant.1.three
+    let e : c.loop-j.j ≡ get_or c.args.bucket.now 0 0 = omega arith in
+    λ q. subst (NoThree (octet_at c.args.bucket.now)) e c.loop-j.invariant.1.three

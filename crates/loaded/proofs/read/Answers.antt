@@ -1,43 +1,52 @@
-use Rattle.std.proofs.Common.{sym, ◌∙◌, rules}
+use Rattle.std.proofs.Common.{sym, rules}
 use Rattle.model.specs.Bytes.{Bytes}
+use Rattle.model.specs.Call.{Call}
 use Rattle.on_key.proofs.Questions.{passed_table}
-use Rattle.on_key.proofs.Ended.{refused_exit}
-use Rattle.loaded.proofs.Whole.{read_refused, read_unfit, read_long, read_sized, read_held, read_blank, read_loaded}
+use Rattle.on_key.proofs.Ended.{refused_exit, refused_size}
+use Rattle.loaded.proofs.Whole.{unfit_told, read_refused, read_unfit, read_held, read_blank, read_loaded}
 use Rattle.loaded.proofs.read.Goals as goal
+use Rattle.loaded.proofs.read.Goals.{In_ok-s}
+
+-- what stands in the storage are bytes
+known : (c : In_ok-s) → Bytes c.in_ok-s.s.now
+known c i = search rules
+
+pub returns-in_err-s : goal.returns-in_err-s
+returns-in_err-s c =
+    let v = c.in_err-s.ensures in
+    refused_size _ (Call.read c.args.bytes.now) c.from_residual.result v.value v.ok_part (rw v.ok_part at c.as_mut_array.ensures.cases) c.from_residual.ensures.1
 
 pub returns-in_err-asked_table : goal.returns-in_err-asked_table
 returns-in_err-asked_table c =
-    let a = c.args in
-    refused_exit _ _ _ c.from_residual.ensures.1 (read_refused a.s.now a.bytes.now _ (sym c.in_err-asked_table.ensures))
+    let w = rw c.in_ok-s.ensures.ok_part at c.as_mut_array.ensures.cases in
+    rw (← w.same)
+    (refused_exit _ _ _ c.from_residual-in_err-asked_table.ensures.1 (read_refused c.in_ok-s.s.now c.args.bytes.now _ (sym c.in_err-asked_table.ensures)))
 
-pub load_fits-requires : goal.load_fits-requires
-load_fits-requires c = let p = passed_table c.args.s.now (sym c.in_ok-asked_table.ensures) in (p.size, p.formed)
+pub fitting-requires : goal.fitting-requires
+fitting-requires c = (passed_table c.in_ok-s.s.now (sym c.in_ok-asked_table.ensures)).formed
 
-pub returns-then-not-load_fits : goal.returns-then-not-load_fits
-returns-then-not-load_fits c =
-    let a = c.args in
-    read_unfit a.s.now a.bytes.now (λ i. search rules) (sym c.in_ok-asked_table.ensures) (sym c.load_fits.ensures ∙ c.if-not-load_fits.true)
+pub returns-in_err-saved : goal.returns-in_err-saved
+returns-in_err-saved c =
+    let w = rw c.in_ok-s.ensures.ok_part at c.as_mut_array.ensures.cases in
+    let v = c.in_err-saved.ensures in
+    rw (← w.same)
+    (refused_exit _ _ _ c.from_residual-in_err-saved.ensures.1
+    (rw (unfit_told v.value v.ok_part) (read_unfit c.in_ok-s.s.now c.args.bytes.now (known (goal.at.returns-in_err-saved c).In_ok-s) (sym c.in_ok-asked_table.ensures) (rw v.ok_part at c.fitting.ensures))))
 
-pub saved_nodes-nodes-requires : goal.saved_nodes-nodes-requires
-saved_nodes-nodes-requires c =
-    let a = c.args in
-    read_long a.s.now a.bytes.now (λ i. search rules) (sym c.in_ok-asked_table.ensures) (λ i. (c.type_inv.bytes i).fits) (sym c.load_fits.ensures ∙ c.if-not-load_fits.false)
+pub load_all-requires-clause-held : goal.load_all-requires-clause-held
+load_all-requires-clause-held c =
+    let f = rw c.in_ok-saved.ensures.ok_part at c.fitting.ensures in
+    read_held c.in_ok-s.s.now c.args.bytes.now (known (goal.at.load_all-requires-clause-held c).In_ok-s) (sym c.in_ok-asked_table.ensures) (λ i. (c.type_inv.bytes i).fits) f.0 f.1
 
-pub load_all-requires : goal.load_all-requires
-load_all-requires c =
-    let a = c.args in
-    let known : Bytes a.s.now = λ i. search rules in
-    let given : Bytes a.bytes.now = λ i. (c.type_inv.bytes i).fits in
-    let e = sym c.in_ok-asked_table.ensures in
-    let f = sym c.load_fits.ensures ∙ c.if-not-load_fits.false in
-    record {
-      sized = read_sized a.s.now a.bytes.now known e given f _ c.saved_nodes-nodes.ensures.0;
-      held = read_held a.s.now a.bytes.now known e given f;
-      blank = read_blank a.s.now a.bytes.now known e given f;
-    }
+pub load_all-requires-clause-blank : goal.load_all-requires-clause-blank
+load_all-requires-clause-blank c =
+    let f = rw c.in_ok-saved.ensures.ok_part at c.fitting.ensures in
+    read_blank c.in_ok-s.s.now c.args.bytes.now (known (goal.at.load_all-requires-clause-blank c).In_ok-s) (sym c.in_ok-asked_table.ensures) (λ i. (c.type_inv.bytes i).fits) f.0
 
 pub returns : goal.returns
 returns c =
-    let a = c.args in
-    read_loaded a.s.now a.bytes.now (λ i. search rules) (sym c.in_ok-asked_table.ensures) (λ i. (c.type_inv.bytes i).fits)
-    (sym c.load_fits.ensures ∙ c.if-not-load_fits.false) _ c.saved_nodes-nodes.ensures.0 _ c.load_all.ensures
+    let w = rw c.in_ok-s.ensures.ok_part at c.as_mut_array.ensures.cases in
+    let f = rw c.in_ok-saved.ensures.ok_part at c.fitting.ensures in
+    rw (← w.same)
+    (read_loaded c.in_ok-s.s.now c.args.bytes.now (known (goal.at.returns c).In_ok-s) (sym c.in_ok-asked_table.ensures) (λ i. (c.type_inv.bytes i).fits) f.0 f.1 c.in_ok-saved.saved.counted
+    c.load_all.ensures)

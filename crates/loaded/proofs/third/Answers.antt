@@ -1,10 +1,8 @@
 use Rattle.std.proofs.Common.{Bool, ◌&&◌, refl, ◌∙◌, arith, rules}
 use Rattle.std.proofs.lemmas.Iterator.{YieldsList-from_range}
 use Rattle.std.proofs.lemmas.Iterator.Search.{any_from_yields_List}
-use Rattle.model.specs.Bytes.{part}
 use Rattle.model.specs.Node.{Node}
 use Rattle.model.specs.Filter.{counts}
-use Rattle.model.specs.Sizes.{bucket_size}
 use Rattle.node.specs.Node.{value_of}
 use Rattle.well_formed.specs.Tests.{node_at}
 use Rattle.loaded.specs.Load.{third_of}
@@ -15,7 +13,7 @@ pub returns : goal.returns
 unfolding third_of
 returns c =
     let a = c.args in
-    let bs = part a.s.now a.at bucket_size in
+    let bs = a.bucket.now in
     let passes : Node → Bool = λ n. counts (value_of a.a) n.value && counts (value_of a.b) n.value in
-    any_from_yields_List (λ j. passes (node_at bs j)) _ _ _ c.any.ensures.ran (YieldsList-from_range 0 a.count a.count refl (omega arith)) (λ x b q k. search rules)
-    ∙ any_listed a.s.now a.at passes a.count c.requires.1
+    any_from_yields_List (λ j. passes (node_at bs j)) _ _ _ c.any.ensures.ran (YieldsList-from_range 0 c.from.result _ refl (omega arith)) (λ x b q k. search rules)
+    ∙ any_listed passes bs c.from.ensures

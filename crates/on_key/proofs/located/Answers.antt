@@ -1,4 +1,4 @@
-use Rattle.std.proofs.Common.{◌≡◌, ℕ, List, sym, ap, ◌∙◌, arith}
+use Rattle.std.proofs.Common.{◌≡◌, ℕ, List, sym, ap, ◌∙◌}
 use Rattle.std.proofs.Math.Option.{some}
 use Rattle.model.specs.Bytes.{number}
 use Rattle.model.specs.Table.{index_in}
@@ -14,20 +14,20 @@ pub bucket_formed_at-requires : goal.bucket_formed_at-requires
 bucket_formed_at-requires c =
     let s = c.args.s.now in
     let key = c.args.key.now in
-    (omega arith, bucket_index_below (table_of s).settings.local_key (number key) c.in-Some.i (index_told s key c.key_of-k.ensures c.in-Some.ensures))
+    bucket_index_below (table_of s).settings.local_key (number key) c.in-Some.i (index_told s key c.load-k.ensures c.in-Some.ensures)
 
 pub returns : goal.returns
 returns c =
     let s = c.args.s.now in
     let key = c.args.key.now in
-    let at = index_told s key c.key_of-k.ensures c.in-Some.ensures in
+    let at = index_told s key c.load-k.ensures c.in-Some.ensures in
     record {
-      key_is = c.key_of-k.ensures;
+      key_is = c.load-k.ensures;
       index = at;
       ready =
           record {
-            size = c.requires.s_len.0;
-            header = c.requires.s_len.1;
+            size = c.told-s;
+            header = c.requires.s_value;
             below = bucket_index_below (table_of s).settings.local_key (number key) c.in-Some.i at;
             bucket = cc;
           };

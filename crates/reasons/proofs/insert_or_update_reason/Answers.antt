@@ -15,7 +15,8 @@ use Rattle.bucket.specs.Bucket.{bucket_of, settings_of}
 use Rattle.bucket.specs.Calls.{update_result_of}
 use Rattle.bucket.proofs.Steps.{told}
 use Rattle.bucket.proofs.Answers.{given_direction}
-use Rattle.reasons.proofs.Rules.{tells_as, not_failed, inserts, updates_failed, updates}
+use Rattle.bucket_update.proofs.Rules.{not_failed}
+use Rattle.reasons.proofs.Rules.{tells_as, inserts, updates_failed, updates}
 use Rattle.reasons.proofs.insert_or_update_reason.Goals as goal
 
 -- the direction of a node whose codes are in range is given

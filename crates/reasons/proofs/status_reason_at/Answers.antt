@@ -8,7 +8,7 @@ use Rattle.node.specs.Node.{node_of, zero_node}
 use Rattle.node.proofs.Stored.{node_of_restated}
 use Rattle.bucket.specs.Bucket.{bucket_of, settings_of, key_at}
 use Rattle.bucket.proofs.Steps.{told, get_at, put_into}
-use Rattle.reasons.proofs.Rules.{tells, status_held}
+use Rattle.reasons.proofs.Rules.{tells_as, status_held}
 use Rattle.reasons.proofs.status_reason_at.Goals as goal
 
 pub reinsert_reason-requires : goal.reinsert_reason-requires
@@ -23,8 +23,8 @@ returns c =
     let old = get_or b.nodes c.args.pos zero_node in
     let left = rules.taken_out k u (bucket_of b) in
     let x = put_into b _ _ c.requires.sound c.args.pos c.args.state c.requires.pos_lt_count c.taken_out-left.ensures c.without_pending-rest.ensures in
-    tells _ x.sound _ (λ bs.
-    c.reinsert_reason.ensures bs
-    ∙ told x (λ (s : rules.BucketSettings) (m : rules.Bucket). reinsert_reason s (node_of n.result) m)
+    tells_as _
+    (told x (λ (s : rules.BucketSettings) (m : rules.Bucket). reinsert_reason s (node_of n.result) m)
     ∙ ap (λ (y : model.Node). reinsert_reason (settings_of b) y left) (ap node_of n.ensures ∙ node_of_restated c.args.state c.args.direction old)
     ∙ status_held (settings_of b) k u (optional c.args.direction) (bucket_of b) (node_of old) (get_at b c.requires.sound c.args.pos c.requires.pos_lt_count))
+    c.reinsert_reason.ensures

@@ -1,13 +1,13 @@
 use mathlib.Core.Path.{◌≡◌, sym, ap, ◌∙◌}
-use mathlib.Core.Bool.{false, not, cond, ◌&&◌}
+use mathlib.Core.Bool.{false, not, ◌&&◌}
 use lib.ListN.{get_or}
 use Rattle.model.specs.Value.{same_value}
 use Rattle.model.specs.Bucket as rules
-use Rattle.model.specs.Explain.{Reason, bucket_filter_reason}
+use Rattle.model.specs.Explain.{bucket_filter_reason}
 use Rattle.node.specs.Node.{value_of, node_of, zero_node}
 use Rattle.bucket.specs.Bucket.{bucket_of, settings_of, key_at}
 use Rattle.bucket.proofs.Steps.{told, get_at}
-use Rattle.reasons.proofs.Rules.{tells, reason_if, value_tested}
+use Rattle.reasons.proofs.Rules.{tells_as, tells_if, value_tested}
 use Rattle.reasons.proofs.value_reason_at.Goals as goal
 use Rattle.reasons.proofs.value_reason_at.Goals.{then-not-eq, else-not-eq}
 
@@ -25,8 +25,5 @@ returns c =
       | then-not-eq w ↦ w.fails-is ∙ w.fails_filter-fails.ensures ∙ told y (λ (s : rules.BucketSettings) (m : rules.Bucket). rules.fails_bucket_filter s v m) ∙ rw (sym c.eq.ensures ∙ w.if-not-eq.true)
       | else-not-eq w ↦ let f : c.if-not-eq.fails ≡ false = w.fails-is ∙ ap not w.if-not-eq.false in f ∙ rw (sym c.eq.ensures ∙ w.if-not-eq.false)
     ] in
-    tells _ y.sound _ (λ bs.
     rw c.then_some.ensures
-    (reason_if bs (bucket_of c.taken_out-rest.result) v c.if-not-eq.fails _
-    ∙ ap (λ (m : rules.Bucket). cond c.if-not-eq.fails (bucket_filter_reason v m) Reason.None) y.bucket
-    ∙ value_tested s k v (bucket_of b) old at c.if-not-eq.fails e))
+    (tells_as _ (value_tested s k v (bucket_of b) old at c.if-not-eq.fails e) (tells_if c.if-not-eq.fails _ _ (λ bs. ap (bucket_filter_reason v) y.bucket) y.sound))

@@ -1,23 +1,79 @@
-use Rattle.model.specs.Layout.{table_of}
-use Rattle.on_key.proofs.Steps.{ready_at}
-use Rattle.saved.proofs.Fields.{appended_none}
-use Rattle.saved.proofs.Held.{held_none, bucket_fits, bucket_put}
+use Rattle.std.proofs.Common.{◌≡◌, ◌+◌, ◌-◌, ◌*◌, ◌≤◌, ℕ, List, length, sym, ap, ◌∙◌, arith}
+use Rattle.model.specs.Bytes.{splice}
+use Rattle.model.specs.Node.{Node}
+use Rattle.model.specs.Bucket.{nodes}
+use Rattle.model.specs.Table.{num_buckets, held_nodes}
+use Rattle.model.specs.Layout.{nodes_in, table_of}
+use Rattle.laws.proofs.Parts.{sliced, length_part}
+use Rattle.saved.specs.Fields.{field_size}
+use Rattle.saved.proofs.Fields.{written, written_none, written_more, written_all}
+use Rattle.saved.proofs.Held.{held_at, nodes_at, held_none, held_next, next_at, bucket_size_is, bucket_fits}
 use Rattle.saved.proofs.put_all.Goals as goal
 
 pub loop-i-init : goal.loop-i-init
-loop-i-init c = let a = c.args in rw (held_none (table_of a.s.now).buckets) (appended_none a.field a.out.now a.to)
+loop-i-init c = rw (held_none (table_of c.args.s.now).buckets) (omega arith, written_none c.args.field c.args.out.now)
 
-pub put_bucket-k-requires : goal.put_bucket-k-requires
-put_bucket-k-requires c =
+pub overflow_mul-end : goal.overflow_mul-end
+overflow_mul-end c =
     let a = c.args in
     let l = c.loop-i in
-    record {
-      ready = ready_at a.s.now l.i c.requires.s_len.0 c.requires.s_len.1 c.loop-i-test.true;
-      field_in_bounds = bucket_fits a.field (table_of a.s.now).buckets l.i a.out.now a.to c.loop-i-test.true c.requires.field_in_bounds l.invariant;
-    }
+    let bs = (table_of a.s.now).buckets in
+    let size = bucket_size_is bs l.i (field_size a.field) (c.from.ensures ∙ c.size_at.ensures) c.size-size.ensures in
+    let fits = bucket_fits bs l.i (field_size a.field) (length a.out.now) c.loop-i-test.true l.invariant.0 size c.requires.out_len in
+    record { fits = omega (arith, fits) }
+
+pub overflow_add-end : goal.overflow_add-end
+overflow_add-end c =
+    let a = c.args in
+    let l = c.loop-i in
+    let bs = (table_of a.s.now).buckets in
+    let size = bucket_size_is bs l.i (field_size a.field) (c.from.ensures ∙ c.size_at.ensures) c.size-size.ensures in
+    let fits = bucket_fits bs l.i (field_size a.field) (length a.out.now) c.loop-i-test.true l.invariant.0 size c.requires.out_len in
+    record { fits = omega (arith, fits) }
+
+pub slice_bounds-put_bucket-end : goal.slice_bounds-put_bucket-end
+slice_bounds-put_bucket-end c =
+    let a = c.args in
+    let l = c.loop-i in
+    let bs = (table_of a.s.now).buckets in
+    let size = bucket_size_is bs l.i (field_size a.field) (c.from.ensures ∙ c.size_at.ensures) c.size-size.ensures in
+    let fits = bucket_fits bs l.i (field_size a.field) (length a.out.now) c.loop-i-test.true l.invariant.0 size c.requires.out_len in
+    let h : l.at + c.from.result * c.size-size.result ≤ length l.out = omega (arith, fits, l.auto.out) in
+    h
+
+pub put_bucket-requires-clause-held : goal.put_bucket-requires-clause-held
+put_bucket-requires-clause-held c = rw c.bucket.ensures (held_at c.args.s.now c.loop-i.i c.requires.formed c.loop-i-test.true)
+
+pub put_bucket-requires-clause-out_len : goal.put_bucket-requires-clause-out_len
+put_bucket-requires-clause-out_len c =
+    let a = c.args in
+    let l = c.loop-i in
+    let bs = (table_of a.s.now).buckets in
+    let size = bucket_size_is bs l.i (field_size a.field) (c.from.ensures ∙ c.size_at.ensures) c.size-size.ensures in
+    let fits = bucket_fits bs l.i (field_size a.field) (length a.out.now) c.loop-i-test.true l.invariant.0 size c.requires.out_len in
+    let k = c.from.result * c.size-size.result in
+    ap length (sliced l.out l.at k) ∙ length_part l.out l.at k (omega (arith, fits, l.auto.out)) ∙ size
+    ∙ ap (λ (ns : List Node). length ns * field_size a.field) (nodes_at a.s.now l.i ∙ ap nodes_in (sym c.bucket.ensures))
 
 pub loop-i-preserved : goal.loop-i-preserved
 loop-i-preserved c =
     let a = c.args in
     let l = c.loop-i in
-    bucket_put a.field (table_of a.s.now).buckets l.i a.out.now a.to c.loop-i-test.true c.requires.field_in_bounds l.invariant c.put_bucket-k.ensures
+    let bs = (table_of a.s.now).buckets in
+    let size = bucket_size_is bs l.i (field_size a.field) (c.from.ensures ∙ c.size_at.ensures) c.size-size.ensures in
+    let fits = bucket_fits bs l.i (field_size a.field) (length a.out.now) c.loop-i-test.true l.invariant.0 size c.requires.out_len in
+    let k = c.from.result * c.size-size.result in
+    let ns : List Node = nodes (bs l.i) in
+    let put = c.put_bucket.ensures ∙ ap (λ (b : List ℕ). written a.field (nodes_in b)) c.bucket.ensures ∙ ap (written a.field) (sym (nodes_at a.s.now l.i)) in
+    let same : l.at + k - l.at ≡ length ns * field_size a.field = omega (arith, size) in (
+      next_at bs l.i (field_size a.field) l.invariant.0 size,
+      rw (held_next bs l.i) (written_more a.field a.out.now (held_nodes l.i bs) ns l.at (l.at + k - l.at) l.invariant.0 same (omega (arith, fits)) l.invariant.1 put),
+    )
+
+pub returns : goal.returns
+returns c =
+    let a = c.args in
+    let l = c.loop-i in
+    let bs = (table_of a.s.now).buckets in
+    let end : l.i ≡ num_buckets = omega arith in
+    written_all a.field a.out.now (held_nodes num_buckets bs) c.requires.out_len (l.invariant.1 ∙ ap (λ (i : ℕ). splice a.out.now 0 (written a.field (held_nodes i bs))) end)

@@ -1,51 +1,54 @@
-use Rattle.std.proofs.Common.{◌≡◌, ◌<◌, ℕ, List, get_or, ap, subst, ◌∙◌, arith}
+use Rattle.std.proofs.Common.{◌≡◌, ◌+◌, ◌-◌, ◌*◌, ◌≤◌, ◌∷◌, [], ℕ, List, length, get_or, sym, ap, ap₂, ◌∙◌, arith}
 use Rattle.model.specs.Base.{tabulate}
+use Rattle.model.specs.Bytes.{splice}
 use Rattle.model.specs.Node.{Node}
-use Rattle.model.specs.Sizes.{bucket_at}
-use Rattle.items.proofs.Shown.{held_at}
-use Rattle.saved.specs.Fields.{Appended}
-use Rattle.saved.proofs.Fields.{appended_none, place_fits, place_put}
-use Rattle.saved.proofs.Held.{node_from, length_held, places_are}
+use Rattle.model.specs.Layout.{node_in, nodes_in}
+use Rattle.laws.proofs.Lists.{length_tabulate, tabulate_one_more}
+use Rattle.items.specs.Run.{node_at}
+use Rattle.saved.specs.Fields.{field_bytes, field_size}
+use Rattle.saved.proofs.Fields.{written, slot_fits, written_one, written_none, written_more, written_all}
 use Rattle.saved.proofs.put_bucket.Goals as goal
 
 pub loop-j-init : goal.loop-j-init
 unfolding tabulate
-loop-j-init c = appended_none c.args.field c.args.out.now c.args.to
+loop-j-init c = written_none c.args.field c.args.out.now
 
-pub put_field-requires : goal.put_field-requires
-put_field-requires c =
-    let a = c.args in
-    let l = c.loop-j in
-    let h = held_at a.s.now a.i (λ j. (c.type_inv.s j).fits) c.requires.ready in
-    let lt : l.j < get_or a.s.now (bucket_at a.i) 0 = omega arith in
-    record {
-      node_size_in_bounds = omega (arith, h.few, h.inside);
-      node_size_value = h.codes l.j lt;
-      field_in_bounds =
-          place_fits a.field (node_from a.s.now (bucket_at a.i)) l.j _ a.out.now a.to lt (rw (length_held a.s.now a.i) at c.requires.field_in_bounds) l.invariant;
-    }
+pub overflow_mul-j : goal.overflow_mul-j
+overflow_mul-j c =
+    let fits = slot_fits c.args.field c.args.bucket.now c.loop-j.j _ c.size-size.ensures (omega arith) c.requires.out_len in
+    record { fits = omega (arith, fits) }
 
-pub overflow_add-k : goal.overflow_add-k
-overflow_add-k c =
-    let a = c.args in
-    let l = c.loop-j in
-    let lt : l.j < get_or a.s.now (bucket_at a.i) 0 = omega arith in
-    let fits = place_fits a.field (node_from a.s.now (bucket_at a.i)) l.j _ a.out.now a.to lt (rw (length_held a.s.now a.i) at c.requires.field_in_bounds) l.invariant in
-    record { fits = rw c.size-size.ensures (omega (arith, fits, l.invariant.size)) }
+pub overflow_mul-j-in-loop-j : goal.overflow_mul-j-in-loop-j
+overflow_mul-j-in-loop-j c =
+    let fits = slot_fits c.args.field c.args.bucket.now c.loop-j.j _ c.size-size.ensures (omega arith) c.requires.out_len in
+    record { fits = omega (arith, fits) }
+
+pub slice_bounds-put_field-end : goal.slice_bounds-put_field-end
+slice_bounds-put_field-end c =
+    let fits = slot_fits c.args.field c.args.bucket.now c.loop-j.j _ c.size-size.ensures (omega arith) c.requires.out_len in
+    let h : (c.loop-j.j + 1) * c.size-size.result ≤ length c.loop-j.out = omega (arith, fits, c.loop-j.auto.out) in
+    h
 
 pub loop-j-preserved : goal.loop-j-preserved
 loop-j-preserved c =
     let a = c.args in
     let l = c.loop-j in
-    let lt : l.j < get_or a.s.now (bucket_at a.i) 0 = omega arith in
-    place_put a.field (node_from a.s.now (bucket_at a.i)) l.j _ a.out.now a.to lt (rw (length_held a.s.now a.i) at c.requires.field_in_bounds) l.invariant c.size-size.ensures
-    c.put_field.ensures
+    let f = a.field in
+    let size = c.size-size.result in
+    let g : ℕ → Node = node_at a.bucket.now in
+    let fits = slot_fits f a.bucket.now l.j _ c.size-size.ensures (omega arith) c.requires.out_len in
+    let at : l.j * size ≡ length (tabulate l.j g) * field_size f = ap₂ ◌*◌ (sym (length_tabulate l.j g)) c.size-size.ensures in
+    let one : (l.j + 1) * size - l.j * size ≡ length (g l.j ∷ []) * field_size f = omega (arith, c.size-size.ensures) in
+    let put = c.put_field.ensures ∙ ap (λ (b : List ℕ). field_bytes f (node_in b)) c.place.ensures ∙ written_one f (g l.j) in
+    rw (tabulate_one_more l.j g)
+    (written_more f a.out.now (tabulate l.j g) (g l.j ∷ []) (l.j * size) ((l.j + 1) * size - l.j * size) at one
+    (omega (arith, fits)) l.invariant put)
 
 pub returns : goal.returns
+unfolding nodes_in
 returns c =
     let a = c.args in
     let l = c.loop-j in
-    let few = (held_at a.s.now a.i (λ j. (c.type_inv.s j).fits) c.requires.ready).few in
-    let e : l.j ≡ get_or a.s.now (bucket_at a.i) 0 = omega arith in
-    subst (λ (ns : List Node). Appended a.field ns a.out.now a.to l.out l.k)
-    (ap (λ (j : ℕ). tabulate j (node_from a.s.now (bucket_at a.i))) e ∙ places_are a.s.now a.i few) l.invariant
+    let end : l.j ≡ get_or a.bucket.now 0 0 = omega arith in
+    written_all a.field a.out.now (nodes_in a.bucket.now) c.requires.out_len
+    (l.invariant ∙ ap (λ (j : ℕ). splice a.out.now 0 (written a.field (tabulate j (node_at a.bucket.now)))) end)

@@ -1,7 +1,9 @@
+use Rattle.std.proofs.Common.{◌≡◌}
 use Rattle.model.specs.Base.{tabulate}
-use Rattle.saved.specs.Fields.{Appended}
-use Rattle.saved.proofs.Held.{node_from}
+use Rattle.model.specs.Bytes.{splice}
+use Rattle.items.specs.Run.{node_at}
+use Rattle.saved.proofs.Fields.{written}
 use Rattle.saved.proofs.put_bucket.Given as goal
 
 abbrev pub invariant-loop-j : goal.invariant-loop-j
-invariant-loop-j l = Appended l.field (tabulate l.j (node_from l.s l.at)) l.fn.out l.to l.out l.k
+invariant-loop-j l = l.out ≡ splice l.fn.out 0 (written l.field (tabulate l.j (node_at l.bucket)))

@@ -1,23 +1,22 @@
-use Rattle.std.proofs.Common.{ap, ◌∙◌, arith}
-use Rattle.model.specs.Bytes.{splice}
+use Rattle.std.proofs.Common.{◌∙◌, arith}
+use Rattle.model.specs.Bytes.{part}
+use Rattle.model.specs.Sizes.{key_size}
+use Rattle.model.specs.Saved.{saved_entry_size}
+use Rattle.laws.proofs.Parts.{length_part}
 use Rattle.saved.proofs.Fields.{size_key, size_entry, key_is, entry_is}
 use Rattle.saved.proofs.put_field.Goals as goal
 
 pub store-requires : goal.store-requires
-store-requires c = omega (arith, size_key c.in-Key.is, c.requires.field_in_bounds)
+store-requires c = c.requires.out_len ∙ size_key c.in-Key.is
 
 pub put_entry-requires : goal.put_entry-requires
-put_entry-requires c =
-    record {
-      saved_entry_size_in_bounds = omega arith;
-      saved_entry_size_in_bounds_2 = omega (arith, size_entry c.in-Entry.is, c.requires.field_in_bounds);
-    }
+unfolding part
+put_entry-requires c = (length_part c.args.node.now key_size saved_entry_size (omega arith), c.requires.out_len ∙ size_entry c.in-Entry.is)
 
 pub returns-in-Key : goal.returns-in-Key
-returns-in-Key c = let a = c.args in c.store.ensures ∙ ap (splice a.out.now a.to) (key_is a.s.now a.at c.in-Key.is c.load.ensures)
+unfolding part
+returns-in-Key c = c.store.ensures ∙ key_is c.args.node.now c.in-Key.is c.load.ensures
 
 pub returns-in-Entry : goal.returns-in-Entry
-returns-in-Entry c =
-    let a = c.args in
-    c.put_entry.ensures
-    ∙ ap (splice a.out.now a.to) (entry_is a.s.now a.at c.in-Entry.is (λ i. (c.type_inv.s i).fits) c.requires.node_size_in_bounds c.requires.node_size_value)
+unfolding part
+returns-in-Entry c = c.put_entry.ensures ∙ entry_is c.args.node.now c.fits-node c.told-node c.in-Entry.is c.requires.node_value

@@ -1,5 +1,8 @@
-use Rattle.storage.proofs.Nodes.{value_at}
+use Rattle.std.proofs.Common.{refl}
+use Rattle.model.specs.Bytes.{part}
+use Rattle.storage.specs.Read.{read_value}
 use Rattle.storage.proofs.load_value.Goals as goal
 
 pub returns : goal.returns
-returns c = rw (value_at c.args.s.now c.args.at) (cc)
+unfolding read_value part
+returns c = rw c.get_u64.ensures refl

@@ -1,31 +1,43 @@
-use Rattle.std.proofs.Common.{ℕ, ◌<◌, ◌^◌, ap, ◌∙◌, arith}
+use Rattle.std.proofs.Common.{ℕ, ◌≡◌, ◌<◌, ◌^◌, length, ap, ◌∙◌, arith}
 use borrow.Author.Tests.{eq-eqb, ne_eqb}
-use Rattle.model.specs.Sizes.{time_size}
+use Rattle.model.specs.Sizes.{time_size, storage_size}
+use Rattle.model.specs.Call.{Call}
 use Rattle.model.specs.Step.{settings_of}
 use Rattle.model.specs.Table.{empty_table}
 use Rattle.model.specs.Layout.{bytes_of}
-use Rattle.table.proofs.Whole.{new_size, new_key, new_codes, new_made}
+use Rattle.on_key.proofs.Ended.{refused_size}
+use Rattle.table.proofs.Whole.{new_key, new_codes, new_made}
 use Rattle.table.proofs.new.Goals as goal
 
-pub returns-then-s-ne-STORAGE : goal.returns-then-s-ne-STORAGE
-returns-then-s-ne-STORAGE c =
+pub returns-in_err-s : goal.returns-in_err-s
+returns-in_err-s c =
     let a = c.args in
-    new_size a.s.now a.local_key.now a.pending_timeout a.max_incoming a.table_filter a.bucket_filter (ne_eqb _ _ c.if-s-ne-STORAGE.true)
+    refused_size _ (Call.new a.local_key.now a.pending_timeout a.max_incoming a.table_filter a.bucket_filter) _ c.in_err-s.ensures.value c.in_err-s.ensures.ok_part
+    (rw c.in_err-s.ensures.ok_part at c.as_mut_array.ensures.cases) c.from_residual.ensures.1
 
 pub returns-then-local_key-ne-KEY : goal.returns-then-local_key-ne-KEY
 returns-then-local_key-ne-KEY c =
     let a = c.args in
-    new_key a.s.now a.local_key.now a.pending_timeout a.max_incoming a.table_filter a.bucket_filter (eq-eqb _ _ c.if-s-ne-STORAGE.false) (ne_eqb _ _ c.if-local_key-ne-KEY.true)
+    let w = rw c.in_ok-s.ensures.ok_part at c.as_mut_array.ensures.cases in
+    let l : length c.in_ok-s.s.now ≡ storage_size = ap length w.same ∙ w.long in
+    rw (← w.same)
+    (new_key c.in_ok-s.s.now a.local_key.now a.pending_timeout a.max_incoming a.table_filter a.bucket_filter (eq-eqb _ _ l) (ne_eqb _ _ c.if-local_key-ne-KEY.true))
 
 pub returns-then-not-codes : goal.returns-then-not-codes
 returns-then-not-codes c =
     let a = c.args in
-    new_codes a.s.now a.local_key.now a.pending_timeout a.max_incoming a.table_filter a.bucket_filter (eq-eqb _ _ c.if-s-ne-STORAGE.false) (eq-eqb _ _ c.if-local_key-ne-KEY.false) c.if-not-codes.true
+    let w = rw c.in_ok-s.ensures.ok_part at c.as_mut_array.ensures.cases in
+    let l : length c.in_ok-s.s.now ≡ storage_size = ap length w.same ∙ w.long in
+    rw (← w.same)
+    (new_codes c.in_ok-s.s.now a.local_key.now a.pending_timeout a.max_incoming a.table_filter a.bucket_filter (eq-eqb _ _ l) (eq-eqb _ _ c.if-local_key-ne-KEY.false) (rw c.from.ensures at c.if-not-codes.true))
 
 pub returns : goal.returns
 returns c =
     let a = c.args in
+    let w = rw c.in_ok-s.ensures.ok_part at c.as_mut_array.ensures.cases in
+    let l : length c.in_ok-s.s.now ≡ storage_size = ap length w.same ∙ w.long in
     let word : a.pending_timeout < 256 ^ time_size = omega arith in
-    new_made a.s.now a.local_key.now a.pending_timeout a.max_incoming a.table_filter a.bucket_filter (eq-eqb _ _ c.if-s-ne-STORAGE.false) (eq-eqb _ _ c.if-local_key-ne-KEY.false) c.if-not-codes.false
-    c.if-s-ne-STORAGE.false ((λ i. (c.type_inv.local_key i).fits), word) _
-    (c.clear.ensures ∙ ap (λ (n : ℕ). bytes_of (empty_table (settings_of n a.pending_timeout a.max_incoming a.table_filter a.bucket_filter))) c.key_of.ensures)
+    rw (← w.same)
+    (new_made c.in_ok-s.s.now a.local_key.now a.pending_timeout a.max_incoming a.table_filter a.bucket_filter (eq-eqb _ _ l) (eq-eqb _ _ c.if-local_key-ne-KEY.false) (rw c.from.ensures at c.if-not-codes.false)
+    l ((λ i. (c.type_inv.local_key i).fits), word) _
+    (c.clear.ensures ∙ ap (λ (n : ℕ). bytes_of (empty_table (settings_of n a.pending_timeout a.max_incoming a.table_filter a.bucket_filter))) c.load.ensures))

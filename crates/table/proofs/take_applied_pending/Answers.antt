@@ -1,22 +1,27 @@
 use Rattle.std.proofs.Common.{sym}
-use Rattle.std.proofs.lemmas.Result.{err_from_is_err_and}
+use Rattle.model.specs.Bytes.{Bytes}
+use Rattle.model.specs.Call.{Call}
 use Rattle.bucket.specs.Calls.{records_of}
 use Rattle.on_key.proofs.Questions.{passed_two}
+use Rattle.on_key.proofs.Ended.{refused_exit, refused_size}
 use Rattle.table.proofs.Whole.{take_refused, take_accepted}
 use Rattle.table.proofs.take_applied_pending.Goals as goal
 
+pub returns-in_err-s-clause-answers : goal.returns-in_err-s-clause-answers
+returns-in_err-s-clause-answers c =
+    refused_size _ Call.take_applied_pending _ c.in_err-s.ensures.value c.in_err-s.ensures.ok_part (rw c.in_err-s.ensures.ok_part at c.as_mut_array.ensures.cases) c.from_residual.ensures.1
+
 pub returns-in_err-asked_storage-clause-answers : goal.returns-in_err-asked_storage-clause-answers
 returns-in_err-asked_storage-clause-answers c =
-    let p = err_from_is_err_and c.from_residual.result c.from_residual.ensures.1 in
-    rw (p.1, p.2) (take_refused c.args.s.now _ (sym c.in_err-asked_storage.ensures))
+    let w = rw c.in_ok-s.ensures.ok_part at c.as_mut_array.ensures.cases in
+    rw (← w.same) (refused_exit _ _ _ c.from_residual-in_err-asked_storage.ensures.1 (take_refused c.in_ok-s.s.now _ (sym c.in_err-asked_storage.ensures)))
 
-pub take_record-requires-clause-s_len : goal.take_record-requires-clause-s_len
-take_record-requires-clause-s_len c = (passed_two c.args.s.now (sym c.in_ok-asked_storage.ensures)).size
-
-pub take_record-requires-clause-s_value : goal.take_record-requires-clause-s_value
-take_record-requires-clause-s_value c = (passed_two c.args.s.now (sym c.in_ok-asked_storage.ensures)).header
+pub take_record-requires : goal.take_record-requires
+take_record-requires c = (passed_two c.in_ok-s.s.now (sym c.in_ok-asked_storage.ensures)).header
 
 pub returns-clause-answers : goal.returns-clause-answers
 returns-clause-answers c =
+    let w = rw c.in_ok-s.ensures.ok_part at c.as_mut_array.ensures.cases in
+    let h : Bytes c.args.s.now = λ j. (c.slice_known-1.given j).fits in
     let x = c.take_record.ensures in
-    take_accepted c.args.s.now (λ j. (c.slice_known-1.given j).fits) (sym c.in_ok-asked_storage.ensures) (records_of c.take_record.result) x.result_value _ x.s_after
+    rw (← w.same) (take_accepted c.in_ok-s.s.now (rw (← w.same) at h) (sym c.in_ok-asked_storage.ensures) (records_of c.take_record.result) x.result_value _ x.s_after)

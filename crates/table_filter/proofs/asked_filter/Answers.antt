@@ -10,12 +10,12 @@ use Rattle.table_filter.proofs.asked_filter.Goals as goal
 
 pub returns-then-s-ne1 : goal.returns-then-s-ne1
 returns-then-s-ne1 c =
-    not_run c.args.s.now c.args.i (num c.args.key) (value_of c.args.value) c.requires.2 (rw (table_filter, ne_eqb (get_or c.args.s.now table_filter_at 0) 1 c.if-s-ne1.true))
+    not_run c.args.s.now c.args.i (num c.args.key) (value_of c.args.value) c.requires.1 (rw (table_filter, ne_eqb (get_or c.args.s.now table_filter_at 0) 1 c.if-s-ne1.true))
 
 pub returns-then-is_duplicate : goal.returns-then-is_duplicate
 returns-then-is_duplicate c =
     let d = sym c.is_duplicate.ensures ∙ c.if-is_duplicate.true in
-    not_run c.args.s.now c.args.i (num c.args.key) (value_of c.args.value) c.requires.2 (rw (table_filter, c.if-s-ne1.false, d))
+    not_run c.args.s.now c.args.i (num c.args.key) (value_of c.args.value) c.requires.1 (rw (table_filter, c.if-s-ne1.false, d))
 
 pub returns : goal.returns
 returns c =

@@ -33,14 +33,16 @@ returns-then-not-bucket_formed_at c =
     (every_formed c.args.s.now ∙ all_fails num_buckets (bucket_formed_at c.args.s.now) c.loop-i.i (omega arith) (sym c.bucket_formed_at.ensures ∙ c.if-not-bucket_formed_at.true), refl)
 
 pub counted-n-requires : goal.counted-n-requires
-counted-n-requires c = (omega arith, own_count c.args.s.now c.loop-i.i (sym c.bucket_formed_at.ensures ∙ c.if-not-bucket_formed_at.false))
+counted-n-requires c =
+    let f = own_count c.args.s.now c.loop-i.i (sym c.bucket_formed_at.ensures ∙ c.if-not-bucket_formed_at.false) in
+    rw c.bucket.ensures f
 
 pub loop-i-preserved : goal.loop-i-preserved
 loop-i-preserved c =
     let p = counts_other (num c.args.key) (value_of c.args.value) in
     let bs = (table_of c.args.s.now).buckets in
     let more = counted_bucket p bs c.loop-i.i in
-    let here : c.counted-n.result ≡ length (select p (nodes (bs c.loop-i.i))) = rw table_bucket c.counted-n.ensures.0 in
+    let here : c.counted-n.result ≡ length (select p (nodes (bs c.loop-i.i))) = rw (table_bucket, ← c.bucket.ensures) c.counted-n.ensures.0 in
     let passed : bucket_formed_at c.args.s.now c.loop-i.i ≡ true = sym c.bucket_formed_at.ensures ∙ c.if-not-bucket_formed_at.false in
     record { few = omega arith; asked = rw (all_more, c.loop-i.invariant.asked, passed); counted = omega arith }
 

@@ -1,6 +1,6 @@
 use Rattle.std.proofs.Common.{◌<◌, ◌-◌, ℕ, ap, ◌∙◌, arith}
 use Rattle.visit.specs.Passes.{order}
-use Rattle.visit.proofs.Passes.{visit_appliable, visiting_starts, visiting_nothing, visiting_timely, visiting_ready, visiting_room, visiting_size, visiting_next, visiting_ends, visiting_full}
+use Rattle.visit.proofs.Passes.{visit_appliable, visiting_starts, visiting_nothing, visiting_timely, visiting_ready, visiting_room, visiting_next, visiting_ends, visiting_full}
 use Rattle.visit.proofs.apply_all.Goals as goal
 
 pub returns-then-records-eq0 : goal.returns-then-records-eq0
@@ -8,14 +8,14 @@ returns-then-records-eq0 c =
     let a = c.args in
     let r = c.requires in
     visiting_nothing a.time a.n (order a.visit) a.s.now
-    (visit_appliable a.time a.n (order a.visit) a.s.now (λ j. (c.type_inv.s j).fits) r.s_len.0 r.s_len.1 r.timely r.visitable r.s_value r.s_len_bound)
+    (visit_appliable a.time a.n (order a.visit) a.s.now c.fits-s c.told-s r.header r.timely r.visitable r.s_value r.s_len_bound)
     r.records_value (omega arith)
 
 pub loop-i-init : goal.loop-i-init
 loop-i-init c =
     let a = c.args in
     let r = c.requires in
-    let p = visit_appliable a.time a.n (order a.visit) a.s.now (λ j. (c.type_inv.s j).fits) r.s_len.0 r.s_len.1 r.timely r.visitable r.s_value r.s_len_bound in
+    let p = visit_appliable a.time a.n (order a.visit) a.s.now c.fits-s c.told-s r.header r.timely r.visitable r.s_value r.s_len_bound in
     (p, rw c.into_iter-i-iterator.ensures.into_iter_gives (visiting_starts a.time a.n (order a.visit) a.s.now p))
 
 pub apply_in-requires : goal.apply_in-requires
@@ -35,10 +35,8 @@ held_at-requires c =
     let a = c.args in
     let p = c.loop-i.invariant.0 in
     let w = rw c.in-Some.ensures.steps at c.loop-i.invariant.1 in
-    let z : 0 < c.loop-i.left = omega arith in (
-      visiting_size a.time a.n (order a.visit) a.s.now p c.loop-i.s c.loop-i.left _ _ z w _ c.apply_in.ensures,
-      (visiting_ready a.time a.n (order a.visit) a.s.now p c.loop-i.s c.loop-i.left _ _ z w).below,
-    )
+    let z : 0 < c.loop-i.left = omega arith in
+    (visiting_ready a.time a.n (order a.visit) a.s.now p c.loop-i.s c.loop-i.left _ _ z w).below
 
 pub loop-i-preserved : goal.loop-i-preserved
 loop-i-preserved c =

@@ -1,9 +1,9 @@
-use Rattle.std.proofs.Common.{List, sym, ◌∙◌, rules}
+use Rattle.std.proofs.Common.{List, ◌∙◌}
 use mathlib.Core.Path.{ap₂}
 use Rattle.model.specs.Node.{EndedPending}
 use Rattle.model.specs.Bucket.{Bucket}
 use Rattle.on_key.specs.Answers.{rewritten}
-use Rattle.visit.proofs.Passes.{visit_room, visit_written, visit_unwritten}
+use Rattle.visit.proofs.Passes.{due_here, visit_room, visit_written, visit_unwritten}
 use Rattle.visit.proofs.apply_in.Goals as goal
 
 pub write_back-requires-clause-applied_value : goal.write_back-requires-clause-applied_value
@@ -19,5 +19,6 @@ returns-then-is_due c =
 
 pub returns-else-is_due : goal.returns-else-is_due
 returns-else-is_due c =
-    visit_unwritten c.args.s.now c.args.time c.args.i (λ j. search rules) c.requires.ready c.requires.timely c.requires.s_len_bound
-    (sym c.is_due.ensures ∙ c.if-is_due.false)
+    let a = c.args in
+    visit_unwritten a.s.now a.time a.i c.fits-s c.requires.ready c.requires.timely c.requires.s_len_bound
+    (due_here a.s.now a.time a.i c.bucket.ensures c.is_due.ensures c.if-is_due.false)

@@ -13,7 +13,7 @@ loop-i-init c =
 pub bucket_formed_at-requires : goal.bucket_formed_at-requires
 bucket_formed_at-requires c =
     let w = rw c.in-Some.ensures.steps at c.loop-i.invariant in
-    (omega (arith, c.requires.s_len.0), w.below.0)
+    w.below.0
 
 pub returns-then-not-bucket_formed_at : goal.returns-then-not-bucket_formed_at
 returns-then-not-bucket_formed_at c =
@@ -24,7 +24,7 @@ returns-then-not-bucket_formed_at c =
 pub count_at-c-requires-clause-ready : goal.count_at-c-requires-clause-ready
 count_at-c-requires-clause-ready c =
     let w = rw c.in-Some.ensures.steps at c.loop-i.invariant in
-    record { size = c.requires.s_len.0; header = c.requires.s_len.1; below = w.below.0; bucket = sym c.bucket_formed_at.ensures ∙ c.if-not-bucket_formed_at.false }
+    record { size = c.told-s; header = c.requires.header; below = w.below.0; bucket = sym c.bucket_formed_at.ensures ∙ c.if-not-bucket_formed_at.false }
 
 pub count_at-c-requires-clause-records_bound : goal.count_at-c-requires-clause-records_bound
 count_at-c-requires-clause-records_bound c =

@@ -1,7 +1,5 @@
 use Rattle.std.proofs.Common.{◌≡◌, ℕ, ◌<◌, length, get_or, true, false}
 use Rattle.model.specs.Base.{all_below}
-use Rattle.model.specs.Bytes.{part}
-use Rattle.model.specs.Sizes.{bucket_size}
 use Rattle.well_formed.specs.Tests.{differs}
 use Rattle.well_formed.proofs.Places.{last_at}
 use Rattle.well_formed.proofs.keys_differ.Given as goal
@@ -9,4 +7,4 @@ use Rattle.well_formed.proofs.keys_differ.Given as goal
 -- the last byte of each key before j is marked
 abbrev pub invariant-loop-j : goal.invariant-loop-j
 invariant-loop-j l =
-    (length l.seen ≡ 256) × (l.ok ≡ all_below l.j (differs (part l.s l.at bucket_size))) × ((k : ℕ) → k < l.j → get_or l.seen (last_at l.s l.at k) false ≡ true)
+    (length l.seen ≡ 256) × (l.ok ≡ all_below l.j (differs l.bucket)) × ((k : ℕ) → k < l.j → get_or l.seen (last_at l.bucket k) false ≡ true)

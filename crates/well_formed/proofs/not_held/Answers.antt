@@ -5,5 +5,4 @@ use Rattle.well_formed.proofs.KeyPlace.{not_held_by_place}
 use Rattle.well_formed.proofs.not_held.Goals as goal
 
 pub returns : goal.returns
-returns c =
-    ap (λ (x : ℕ). eqb x c.args.k) c.position.ensures ∙ not_held_by_place c.args.s.now c.args.at c.args.k (num c.args.key)
+returns c = ap (λ (x : ℕ). eqb x c.args.k) c.position.ensures ∙ not_held_by_place c.args.bucket.now c.args.k (num c.args.key)

@@ -1,9 +1,7 @@
 use Rattle.std.proofs.Common.{◌≡◌, true}
-use Rattle.model.specs.Bytes.{part}
-use Rattle.model.specs.Sizes.{bucket_size}
 use Rattle.model.specs.Formed.{not_held}
 use Rattle.key.specs.Key.{num}
 use Rattle.well_formed.proofs.position.Given as goal
 
 abbrev pub invariant-loop-j : goal.invariant-loop-j
-invariant-loop-j l = not_held (part l.s l.at bucket_size) l.j (num l.key) ≡ true
+invariant-loop-j l = not_held l.bucket l.j (num l.key) ≡ true

@@ -1,11 +1,13 @@
+use Rattle.std.proofs.Common.{arith}
+use Rattle.model.specs.Bytes.{part}
+use Rattle.words.proofs.Zero.{zero_bytes}
 use Rattle.well_formed.proofs.Buckets.{record_plain, record_evicting}
 use Rattle.well_formed.proofs.record_formed.Goals as goal
 
 pub returns-then-kind-eq-EVICTING_KIND : goal.returns-then-kind-eq-EVICTING_KIND
-returns-then-kind-eq-EVICTING_KIND c =
-    let a = c.args in
-    let n = c.load_node in
-    rw (record_evicting a.s.now a.at c.if-kind-eq-EVICTING_KIND.true n.result n.ensures) (cc)
+unfolding part
+returns-then-kind-eq-EVICTING_KIND c = rw (record_evicting c.args.s.now c.if-kind-eq-EVICTING_KIND.true c.load_node.result c.load_node.ensures) (cc)
 
 pub returns : goal.returns
-returns c = let a = c.args in rw (record_plain a.s.now a.at c.if-kind-eq-EVICTING_KIND.false) (cc)
+unfolding part
+returns c = rw (record_plain c.args.s.now c.if-kind-eq-EVICTING_KIND.false) (cc (zero_bytes c.args.s.now 33 47 (omega arith)))

@@ -3,4 +3,4 @@ use Rattle.model.specs.Formed.{are_zero}
 use Rattle.words.proofs.steps_zero.Given as goal
 
 abbrev pub invariant-loop-i : goal.invariant-loop-i
-invariant-loop-i g l = are_zero l.s l.at (l.i * g.row.STEP) ≡ true
+invariant-loop-i g l = are_zero l.s 0 (l.i * g.row.STEP) ≡ true

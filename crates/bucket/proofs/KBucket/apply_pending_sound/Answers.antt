@@ -16,6 +16,7 @@ use Rattle.bucket.proofs.Sound.{becomes_itself}
 use Rattle.bucket.proofs.Steps.{done_apply, told, then_becomes, pending_becomes}
 use Rattle.bucket.proofs.Rules.{apply_later, apply_due_lem}
 use Rattle.bucket.proofs.Answers.{pending_stored, pending_apart}
+use Rattle.bucket.proofs.KBucket.apply_pending_sound.Goals.{in_default-via-in-Some+else-pending-now, in_default-via-in_default}
 use Rattle.bucket.proofs.KBucket.apply_pending_sound.Goals as goal
 
 pub apply_due-requires : goal.apply_due-requires
@@ -55,14 +56,11 @@ pub returns-in_default : goal.returns-in_default
 returns-in_default c =
     let b = c.args.self in
     let s = settings_of b in
-    let d = done_apply s (rules.apply_pending s c.args.now (bucket_of b)) (bucket_of b) [] b
-    (apply_later s c.args.now (bucket_of b) _ (ap pending_of c.in-Some.is) c.if-pending-now.false) (becomes_itself b c.requires.sound) refl in
-    record { result_value = d.0; becomes = d.1.0; result_value_2 = d.1.1 }
-
-pub returns-in_default-2 : goal.returns-in_default-2
-returns-in_default-2 c =
-    let b = c.args.self in
-    let s = settings_of b in
-    let d = done_apply s (rules.apply_pending s c.args.now (bucket_of b)) (bucket_of b) [] b
-    (apply_none s c.args.now (bucket_of b) (ap pending_of c.in_default.is)) (becomes_itself b c.requires.sound) refl in
-    record { result_value = d.0; becomes = d.1.0; result_value_2 = d.1.1 }
+    let m = bucket_of b in
+    let later : rules.apply_pending s c.args.now m ≡ (m, []) =
+    elim c.in_default.branch [
+      | in_default-via-in-Some+else-pending-now w ↦ apply_later s c.args.now m _ (ap pending_of w.in-Some.is) w.if-pending-now.false
+      | in_default-via-in_default w ↦ apply_none s c.args.now m (ap pending_of w.in_default.is)
+    ] in
+    let d = done_apply s (rules.apply_pending s c.args.now m) m [] b later (becomes_itself b c.requires.sound) refl in
+    rw c.stays.ensures (record { result_value = d.0; becomes = d.1.0; result_value_2 = d.1.1 })

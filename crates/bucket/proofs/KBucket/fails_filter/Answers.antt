@@ -6,9 +6,9 @@ use Rattle.bucket.proofs.Steps.{filter_on, filter_off}
 use Rattle.bucket.proofs.KBucket.fails_filter.Goals as goal
 
 pub returns-then-self-eq1 : goal.returns-then-self-eq1
-returns-then-self-eq1 c = filter_on c.args.self c.args.value (eq-eqb _ _ c.if-self-eq1.true) _ c.ip_filter.ensures
+returns-then-self-eq1 c = filter_on c.args.self.now c.args.value (eq-eqb _ _ c.if-self-eq1.true) _ c.ip_filter.ensures
 
 pub returns-else-self-eq1 : goal.returns-else-self-eq1
 returns-else-self-eq1 c =
     let off = ne_eqb _ _ c.if-self-eq1.false in
-    off ∙ sym (filter_off (settings_of c.args.self) (value_of c.args.value) (bucket_of c.args.self) off)
+    off ∙ sym (filter_off (settings_of c.args.self.now) (value_of c.args.value) (bucket_of c.args.self.now) off)

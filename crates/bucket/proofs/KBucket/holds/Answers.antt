@@ -8,7 +8,7 @@ use Rattle.bucket.proofs.KBucket.holds.Goals as goal
 
 pub returns : goal.returns
 returns c =
-    let b = c.args.self in
+    let b = c.args.self.now in
     let k = num c.args.key in
     let e : c.position.result ≡ position k (held_of b) = omega (arith, c.position.ensures) in
     ap (λ (i : ℕ). ltb i b.count) e ∙ holds_is b c.requires k

@@ -18,7 +18,7 @@ returns-then-holds c =
     let now = c.args.now in
     let x = rules.insert s now n m in
     let d = done s x BucketInsertResult.NodeExists m b (insert_exists s now n m (sym c.holds.ensures ∙ c.if-holds.true)) (becomes_itself b c.requires.sound) in
-    record { result_value = d.0; becomes = d.1 }
+    rw c.stays.ensures (record { result_value = d.0; becomes = d.1 })
 
 pub returns-then-fails_filter : goal.returns-then-fails_filter
 returns-then-fails_filter c =
@@ -29,7 +29,7 @@ returns-then-fails_filter c =
     let now = c.args.now in
     let x = rules.insert s now n m in
     let d = done s x BucketInsertResult.FailedFilter m b (insert_filter s now n m (sym c.holds.ensures ∙ c.if-holds.false) (sym c.fails_filter.ensures ∙ c.if-fails_filter.true)) (becomes_itself b c.requires.sound) in
-    record { result_value = d.0; becomes = d.1 }
+    rw c.stays-then-fails_filter.ensures (record { result_value = d.0; becomes = d.1 })
 
 pub returns-then-is_max_incoming : goal.returns-then-is_max_incoming
 returns-then-is_max_incoming c =
@@ -40,7 +40,7 @@ returns-then-is_max_incoming c =
     let now = c.args.now in
     let x = rules.insert s now n m in
     let d = done s x BucketInsertResult.TooManyIncoming m b (insert_many s now n m (sym c.holds.ensures ∙ c.if-holds.false) (sym c.fails_filter.ensures ∙ c.if-fails_filter.false) (sym c.is_max_incoming.ensures ∙ c.if-is_max_incoming.true)) (becomes_itself b c.requires.sound) in
-    record { result_value = d.0; becomes = d.1 }
+    rw c.stays-then-is_max_incoming.ensures (record { result_value = d.0; becomes = d.1 })
 
 pub returns-then-self-lt-MAX_NODES_PER_BUCKET : goal.returns-then-self-lt-MAX_NODES_PER_BUCKET
 returns-then-self-lt-MAX_NODES_PER_BUCKET c =

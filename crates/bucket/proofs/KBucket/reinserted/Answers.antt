@@ -7,12 +7,12 @@ use Rattle.bucket.proofs.KBucket.reinserted.Goals as goal
 
 pub returns-then-fails_filter : goal.returns-then-fails_filter
 returns-then-fails_filter c =
-    rw (reinsert_filter (settings_of c.args.self) (node_of c.args.node) (bucket_of c.args.self) (sym c.fails_filter.ensures ∙ c.if-fails_filter.true))
+    rw (reinsert_filter (settings_of c.args.self) (node_of c.args.node) (bucket_of c.args.self) (sym c.fails_filter.ensures ∙ c.if-fails_filter.true), c.stays.ensures)
     (record { result_value = refl; becomes = becomes_itself c.args.self c.requires.sound })
 
 pub returns-then-is_max_incoming : goal.returns-then-is_max_incoming
 returns-then-is_max_incoming c =
-    rw (reinsert_many (settings_of c.args.self) (node_of c.args.node) (bucket_of c.args.self) (sym c.fails_filter.ensures ∙ c.if-fails_filter.false) (sym c.is_max_incoming.ensures ∙ c.if-is_max_incoming.true))
+    rw (reinsert_many (settings_of c.args.self) (node_of c.args.node) (bucket_of c.args.self) (sym c.fails_filter.ensures ∙ c.if-fails_filter.false) (sym c.is_max_incoming.ensures ∙ c.if-is_max_incoming.true), c.stays-then-is_max_incoming.ensures)
     (record { result_value = refl; becomes = becomes_itself c.args.self c.requires.sound })
 
 pub returns : goal.returns

@@ -40,4 +40,4 @@ returns c =
     let e : c.position-pos.result ≡ position k (held_of b) = omega (arith, c.position-pos.ensures) in
     let h : rules.holds k m ≡ false = sym (holds_is b c.requires.sound k) ∙ le-ltb _ _ (subst (λ (j : ℕ). b.count ≤ j) e c.if-pos-self.false) in
     let d = done s (rules.remove s c.args.now k m) false m b (remove_absent s c.args.now k m h) (becomes_itself b c.requires.sound) in
-    record { result_value = d.0; becomes = d.1 }
+    rw c.stays.ensures (record { result_value = d.0; becomes = d.1 })

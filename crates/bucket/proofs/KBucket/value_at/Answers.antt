@@ -25,7 +25,7 @@ returns-then-eq c =
     let at = get_at b c.requires.sound c.args.pos c.requires.pos_lt_count in
     let x = rules.update_value s k v m in
     let d = done s x UpdateResult.NotModified m b (value_same s k v m old at (sym c.eq.ensures ∙ c.if-eq.true)) (becomes_itself b c.requires.sound) in
-    record { result_value = d.0; becomes = d.1 }
+    rw c.stays.ensures (record { result_value = d.0; becomes = d.1 })
 
 pub returns-then-fails_filter : goal.returns-then-fails_filter
 returns-then-fails_filter c =

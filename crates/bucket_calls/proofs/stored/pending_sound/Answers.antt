@@ -1,9 +1,16 @@
-use Rattle.std.proofs.Common.{true}
+use Rattle.std.proofs.Common.{◌∙◌, ◌+◌, true, sym, arith}
+use Rattle.model.specs.Bytes.{part}
+use Rattle.model.specs.Sizes.{time_size, node_size, pending_at}
+use Rattle.words.proofs.Zero.{zero_bytes}
 use Rattle.well_formed.proofs.Places.{pending_none, pending_some}
 use Rattle.bucket_calls.proofs.stored.pending_sound.Goals as goal
 
 pub returns-then-flag-eq0 : goal.returns-then-flag-eq0
-returns-then-flag-eq0 c = rw (pending_none (λ k. true) c.args.s.now 0 c.if-flag-eq0.true) cc
+unfolding part
+returns-then-flag-eq0 c =
+    let bs = c.args.bucket.now in
+    c.all_zero.ensures ∙ zero_bytes bs (pending_at + 1) (node_size + time_size) (omega arith) ∙ sym (pending_none (λ k. true) bs c.if-flag-eq0.true)
 
 pub returns : goal.returns
-returns c = rw (pending_some (λ k. true) c.args.s.now 0 c.if-flag-eq0.false c.load_node-node.result c.load_node-node.ensures) cc
+unfolding part
+returns c = rw (pending_some (λ k. true) c.args.bucket.now c.if-flag-eq0.false c.load_node-node.result c.load_node-node.ensures) cc

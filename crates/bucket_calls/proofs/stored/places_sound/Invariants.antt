@@ -1,15 +1,13 @@
 use Rattle.std.proofs.Common.{◌≡◌, ◌≤◌, length}
 use Rattle.model.specs.Base.{all_below, tabulate}
-use Rattle.model.specs.Bytes.{part}
 use Rattle.model.specs.Bucket.{incoming_nodes}
-use Rattle.model.specs.Sizes.{bucket_size}
 use Rattle.well_formed.specs.Tests.{node_at}
 use Rattle.bucket_calls.specs.Lent.{place_sound}
 use Rattle.bucket_calls.proofs.stored.places_sound.Given as goal
 
 abbrev pub invariant-loop-j : goal.invariant-loop-j
 invariant-loop-j l = record {
-  sound : l.ok ≡ all_below l.j (place_sound l.first (part l.s 0 bucket_size));
+  sound : l.ok ≡ all_below l.j (place_sound l.first l.bucket);
   few : l.n ≤ l.j;
-  incoming : l.n ≡ length (incoming_nodes (tabulate l.j (node_at (part l.s 0 bucket_size))));
+  incoming : l.n ≡ length (incoming_nodes (tabulate l.j (node_at l.bucket)));
 }

@@ -6,7 +6,7 @@ use Rattle.distances.proofs.Written.{put_nothing, put_bucket_is}
 use Rattle.distances.proofs.pass.put_one.Goals as goal
 
 pub put_bucket-requires-clause-ready : goal.put_bucket-requires-clause-ready
-put_bucket-requires-clause-ready c = ready_of c.args.s.now c.args.d _ c.requires.holds (sym c.in-Some.ensures) c.requires.d_value
+put_bucket-requires-clause-ready c = ready_of c.args.s.now c.args.d _ (record { size = c.told-s; header = c.requires.header }) (sym c.in-Some.ensures) c.requires.d_value
 
 pub put_bucket-requires-clause-shape_in_bounds : goal.put_bucket-requires-clause-shape_in_bounds
 unfolding size_by

@@ -1,0 +1,7 @@
+-- The model's settings that Settings stands for.
+use Rattle.std.specs.Prelude.{eqb}
+use Rattle.model.specs.Bucket.{BucketSettings}
+use Rattle.bucket.specs.declared.settings.Settings.{Settings}
+
+abbrev pub settings_of : Settings → BucketSettings
+settings_of s = record { pending_timeout = s.pending_timeout; max_incoming = s.max_incoming; filter = eqb s.filter 1 }

@@ -1,7 +1,0 @@
-use Rattle.std.proofs.Common.{◌≡◌, ◌+◌}
-use Rattle.model.specs.Bytes.{splice}
-use Rattle.buckets.proofs.Put.{held_bytes}
-use Rattle.buckets.proofs.store_at.Given as goal
-
-abbrev pub invariant-loop-i : goal.invariant-loop-i
-invariant-loop-i l = l.s ≡ splice l.initial.s (l.at + 2) (held_bytes l.b.nodes l.i)

@@ -1,0 +1,8 @@
+use Rattle.model.specs.Base.{select, tabulate}
+use Rattle.model.specs.Explain.{keys_of}
+use Rattle.well_formed.specs.Tests.{node_at}
+use Rattle.explanation.specs.Put.{PutKeys, passes}
+use Rattle.explanation.proofs.put_stored.Given as goal
+
+abbrev pub invariant-loop-j : goal.invariant-loop-j
+invariant-loop-j l = PutKeys (keys_of (select (passes l.test) (tabulate l.j (node_at l.bucket)))) l.fn.out l.out l.n

@@ -1,6 +1,0 @@
-use Rattle.model.specs.Layout.{settings_in, table_of}
-use Rattle.header.proofs.pending_timeout.Goals as goal
-
-pub returns : goal.returns
-unfolding table_of settings_in
-returns c = c.get_u64.ensures

@@ -1,0 +1,135 @@
+// The bytes that the writer puts out: a size for each bucket, then the keys of all nodes, then their entries.
+ghost use Rattle.std.specs.Prelude.{◌≡◌, false, ◌++◌, ◌+◌, ◌*◌, ◌≤◌, ◌<◌, length, get_or, MatchOption};
+ghost use Rattle.model.specs.Bytes.{part, zeros};
+ghost use Rattle.model.specs.Bucket.{max_nodes_per_bucket};
+ghost use Rattle.model.specs.Table.{num_buckets};
+ghost use Rattle.model.specs.Sizes.{key_size, node_size, bucket_size};
+ghost use Rattle.model.specs.Saved.{saved_entry_size, sizes_below, saved_count, disconnected_from, loaded_bytes, length_fits};
+
+use key::Key;
+use storage::Layout;
+
+// An entry of the bytes: state, direction, value.
+const ENTRY: usize = Layout::NODE - Layout::KEY;
+
+// The bytes, whose length fits their sizes, and how many nodes they have.
+#[derive(Clone, Copy)]
+pub struct Saved<'a> {
+    pub bytes: &'a [u8],
+    pub nodes: usize,
+    pub ghost counted: { nodes ≡ saved_count bytes.now },
+    pub ghost sized: { length bytes.now ≡ num_buckets + nodes * node_size },
+}
+
+// Bucket i of the bytes, whose first node is that of index `from`.
+#[derive(Clone, Copy)]
+pub struct SavedBucket<'a> {
+    pub saved: Saved<'a>,
+    pub i: usize,
+    pub from: usize,
+    pub ghost below: { i < num_buckets },
+    pub ghost start: { from ≡ sizes_below saved.bytes.now i },
+}
+
+// The bytes of a node become its key and its entry. By words, of the entry's 15 bytes the eighth twice: `copy_from_slice` tests whether the
+// two overlap, which costs more in the loop that builds a bucket.
+fn copy_node(key: &[u8], entry: &[u8], node: &mut [u8])
+    requires { (length key.now ≡ key_size) × (length entry.now ≡ saved_entry_size) × (length node.old ≡ node_size) }
+    ensures { node.new ≡ key.now ++ entry.now }
+{
+    let key = Key::load(key);
+    let first = words::get_u64(&entry[0..8]);
+    let last = words::get_u64(&entry[ENTRY - 8..ENTRY]);
+    let (front, back) = node.split_at_mut(Layout::KEY);
+    key.store(front);
+    words::put_u64(&mut back[0..8], first);
+    words::put_u64(&mut back[ENTRY - 8..ENTRY], last);
+}
+
+// How many nodes the sizes say.
+fn saved_nodes(bytes: &[u8]) -> usize
+    requires { num_buckets ≤ length bytes.now }
+    ensures { (result ≡ saved_count bytes.now) × (result ≤ 255 * num_buckets) }
+{
+    let mut n: usize = 0;
+    for b in &bytes[..model::NUM_BUCKETS] {
+        n += usize::from(*b);
+    }
+    n
+}
+
+impl<'a> Saved<'a> {
+    // Internal: the bytes, where their length fits their sizes.
+    pub fn of(bytes: &'a [u8]) -> Option<Saved<'a>>
+        ensures { MatchOption result (length_fits bytes.now ≡ false) (λ x. x.bytes.now ≡ bytes.now) }
+    {
+        if bytes.len() < model::NUM_BUCKETS {
+            return None;
+        }
+        let nodes = saved_nodes(bytes);
+        if bytes.len() != model::NUM_BUCKETS + nodes * Layout::NODE {
+            return None;
+        }
+        Some(Saved { bytes, nodes })
+    }
+
+    // Internal: the key of node j of all.
+    pub fn key(self, j: usize) -> &'a [u8]
+        requires { j < self.nodes }
+        ensures key { result.now ≡ part self.entry.bytes.now (num_buckets + j * key_size) key_size }
+        ensures size { length result.now ≡ key_size }
+    {
+        let at = model::NUM_BUCKETS + j * Layout::KEY;
+        &self.bytes[at..at + Layout::KEY]
+    }
+
+    // Internal: the entry of node j of all.
+    pub fn entry(self, j: usize) -> &'a [u8]
+        requires { j < self.nodes }
+        ensures entry { result.now ≡ part self.entry.bytes.now (num_buckets + self.entry.nodes * key_size + j * saved_entry_size) saved_entry_size }
+        ensures size { length result.now ≡ saved_entry_size }
+    {
+        let at = model::NUM_BUCKETS + self.nodes * Layout::KEY + j * ENTRY;
+        &self.bytes[at..at + ENTRY]
+    }
+}
+
+impl<'a> SavedBucket<'a> {
+    // Internal: how many nodes it has.
+    pub fn count(self) -> usize
+        ensures count { result ≡ get_or self.entry.saved.bytes.now self.entry.i 0 }
+        ensures within { self.entry.from + result ≤ self.entry.saved.nodes }
+    {
+        usize::from(self.saved.bytes[self.i])
+    }
+
+    // Internal: of its nodes, those before the first that does not say disconnected.
+    pub fn disconnected(self) -> usize
+        ensures { result ≡ disconnected_from self.entry.saved.bytes.now self.entry.from (get_or self.entry.saved.bytes.now self.entry.i 0) }
+    {
+        let count = self.count();
+        for j in 0..count {
+            if self.saved.entry(self.from + j)[0] != 0 {
+                return j;
+            }
+        }
+        count
+    }
+
+    // Internal: the bucket as a table stores it, without a pending, put where all is zero.
+    pub fn build(self, bucket: &mut [u8])
+        requires bucket_value { bucket.old ≡ zeros bucket_size }
+        requires i_bound { get_or self.saved.bytes.now self.i 0 ≤ max_nodes_per_bucket }
+        ensures { bucket.new ≡ loaded_bytes self.entry.saved.bytes.now self.entry.i }
+    {
+        let count = self.count();
+        bucket[0] = count as u8;
+        bucket[1] = self.disconnected() as u8;
+        for j in 0..count {
+            let at = Layout::PLACES_AT + j * Layout::NODE;
+            let key = self.saved.key(self.from + j);
+            let entry = self.saved.entry(self.from + j);
+            copy_node(key, entry, &mut bucket[at..at + Layout::NODE]);
+        }
+    }
+}
