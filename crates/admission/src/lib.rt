@@ -17,7 +17,8 @@ use node::Refusal;
 use session::Hours;
 use storage::Layout;
 
-// Internal: the two questions. The key is looked for in the bucket as it is stored, nothing applied. With an empty window list neither is asked.
+// Internal: the two questions. The key is looked for in the bucket as it is stored, nothing applied. With an empty window list neither is
+// asked.
 pub fn asked(s: &[u8; Layout::STORAGE], i: usize, key: Key, hours: Hours) -> Result<(), Refusal>
     requires { Ready s.now i }
     ensures { failed_of result ≡ first_failed (hours_questions (hours_of hours.entry) (not (is_absent (kind_of (num key) ((table_of s.now).buckets i))))) }
@@ -25,7 +26,7 @@ pub fn asked(s: &[u8; Layout::STORAGE], i: usize, key: Key, hours: Hours) -> Res
     if hours.windows.is_empty() {
         return Ok(());
     }
-    let kind = entry::kind_of(buckets::load_bucket(s, i), key);
+    let kind = entry::kind_of(&buckets::load_bucket(s, i), key);
     let known = !matches!(kind, EntryKind::Absent);
     session::asked(hours, known)
 }

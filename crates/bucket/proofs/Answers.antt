@@ -69,7 +69,7 @@ module _ (b : KBucket) (s : Sound b) (p : PendingNode) (e : b.pending ≡ Some p
 -- what the step answers and leaves, where f makes of a stored node what g makes of the model's
 pub pending_step : (b : KBucket) → Sound b → (k : ℕ) (g : model.Node → model.Node) (f : Node → Node → Type 0) → ((n : model.Node) → (g n).key ≡ n.key)
     → ((n m : Node) → n ≡ stored_node (node_of n) → f n m → m ≡ stored_node (g (node_of n)))
-    → (p : code.Option PendingNode) → b.pending ≡ p → (r : Step UpdateResult) → changes_pending f k b p r
+    → (p : code.Option PendingNode) → b.pending ≡ p → (r : Step KBucket UpdateResult) → changes_pending f k b p r
     → (update_result_of r.result ≡ (update_if_pending k g (bucket_of b) (pending_of p)).0)
     × Becomes (settings_of b) (update_if_pending k g (bucket_of b) (pending_of p)).1 r.bucket
 pending_step b s k g f same-key changes None e r h = rw h (refl, becomes_itself b s)

@@ -1,9 +1,9 @@
 -- What a call on a bucket answers.
-use Prim.Native.Nat.{ℕ}
-use mathlib.Core.Path.{◌≡◌, refl, sym, ap, ◌∙◌}
+use mathlib.Core.Path.{◌≡◌, refl, sym, ap}
 use mathlib.Core.Option.{Option, none, some}
 use Rattle.std.proofs.Common.{Result, Ok, Err}
 use Rattle.model.specs.Result.{Reply}
+use Prim.Native.Nat.{ℕ}
 use Rattle.model.specs.Bucket.{Bucket}
 use Rattle.node.specs.declared.Refusal.{Refusal}
 use Rattle.node.specs.Refusal.{number_of, reply_of}
@@ -16,16 +16,12 @@ use Rattle.bucket.proofs.Sound.{becomes_stored}
 pairs : {A B : Type 0} {a a' : A} {b b' : B} → a ≡ a' → b ≡ b' → ◌≡◌ {A = A × B} (a, b) (a', b')
 pairs e f = cc
 
-module _ {A B : Type 0} (b : KBucket) (o : Option ℕ) (x : B × Bucket) (f : A → B) (s : Step (Result A Refusal)) where
+module _ {A B : Type 0} (b : KBucket) (o : Option ℕ) (x : B × Bucket) (f : A → B) (s : Step KBucket (Result A Refusal)) where
   -- a question failed: its number, and the bucket as it was
   pub refused : (r : Refusal) → some (number_of r) ≡ o → s ≡ record { bucket = b; result = Err r } → answered b o x ≡ (reply_of f s.result, s.bucket)
   refused r e h = rw (sym e, h) refl
 
   -- no question failed: what the rule answers, and what is stored of the bucket that it leaves
-  pub answers : (r : KBucket) → o ≡ none → s.bucket ≡ r → reply_of f s.result ≡ Reply.Answered x.0 → Becomes (settings_of b) x.1 r
+  pub accepted : (a : A) (r : KBucket) → o ≡ none → s ≡ record { bucket = r; result = Ok a } → f a ≡ x.0 → Becomes (settings_of b) x.1 r
       → answered b o x ≡ (reply_of f s.result, s.bucket)
-  answers r n g e y = rw (n, g) (pairs (sym e) (sym (becomes_stored y)))
-
-  pub accepted : (a : A) (r : KBucket) → o ≡ none → s.bucket ≡ r → s.result ≡ Ok a → f a ≡ x.0 → Becomes (settings_of b) x.1 r
-      → answered b o x ≡ (reply_of f s.result, s.bucket)
-  accepted a r n g h e y = answers r n g (ap (reply_of f) h ∙ ap Reply.Answered e) y
+  accepted a r n h e y = rw (n, h) (pairs (ap Reply.Answered (sym e)) (sym (becomes_stored y)))

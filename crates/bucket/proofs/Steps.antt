@@ -21,7 +21,6 @@ use Rattle.model.specs.Filter.{ip_filter_fails, max_nodes_per_subnet_bucket}
 use Rattle.model.specs.Bucket.{Bucket, BucketSettings, max_nodes_per_bucket, nodes, num_entries, is_full, get, holds, fails_bucket_filter, incoming_nodes, is_max_incoming, with_pending, cleared, only, placed, take_out, omit, is_first, revalue}
 use Rattle.model.specs.Fits.{Opt, Formed}
 use Rattle.model.specs.Bucket as rules
-use Rattle.model.specs.Call.{is_one}
 use Rattle.laws.proofs.KeepLists.{get_nodes, length_revalue}
 use Rattle.laws.proofs.Lists.{get_d_any}
 use Rattle.laws.proofs.KeepFormed.{count_nodes, count_put, placed_formed, take_out_formed, nodes_take_out, nodes_revalue, with_pending_formed}
@@ -41,6 +40,11 @@ use Rattle.bucket.proofs.Rules.{Open}
 use Rattle.bucket.proofs.Stored.{same_parts}
 use Rattle.bucket.proofs.Sound.{nodes_of, count_of, first_of, places_of, pending_of_lem, filter_of, held_count, first≤count, maximum_of, formed_of, becomes}
 
+-- other nodes, places and pending, under the settings of b
+abbrev pub renewed : List Node → ℕ → ℕ → code.Option PendingNode → KBucket → KBucket
+renewed ns count first p b =
+    record { nodes = ns; count = count; first_connected_pos = first; pending = p; pending_timeout = b.pending_timeout; max_incoming = b.max_incoming; filter = b.filter }
+
 -- what a step answers and leaves, where the model's rule is known to be that pair
 pub done : {A : Type 0} (s : BucketSettings) (x : A × Bucket) (a : A) (m : Bucket) (r : KBucket) → x ≡ (a, m) → Becomes s m r → (a ≡ x.0) × Becomes s x.1 r
 done s x a m r e b = (ap (λ y. y.0) (sym e), subst (λ (y : Bucket). Becomes s y r) (ap (λ y. y.1) (sym e)) b)
@@ -49,14 +53,14 @@ done s x a m r e b = (ap (λ y. y.0) (sym e), subst (λ (y : Bucket). Becomes s 
 pub by_rule : {A : Type 0} (s : BucketSettings) (x y : A × Bucket) (a : A) (r : KBucket) → x ≡ y → (a ≡ y.0) × Becomes s y.1 r → (a ≡ x.0) × Becomes s x.1 r
 by_rule s x y a r e h = subst (λ z. (a ≡ z.0) × Becomes s z.1 r) (sym e) h
 
--- the same of applying a pending, with the codes of its record
-pub done_apply : {C : Type 0} (s : BucketSettings) (x : Bucket × List model.EndedPending) (m : Bucket) (rs : List model.EndedPending) (r : KBucket) → x ≡ (m, rs) → Becomes s m r
-    → C → (rs ≡ x.1) × (Becomes s x.0 r × C)
-done_apply s x m rs r e b codes = (ap (λ y. y.1) (sym e), (subst (λ (y : Bucket). Becomes s y r) (ap (λ y. y.0) (sym e)) b, codes))
+-- the same of applying a pending
+pub done_apply : (s : BucketSettings) (x : Bucket × List model.EndedPending) (m : Bucket) (rs : List model.EndedPending) (r : KBucket) → x ≡ (m, rs) → Becomes s m r
+    → (rs ≡ x.1) × Becomes s x.0 r
+done_apply s x m rs r e b = (ap (λ y. y.1) (sym e), subst (λ (y : Bucket). Becomes s y r) (ap (λ y. y.0) (sym e)) b)
 
-pub by_apply : {C : Type 0} (s : BucketSettings) (x : Bucket × List model.EndedPending) (m : Bucket) (rs rs' : List model.EndedPending) (r : KBucket) → x ≡ (m, rs)
-    → (rs' ≡ rs) × (Becomes s m r × C) → (rs' ≡ x.1) × (Becomes s x.0 r × C)
-by_apply {C} s x m rs rs' r e h = subst (λ (z : Bucket × List model.EndedPending). (rs' ≡ z.1) × (Becomes s z.0 r × C)) (sym e) h
+pub by_apply : (s : BucketSettings) (x : Bucket × List model.EndedPending) (m : Bucket) (rs rs' : List model.EndedPending) (r : KBucket) → x ≡ (m, rs)
+    → (rs' ≡ rs) × Becomes s m r → (rs' ≡ x.1) × Becomes s x.0 r
+by_apply s x m rs rs' r e h = subst (λ (z : Bucket × List model.EndedPending). (rs' ≡ z.1) × Becomes s z.0 r) (sym e) h
 
 -- The place of a key.
 
@@ -146,7 +150,7 @@ module _ (b : KBucket) (s : Sound b) (room : b.count < max_nodes_per_bucket) (n 
 
   pub placed_connected : (node_of n).connected ≡ true → ns ≡ take max_nodes_per_bucket (insert_at b.count n b.nodes)
       → Becomes (settings_of b) (placed (node_of n) (bucket_of b))
-      (record { nodes = ns; count = b.count + 1; first_connected_pos = b.first_connected_pos; pending = p; pending_timeout = b.pending_timeout; max_incoming = b.max_incoming; filter = b.filter })
+      (renewed ns (b.count + 1) b.first_connected_pos p b)
   placed_connected on q =
       let e : nodes (placed (node_of n) (bucket_of b)) ≡ insert_at b.count (node_of n) (nodes (bucket_of b)) =
       put_connected (node_of n) (with_pending (cleared (num n.key) (bucket_of b).pending) (bucket_of b)) on
@@ -158,7 +162,7 @@ module _ (b : KBucket) (s : Sound b) (room : b.count < max_nodes_per_bucket) (n 
 
   pub placed_disconnected : (node_of n).connected ≡ false → ns ≡ take max_nodes_per_bucket (insert_at b.first_connected_pos n b.nodes)
       → Becomes (settings_of b) (placed (node_of n) (bucket_of b))
-      (record { nodes = ns; count = b.count + 1; first_connected_pos = b.first_connected_pos + 1; pending = p; pending_timeout = b.pending_timeout; max_incoming = b.max_incoming; filter = b.filter })
+      (renewed ns (b.count + 1) (b.first_connected_pos + 1) p b)
   placed_disconnected off q =
       let e : nodes (placed (node_of n) (bucket_of b)) ≡ insert_at b.first_connected_pos (node_of n) (nodes (bucket_of b)) =
       put_disconnected (node_of n) (with_pending (cleared (num n.key) (bucket_of b).pending) (bucket_of b)) off
@@ -184,7 +188,7 @@ module _ (b : KBucket) (s : Sound b) (k : ℕ) (pos : ℕ) (e : pos ≡ position
 
   pub taken_out : (ns : List Node) → ns ≡ remove_at pos b.nodes ++ (zero_node ∷ [])
       → Becomes (settings_of b) (take_out k (bucket_of b))
-      (record { nodes = ns; count = b.count - 1; first_connected_pos = b.first_connected_pos - bool_byte (ltb pos b.first_connected_pos); pending = b.pending; pending_timeout = b.pending_timeout; max_incoming = b.max_incoming; filter = b.filter })
+      (renewed ns (b.count - 1) (b.first_connected_pos - bool_byte (ltb pos b.first_connected_pos)) b.pending b)
   taken_out ns q =
       let xs = map stored_node (nodes (bucket_of b)) in
       let long : length xs ≡ b.count = length-map (nodes (bucket_of b)) stored_node ∙ nodes_count b s in
@@ -263,26 +267,13 @@ module _ {s : BucketSettings} {m : Bucket} {b : KBucket} (x : Becomes s m b) whe
   pub then_becomes : {r : KBucket} (F : BucketSettings → Bucket → Bucket) → Becomes (settings_of b) (F (settings_of b) (bucket_of b)) r → Becomes s (F s m) r
   then_becomes {r} F y = subst (λ (t : BucketSettings). Becomes t (F s m) r) x.settings (subst (λ (n : Bucket). Becomes (settings_of b) n r) (told F) y)
 
--- the pending goes, if told so
-pub unpended : (b : KBucket) → Sound b → (go : Bool) (p : Option model.PendingNode) → p ≡ (bucket_of b).pending
-    → Becomes (settings_of b) (with_pending (cond go none p) (bucket_of b)) (repending (cond go None b.pending) b)
-unpended b s true p e = pending_becomes b s None none refl tt
-unpended b s false p e =
-    pending_becomes b s b.pending p (pending_of_lem b s ∙ ap stored_pending (sym e)) (subst (Opt (λ (x : model.PendingNode). holds x.node.key (bucket_of b) ≡ false)) (sym e) (formed_of b s).pending_apart)
-
--- the bucket that a node which was taken out is put into again
-pub put_into : (b left rest : KBucket) → Sound b → (pos u : ℕ) → pos < b.count → Becomes (settings_of b) (take_out (key_at b pos) (bucket_of b)) left
-    → rest ≡ repending (cond (eqb u 1 && eqb pos 0) None left.pending) left
-    → Becomes (settings_of b) (rules.taken_out (key_at b pos) (is_one u) (bucket_of b)) rest
-put_into b left rest s pos u h x e =
-    let k = key_at b pos in
-    let go : Bool = eqb u 1 && eqb pos 0 in
-    let p = (bucket_of b).pending in
-    let y = unpended left x.sound go p (ap (λ (m : Bucket). m.pending) (sym x.bucket)) in
-    let z = subst (Becomes (settings_of left) (with_pending (cond go none p) (bucket_of left))) (sym e) y in
-    subst (λ (t : Bool). Becomes (settings_of b) (with_pending (cond (eqb u 1 && t) none p) (take_out k (bucket_of b))) rest)
-    (sym (first_at b s pos h))
-    (then_becomes x (λ (s : BucketSettings) (m : Bucket). with_pending (cond go none p) m) z)
+-- the bucket that a node which was taken out is put into again, by the test whether its pending goes
+pub put_into : (b : KBucket) → Sound b → (pos : ℕ) → pos < b.count → (u : Bool) {t : Bool} → (u && eqb pos 0) ≡ t → {r : KBucket}
+    → Becomes (settings_of b) (with_pending (cond t none (bucket_of b).pending) (take_out (key_at b pos) (bucket_of b))) r
+    → Becomes (settings_of b) (rules.taken_out (key_at b pos) u (bucket_of b)) r
+put_into b s pos h u {t} e {r} x =
+    let F : Bool → Type 0 = λ go. Becomes (settings_of b) (with_pending (cond go none (bucket_of b).pending) (take_out (key_at b pos) (bucket_of b))) r in
+    subst (λ (i : Bool). F (u && i)) (sym (first_at b s pos h)) (subst F (sym e) x)
 
 -- the disconnected nodes of a bucket, by the first connected place
 pub none_disconnected : (b : KBucket) → Sound b → b.first_connected_pos ≡ 0 → (bucket_of b).disconnected ≡ []
@@ -336,7 +327,7 @@ module _ (b : KBucket) (s : Sound b) (pos : ℕ) (h : pos < b.count) (v : Value)
 
   pub revalued_becomes : Formed b.max_incoming changed
       → Becomes (settings_of b) changed
-      (record { nodes = set b.nodes pos x; count = b.count; first_connected_pos = b.first_connected_pos; pending = b.pending; pending_timeout = b.pending_timeout; max_incoming = b.max_incoming; filter = b.filter })
+      (renewed (set b.nodes pos x) b.count b.first_connected_pos b.pending b)
   revalued_becomes w =
       let k = key_at b pos in
       let ns = nodes (bucket_of b) in

@@ -120,7 +120,7 @@ repending p b =
     }
 
 -- the step on a pending of key k answers and leaves r; f says what it makes of the node
-abbrev pub changes_pending : (Node → Node → Type 0) → ℕ → KBucket → code.Option PendingNode → Step UpdateResult → Type 0
+abbrev pub changes_pending : (Node → Node → Type 0) → ℕ → KBucket → code.Option PendingNode → Step KBucket UpdateResult → Type 0
 changes_pending f k b None r = r ≡ record { bucket = b; result = Failed KeyNonExistent }
 changes_pending f k b (Some p) r =
     (same (num p.node.key) k ≡ false → r ≡ record { bucket = b; result = Failed KeyNonExistent })

@@ -13,7 +13,6 @@ use Rattle.key.specs.Key.{num}
 use Rattle.node.specs.declared.Value.{Value}
 use Rattle.node.specs.declared.NodeStatus.{NodeStatus}
 use Rattle.node.specs.declared.Node.{Node}
-use Rattle.node.specs.declared.Refusal.{Refusal}
 use Rattle.node.specs.Node.{value_of, node_of, value_codes, node_codes}
 use Rattle.bucket.specs.declared.KBucket.{KBucket}
 use Rattle.bucket.specs.declared.InsertResult.{InsertResult}
@@ -54,7 +53,7 @@ update_result_of update-result.NotModified = result.UpdateResult.NotModified
 
 abbrev pub ending_of : Ending → model.Ending
 ending_of (ending.Placed None) = model.Ending.Placed none
-ending_of (ending.Placed (Some n)) = model.Ending.Placed (some (node_of n))
+ending_of (ending.Placed (Some n)) = model.Ending.Placed (some (node_of n.node))
 ending_of ending.FirstConnected = model.Ending.FirstConnected
 ending_of ending.BucketFilter = model.Ending.BucketFilter
 ending_of ending.TooManyIncoming = model.Ending.TooManyIncoming
@@ -65,26 +64,6 @@ ending_of ending.FirstConfirmed = model.Ending.FirstConfirmed
 abbrev pub records_of : code.Option EndedPending → List model.EndedPending
 records_of None = []
 records_of (Some e) = record { key = num e.key; ending = ending_of e.ending } ∷ []
-
--- 01, question 4: the codes of the node that was evicted, if one was
-abbrev pub ending_codes : Ending → Bool
-ending_codes (ending.Placed None) = true
-ending_codes (ending.Placed (Some n)) = node_codes n
-ending_codes ending.FirstConnected = true
-ending_codes ending.BucketFilter = true
-ending_codes ending.TooManyIncoming = true
-ending_codes ending.Inserted = true
-ending_codes ending.FirstConfirmed = true
-
--- the same of a record, if there is one
-abbrev pub applied_codes : code.Option EndedPending → Bool
-applied_codes None = true
-applied_codes (Some e) = ending_codes e.ending
-
--- the same of an answer
-abbrev pub apply_codes : Result (code.Option EndedPending) Refusal → Bool
-apply_codes (Err r) = true
-apply_codes (Ok e) = applied_codes e
 
 -- The calls. A refusal is the number alone, and the bucket comes back as it was.
 

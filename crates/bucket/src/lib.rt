@@ -2,27 +2,25 @@
 // the disconnected ones, then the connected ones.
 #![tactic(auto)]
 
-ghost use Rattle.std.specs.Prelude.{◌≡◌, None, Some, Ok, Err, true, false, cond, ℕ, ◌+◌, ◌≤◌, ◌<◌, ◌^◌, leb, eqb, length, take, get_or, [], ◌∷◌};
-ghost use Rattle.std.proofs.Math.Option.{Option, none, some};
-ghost use Rattle.model.specs.Base.{is_some};
-ghost use Rattle.model.specs.Value.{Value};
+ghost use Rattle.std.specs.Prelude.{◌≡◌, Some, Ok, Err, true, false, cond, ℕ, ◌+◌, ◌≤◌, ◌<◌, ◌^◌, get_or};
+ghost use Rattle.std.proofs.Math.Option.{none, some};
 ghost use Rattle.model.specs.Node as ends;
 ghost use Rattle.model.specs.Node.{placed_of, with_status, with_value, same_status};
-ghost use Rattle.model.specs.Bucket.{BucketSettings, max_nodes_per_bucket, empty_bucket, holds, fails_bucket_filter, is_max_incoming, placed, take_out, taken_out, insert_full, insert, apply_pending, apply_due, reinsert, update_status, update_status_of, update_if_pending, update_value, update_value_of, update_pending, remove, status_result, get};
+ghost use Rattle.model.specs.Bucket.{max_nodes_per_bucket, empty_bucket, holds, fails_bucket_filter, is_max_incoming, with_pending, placed, take_out, taken_out, insert_full, insert, apply_pending, apply_due, reinsert, update_status, update_if_pending, update_value, update_pending, remove, status_result};
 ghost use Rattle.model.specs.Call.{is_one, optional};
 ghost use Rattle.model.specs.Question.{first_failed, deadline_fits};
 ghost use Rattle.model.specs.Layout.{ending_kind};
 ghost use Rattle.key.specs.Key.{num, Words};
 ghost use Rattle.key.specs.Answers.{option_of};
-ghost use Rattle.node.specs.Node.{value_of, node_of, value_codes, node_codes, zero_node};
+ghost use Rattle.node.specs.Node.{value_of, node_of, node_codes, zero_node};
 ghost use Rattle.node.specs.Refusal.{failed_of, reply_of};
 ghost use Rattle.bucket.specs.Bucket.{pending_of, key_at, bucket_of, settings_of, stored, sound, Sound, Becomes, repending, cleared_pending, pending_fits, PendingWords, changes_pending};
-ghost use Rattle.bucket.specs.Calls.{questions, insert_result_of, update_result_of, ending_of, records_of, applied_codes, apply_codes, insert_call, apply_pending_call, update_status_call, update_value_call, update_pending_call, remove_call, new_call};
+ghost use Rattle.bucket.specs.Calls.{questions, insert_result_of, update_result_of, ending_of, records_of, insert_call, apply_pending_call, update_status_call, update_value_call, update_pending_call, remove_call, new_call};
 
 mod settings;
 
 use key::Key;
-use node::{Code, Node, NodeStatus, Refusal, Value};
+use node::{Code, Node, NodeInRange, NodeStatus, Refusal, StatusUpdate, Value, ValueInRange};
 pub use settings::Settings;
 
 // A node that is pending insertion into a full bucket. Without `==`, as all that holds a node: a value has none.
@@ -47,6 +45,13 @@ pub struct KBucket {
     pub max_incoming: usize,
     // The bucket's IP filter: 0 off, 1 on.
     pub filter: Code,
+}
+
+// A bucket that passed question 2, all but the index: behind that question each step takes one and answers one.
+#[derive(Clone, Copy)]
+pub struct SoundBucket {
+    pub bucket: KBucket,
+    pub ghost sound: { Sound bucket },
 }
 
 // The result of inserting a node.
@@ -86,7 +91,7 @@ pub enum UpdateResult {
 // filter, by the incoming limit; cleared by a direct insert of its key, or because place 0 was confirmed.
 #[derive(Clone, Copy)]
 pub enum Ending {
-    Placed(Option<Node>),
+    Placed(Option<NodeInRange>),
     FirstConnected,
     BucketFilter,
     TooManyIncoming,
@@ -103,8 +108,8 @@ pub struct EndedPending {
 
 // What a step on a bucket leaves and answers.
 #[derive(Clone, Copy)]
-pub struct Step<T> {
-    pub bucket: KBucket,
+pub struct Step<B, T> {
+    pub bucket: B,
     pub result: T,
 }
 
@@ -123,7 +128,11 @@ impl KBucket {
         + 1;
 
     // An empty bucket. Refuses a maximum over 16 or a filter over 1 with question 4.
-    pub fn new(pending_timeout: u64, max_incoming: usize, filter: Code) -> Step<Result<(), Refusal>>
+    pub fn new(
+        pending_timeout: u64,
+        max_incoming: usize,
+        filter: Code,
+    ) -> Step<KBucket, Result<(), Refusal>>
         ensures { new_call pending_timeout max_incoming filter ≡ (reply_of (λ u. u) result.result, result.bucket) }
     {
         if KBucket::MAX_NODES_PER_BUCKET < max_incoming || 1 < filter {
@@ -154,46 +163,6 @@ impl KBucket {
         }
     }
 
-    // Internal: does the bucket hold the key?
-    pub fn holds(&self, key: Key) -> bool
-        requires { Sound self.now }
-        ensures { result ≡ holds (num key) (bucket_of self.now) }
-    {
-        places::position(&self.nodes[..self.count], key) < self.count
-    }
-
-    // Internal: does the bucket filter fail?
-    pub fn fails_filter(&self, value: Value) -> bool
-        requires { Sound self.now }
-        ensures { result ≡ fails_bucket_filter (settings_of self.now) (value_of value) (bucket_of self.now) }
-    {
-        self.filter == 1
-            && !places::ip_filter(
-                &self.nodes[..self.count],
-                value,
-                node::filter::MAX_NODES_PER_SUBNET_BUCKET,
-            )
-    }
-
-    // Internal: is the node connected and incoming, with max_incoming such nodes held?
-    pub fn is_max_incoming(&self, node: Node) -> bool
-        requires { Sound self.now }
-        ensures { result ≡ is_max_incoming (settings_of self.now) (node_of node) (bucket_of self.now) }
-    {
-        node.is_connected_incoming()
-            && self.max_incoming <= places::incoming(&self.nodes[..self.count])
-    }
-
-    // A step that leaves the bucket as it is.
-    fn stays<T>(self, answer: T) -> Step<T>
-        ensures { result ≡ record { bucket = self; result = answer } }
-    {
-        Step {
-            bucket: self,
-            result: answer,
-        }
-    }
-
     // Internal: another pending, and all else as it is.
     pub fn with_pending(self, pending: Option<PendingNode>) -> KBucket
         ensures { result ≡ repending pending self }
@@ -201,229 +170,8 @@ impl KBucket {
         KBucket { pending, ..self }
     }
 
-    // Internal: places a node where there is room: connected at the end, disconnected just before the first connected. A pending of its key
-    // goes.
-    pub fn placed(self, node: Node) -> KBucket
-        requires sound { Sound self }
-        requires count_lt_max_nodes_per_bucket { self.count < max_nodes_per_bucket }
-        requires node_value { node_codes node ≡ true }
-        requires self_value { holds (num node.key) (bucket_of self) ≡ false }
-        requires self_value_2 { is_max_incoming (settings_of self) (node_of node) (bucket_of self) ≡ false }
-        ensures { Becomes (settings_of self) (placed (node_of node) (bucket_of self)) result }
-    {
-        let pending = cleared(node.key, self.pending);
-        if node.is_connected() {
-            return KBucket {
-                nodes: places::insert_at(self.nodes, self.count, node),
-                count: self.count + 1,
-                pending,
-                ..self
-            };
-        }
-        KBucket {
-            nodes: places::insert_at(self.nodes, self.first_connected_pos, node),
-            count: self.count + 1,
-            first_connected_pos: self.first_connected_pos + 1,
-            pending,
-            ..self
-        }
-    }
-
-    // Internal: takes out the node at place pos and closes the gap.
-    pub fn taken_out(self, pos: usize) -> KBucket
-        requires sound { Sound self }
-        requires pos_lt_count { pos < self.count }
-        ensures { Becomes (settings_of self) (take_out (key_at self pos) (bucket_of self)) result }
-    {
-        KBucket {
-            nodes: places::remove_at(self.nodes, pos),
-            count: self.count - 1,
-            first_connected_pos: self.first_connected_pos
-                - usize::from(pos < self.first_connected_pos),
-            ..self
-        }
-    }
-
-    // Internal: inserts a node into a sound bucket.
-    pub fn insert_sound(self, node: Node, now: u64) -> Step<InsertResult>
-        requires sound { Sound self }
-        requires node_value { node_codes node ≡ true }
-        requires pending_timeout_bound { now + self.pending_timeout < 2 ^ 64 }
-        ensures result_value { insert_result_of result.result ≡ (insert (settings_of self) now (node_of node) (bucket_of self)).0 }
-        ensures becomes { Becomes (settings_of self) (insert (settings_of self) now (node_of node) (bucket_of self)).1 result.bucket }
-    {
-        if self.holds(node.key) {
-            return self.stays(InsertResult::NodeExists);
-        }
-        if self.fails_filter(node.value) {
-            return self.stays(InsertResult::FailedFilter);
-        }
-        if self.is_max_incoming(node) {
-            return self.stays(InsertResult::TooManyIncoming);
-        }
-        if self.count < KBucket::MAX_NODES_PER_BUCKET {
-            return Step {
-                bucket: self.placed(node),
-                result: InsertResult::Inserted,
-            };
-        }
-        self.insert_full(node, now)
-    }
-
-    // Internal: what an insert of a node that is not held does with 16 held: the node becomes the pending, or nothing changes.
-    pub fn insert_full(self, node: Node, now: u64) -> Step<InsertResult>
-        requires sound { Sound self }
-        requires node_value { node_codes node ≡ true }
-        requires pending_timeout_bound { now + self.pending_timeout < 2 ^ 64 }
-        requires self_value { holds (num node.key) (bucket_of self) ≡ false }
-        ensures result_value { insert_result_of result.result ≡ (insert_full (settings_of self) now (node_of node) (bucket_of self) (node_of node).connected (bucket_of self).disconnected (bucket_of self).pending).0 }
-        ensures becomes { Becomes (settings_of self) (insert_full (settings_of self) now (node_of node) (bucket_of self) (node_of node).connected (bucket_of self).disconnected (bucket_of self).pending).1 result.bucket }
-    {
-        if !node.is_connected() || self.first_connected_pos == 0 || self.pending.is_some() {
-            return self.stays(InsertResult::Full);
-        }
-        let deadline = now + self.pending_timeout;
-        Step {
-            bucket: self.with_pending(Some(PendingNode { node, deadline })),
-            result: InsertResult::Pending(self.nodes[0].key),
-        }
-    }
-
-    // Internal: applies a due node, which is the pending no more, to a sound bucket.
-    pub fn apply_due(self, node: Node, now: u64) -> Step<Option<EndedPending>>
-        requires sound { Sound self }
-        requires node_value { node_codes node ≡ true }
-        requires pending_timeout_bound { now + self.pending_timeout < 2 ^ 64 }
-        requires pending_value { pending_of self.pending ≡ none }
-        requires self_value { holds (num node.key) (bucket_of self) ≡ false }
-        ensures result_value { records_of result.result ≡ (apply_due (settings_of self) now (node_of node) (bucket_of self)).1 }
-        ensures becomes { Becomes (settings_of self) (apply_due (settings_of self) now (node_of node) (bucket_of self)).0 result.bucket }
-        ensures result_value_2 { applied_codes result.result ≡ true }
-    {
-        let full = KBucket::MAX_NODES_PER_BUCKET <= self.count;
-        if full && self.first_connected_pos == 0 {
-            return self.dropped(node.key, Ending::FirstConnected);
-        }
-        if self.fails_filter(node.value) {
-            return self.dropped(node.key, Ending::BucketFilter);
-        }
-        if self.is_max_incoming(node) {
-            return self.dropped(node.key, Ending::TooManyIncoming);
-        }
-        if full {
-            return self.evict(node);
-        }
-        Step {
-            bucket: self.placed(node),
-            result: Some(EndedPending {
-                key: node.key,
-                ending: Ending::Placed(None),
-            }),
-        }
-    }
-
-    // The pending of this key is dropped, and the bucket is as it is.
-    fn dropped(self, key: Key, ending: Ending) -> Step<Option<EndedPending>>
-        ensures { result ≡ record { bucket = self; result = Some (record { key = key; ending = ending }) } }
-    {
-        self.stays(Some(EndedPending { key, ending }))
-    }
-
-    // Internal: a node that is not held in place of the node at place 0, which is disconnected.
-    pub fn evict(self, node: Node) -> Step<Option<EndedPending>>
-        requires sound { Sound self }
-        requires node_value { node_codes node ≡ true }
-        requires max_nodes_per_bucket_le_count { max_nodes_per_bucket ≤ self.count }
-        requires self_value { holds (num node.key) (bucket_of self) ≡ false }
-        requires self_value_2 { is_max_incoming (settings_of self) (node_of node) (bucket_of self) ≡ false }
-        ensures result_value { records_of result.result ≡ ends.ended (node_of node) (ends.Ending.Placed (some (node_of (get_or self.nodes 0 zero_node)))) }
-        ensures becomes { Becomes (settings_of self) (placed (node_of node) (take_out (key_at self 0) (bucket_of self))) result.bucket }
-        ensures result_value_2 { applied_codes result.result ≡ true }
-    {
-        let evicted = self.nodes[0];
-        let rest = self.taken_out(0);
-        Step {
-            bucket: rest.placed(node),
-            result: Some(EndedPending {
-                key: node.key,
-                ending: Ending::Placed(Some(evicted)),
-            }),
-        }
-    }
-
-    // Internal: applies the pending of a sound bucket when its deadline has come.
-    pub fn apply_pending_sound(self, now: u64) -> Step<Option<EndedPending>>
-        requires sound { Sound self }
-        requires pending_timeout_bound { now + self.pending_timeout < 2 ^ 64 }
-        ensures result_value { records_of result.result ≡ (apply_pending (settings_of self) now (bucket_of self)).1 }
-        ensures becomes { Becomes (settings_of self) (apply_pending (settings_of self) now (bucket_of self)).0 result.bucket }
-        ensures result_value_2 { applied_codes result.result ≡ true }
-    {
-        match self.pending {
-            Some(pending) if pending.deadline <= now => {
-                self.with_pending(None).apply_due(pending.node, now)
-            }
-            _ => self.stays(None),
-        }
-    }
-
-    // Internal: the status step on the node at place pos of a sound bucket.
-    pub fn status_at(self, pos: usize, state: Code, direction: Code) -> Step<UpdateResult>
-        requires sound { Sound self }
-        requires pos_lt_count { pos < self.count }
-        requires state_bound { state ≤ 1 }
-        requires direction_bound { direction ≤ 2 }
-        ensures result_value { update_result_of result.result ≡ (update_status (settings_of self) (key_at self pos) (is_one state) (optional direction) (bucket_of self)).0 }
-        ensures becomes { Becomes (settings_of self) (update_status (settings_of self) (key_at self pos) (is_one state) (optional direction) (bucket_of self)).1 result.bucket }
-    {
-        self.put_again(pos, self.nodes[pos].with_status(state, direction))
-    }
-
-    // Internal: takes out the node at place pos, and inserts one of its key. A pending goes where place 0 is confirmed.
-    pub fn put_again(self, pos: usize, node: Node) -> Step<UpdateResult>
-        requires sound { Sound self }
-        requires pos_lt_count { pos < self.count }
-        requires node_value { node_codes node ≡ true }
-        requires pos_value { key_at self pos ≡ num node.key }
-        ensures result_value { update_result_of result.result ≡ status_result (node_of (get_or self.nodes pos zero_node)) (node_of node) (reinsert (settings_of self) (node_of node) (taken_out (num node.key) (node_of node).connected (bucket_of self))).0 }
-        ensures becomes { Becomes (settings_of self) (reinsert (settings_of self) (node_of node) (taken_out (num node.key) (node_of node).connected (bucket_of self))).1 result.bucket }
-    {
-        let left = self
-            .taken_out(pos)
-            .without_pending(node.is_connected() & (pos == 0));
-        left.reinserted(self.nodes[pos], node)
-    }
-
-    // Inserts a node that was taken out, and that was `old` before. It stays out where a test fails.
-    fn reinserted(self, old: Node, node: Node) -> Step<UpdateResult>
-        requires sound { Sound self }
-        requires count_lt_max_nodes_per_bucket { self.count < max_nodes_per_bucket }
-        requires node_value { node_codes node ≡ true }
-        requires self_value { holds (num node.key) (bucket_of self) ≡ false }
-        ensures result_value { update_result_of result.result ≡ status_result (node_of old) (node_of node) (reinsert (settings_of self) (node_of node) (bucket_of self)).0 }
-        ensures becomes { Becomes (settings_of self) (reinsert (settings_of self) (node_of node) (bucket_of self)).1 result.bucket }
-    {
-        if self.fails_filter(node.value) {
-            return self.stays(UpdateResult::Failed(FailureReason::BucketFilter));
-        }
-        if self.is_max_incoming(node) {
-            return self.stays(UpdateResult::Failed(FailureReason::TooManyIncoming));
-        }
-        Step {
-            bucket: self.placed(node),
-            result: status_result(old, node),
-        }
-    }
-
-    // Internal: the pending goes, if told so. A method of its own: its callers take their step on what it leaves, in both cases the same.
-    pub fn without_pending(self, go: bool) -> KBucket
-        ensures { result ≡ repending (cond go None self.pending) self }
-    {
-        if go { self.with_pending(None) } else { self }
-    }
-
     // The step on a pending of this key; `f` is what it does to the node.
-    fn pending_changed<F: FnOnce(Node) -> Node>(self, key: Key, f: F) -> Step<UpdateResult>
+    fn pending_changed<F: FnOnce(Node) -> Node>(self, key: Key, f: F) -> Step<KBucket, UpdateResult>
         requires { F.IsAlwaysCallable f }
         ensures { changes_pending (F.post f) (num key) self self.pending result }
     {
@@ -435,119 +183,11 @@ impl KBucket {
                 })),
                 result: UpdateResult::UpdatedPending,
             },
-            _ => self.stays(UpdateResult::Failed(FailureReason::KeyNonExistent)),
+            _ => Step {
+                bucket: self,
+                result: UpdateResult::Failed(FailureReason::KeyNonExistent),
+            },
         }
-    }
-
-    // Internal: the status step on a pending of this key.
-    pub fn status_pending(self, key: Key, state: Code, direction: Code) -> Step<UpdateResult>
-        requires sound { Sound self }
-        requires state_bound { state ≤ 1 }
-        requires direction_bound { direction ≤ 2 }
-        ensures result_value { update_result_of result.result ≡ (update_if_pending (num key) (with_status (is_one state) (optional direction)) (bucket_of self) (pending_of self.pending)).0 }
-        ensures becomes { Becomes (settings_of self) (update_if_pending (num key) (with_status (is_one state) (optional direction)) (bucket_of self) (pending_of self.pending)).1 result.bucket }
-    {
-        self.pending_changed(key, |node| node.with_status(state, direction))
-    }
-
-    // Internal: update_status on a sound bucket; direction 2 is none given.
-    pub fn update_status_sound(self, key: Key, state: Code, direction: Code) -> Step<UpdateResult>
-        requires sound { Sound self }
-        requires state_bound { state ≤ 1 }
-        requires direction_bound { direction ≤ 2 }
-        ensures result_value { update_result_of result.result ≡ (update_status (settings_of self) (num key) (is_one state) (optional direction) (bucket_of self)).0 }
-        ensures becomes { Becomes (settings_of self) (update_status (settings_of self) (num key) (is_one state) (optional direction) (bucket_of self)).1 result.bucket }
-    {
-        let pos = places::position(&self.nodes[..self.count], key);
-        if pos < self.count {
-            return self.status_at(pos, state, direction);
-        }
-        self.status_pending(key, state, direction)
-    }
-
-    // Internal: the value step on the node at place pos of a sound bucket.
-    pub fn value_at(mut self, pos: usize, value: Value) -> Step<UpdateResult>
-        requires sound { Sound self }
-        requires pos_lt_count { pos < self.count }
-        requires value_value { value_codes value ≡ true }
-        ensures result_value { update_result_of result.result ≡ (update_value (settings_of self) (key_at self pos) (value_of value) (bucket_of self)).0 }
-        ensures becomes { Becomes (settings_of self) (update_value (settings_of self) (key_at self pos) (value_of value) (bucket_of self)).1 result.bucket }
-    {
-        let old = self.nodes[pos];
-        if old.value.eq(value) {
-            return self.stays(UpdateResult::NotModified);
-        }
-        if self.filter == 1 {
-            let rest = self.taken_out(pos);
-            if rest.fails_filter(value) {
-                return Step {
-                    bucket: rest,
-                    result: UpdateResult::Failed(FailureReason::BucketFilter),
-                };
-            }
-        }
-        self.nodes[pos] = old.with_value(value);
-        Step {
-            bucket: self,
-            result: UpdateResult::Updated,
-        }
-    }
-
-    // Internal: the value step on a pending of this key.
-    pub fn value_pending(self, key: Key, value: Value) -> Step<UpdateResult>
-        requires sound { Sound self }
-        requires value_value { value_codes value ≡ true }
-        ensures result_value { update_result_of result.result ≡ (update_if_pending (num key) (with_value (value_of value)) (bucket_of self) (pending_of self.pending)).0 }
-        ensures becomes { Becomes (settings_of self) (update_if_pending (num key) (with_value (value_of value)) (bucket_of self) (pending_of self.pending)).1 result.bucket }
-    {
-        self.pending_changed(key, |node| node.with_value(value))
-    }
-
-    // Internal: update_value on a sound bucket.
-    pub fn update_value_sound(self, key: Key, value: Value) -> Step<UpdateResult>
-        requires sound { Sound self }
-        requires value_value { value_codes value ≡ true }
-        ensures result_value { update_result_of result.result ≡ (update_value (settings_of self) (num key) (value_of value) (bucket_of self)).0 }
-        ensures becomes { Becomes (settings_of self) (update_value (settings_of self) (num key) (value_of value) (bucket_of self)).1 result.bucket }
-    {
-        let pos = places::position(&self.nodes[..self.count], key);
-        if pos < self.count {
-            return self.value_at(pos, value);
-        }
-        self.value_pending(key, value)
-    }
-
-    // Internal: update_pending on a sound bucket.
-    pub fn update_pending_sound(self, state: Code, direction: Code) -> KBucket
-        requires sound { Sound self }
-        requires state_bound { state ≤ 1 }
-        requires direction_bound { direction ≤ 1 }
-        ensures { Becomes (settings_of self) (update_pending (is_one state) (is_one direction) (bucket_of self)) result }
-    {
-        match self.pending {
-            None => self,
-            Some(pending) => self.with_pending(Some(PendingNode {
-                node: pending.node.with_status(state, direction),
-                ..pending
-            })),
-        }
-    }
-
-    // Internal: remove on a sound bucket.
-    pub fn remove_sound(self, key: Key, now: u64) -> Step<bool>
-        requires sound { Sound self }
-        requires pending_timeout_bound { now + self.pending_timeout < 2 ^ 64 }
-        ensures result_value { result.result ≡ (remove (settings_of self) now (num key) (bucket_of self)).0 }
-        ensures becomes { Becomes (settings_of self) (remove (settings_of self) now (num key) (bucket_of self)).1 result.bucket }
-    {
-        let pos = places::position(&self.nodes[..self.count], key);
-        if pos < self.count {
-            return Step {
-                bucket: self.taken_out(pos).apply_pending_sound(now).bucket,
-                result: true,
-            };
-        }
-        self.stays(false)
     }
 
     // Question 2, all but the index.
@@ -584,26 +224,38 @@ impl KBucket {
         asked_time(self.pending_timeout, now)
     }
 
+    // A refused call: the bucket is as it is.
+    fn refused<T>(self, refusal: Refusal) -> Step<KBucket, Result<T, Refusal>>
+        ensures { result ≡ record { bucket = self; result = Err refusal } }
+    {
+        Step {
+            bucket: self,
+            result: Err(refusal),
+        }
+    }
+
     // Inserts a node: the first match of 01, Insert.
-    pub fn insert(self, node: Node, now: u64) -> Step<Result<InsertResult, Refusal>>
+    pub fn insert(self, node: Node, now: u64) -> Step<KBucket, Result<InsertResult, Refusal>>
         ensures { insert_call self node now ≡ (reply_of insert_result_of result.result, result.bucket) }
     {
         match self.asked(node.in_range(), Some(now)) {
-            Ok(()) => self.insert_sound(node, now).map(Ok),
-            Err(refusal) => self.stays(Err(refusal)),
+            Ok(()) => SoundBucket { bucket: self }
+                .insert(NodeInRange { node }, now)
+                .answered(),
+            Err(refusal) => self.refused(refusal),
         }
     }
 
     // Applies the pending when its deadline has come. A drop leaves no record (01, Apply pending).
-    pub fn apply_pending(self, now: u64) -> Step<Result<Option<EndedPending>, Refusal>>
-        ensures value { apply_pending_call self now ≡ (reply_of records_of result.result, result.bucket) }
-        ensures result_value { apply_codes result.result ≡ true }
+    pub fn apply_pending(self, now: u64) -> Step<KBucket, Result<Option<EndedPending>, Refusal>>
+        ensures { apply_pending_call self now ≡ (reply_of records_of result.result, result.bucket) }
     {
         match self.asked(true, Some(now)) {
-            Ok(()) => self
-                .apply_pending_sound(now)
-                .map(|ended| Ok(only_placed(ended))),
-            Err(refusal) => self.stays(Err(refusal)),
+            Ok(()) => {
+                let step = SoundBucket { bucket: self }.apply_pending(now);
+                step.map(only_placed).answered()
+            }
+            Err(refusal) => self.refused(refusal),
         }
     }
 
@@ -613,52 +265,458 @@ impl KBucket {
         key: Key,
         state: Code,
         direction: Code,
-    ) -> Step<Result<UpdateResult, Refusal>>
+    ) -> Step<KBucket, Result<UpdateResult, Refusal>>
         ensures { update_status_call self key state direction ≡ (reply_of update_result_of result.result, result.bucket) }
     {
         match self.asked((state <= 1) & (direction <= 2), None) {
-            Ok(()) => self.update_status_sound(key, state, direction).map(Ok),
-            Err(refusal) => self.stays(Err(refusal)),
+            Ok(()) => SoundBucket { bucket: self }
+                .update_status(key, StatusUpdate { state, direction })
+                .answered(),
+            Err(refusal) => self.refused(refusal),
         }
     }
 
     // Changes the value of the node of the key, in its place.
-    pub fn update_value(self, key: Key, value: Value) -> Step<Result<UpdateResult, Refusal>>
+    pub fn update_value(
+        self,
+        key: Key,
+        value: Value,
+    ) -> Step<KBucket, Result<UpdateResult, Refusal>>
         ensures { update_value_call self key value ≡ (reply_of update_result_of result.result, result.bucket) }
     {
         match self.asked(value.in_range(), None) {
-            Ok(()) => self.update_value_sound(key, value).map(Ok),
-            Err(refusal) => self.stays(Err(refusal)),
+            Ok(()) => SoundBucket { bucket: self }
+                .update_value(key, ValueInRange { value })
+                .answered(),
+            Err(refusal) => self.refused(refusal),
         }
     }
 
     // Sets the status of the pending, if any.
-    pub fn update_pending(self, status: NodeStatus) -> Step<Result<(), Refusal>>
+    pub fn update_pending(self, status: NodeStatus) -> Step<KBucket, Result<(), Refusal>>
         ensures { update_pending_call self status ≡ (reply_of (λ u. u) result.result, result.bucket) }
     {
         match self.asked((status.state <= 1) & (status.direction <= 1), None) {
-            Ok(()) => Step {
-                bucket: self.update_pending_sound(status.state, status.direction),
-                result: Ok(()),
-            },
-            Err(refusal) => self.stays(Err(refusal)),
+            Ok(()) => {
+                let update = StatusUpdate {
+                    state: status.state,
+                    direction: status.direction,
+                };
+                Step {
+                    bucket: SoundBucket { bucket: self }.update_pending(update).bucket,
+                    result: Ok(()),
+                }
+            }
+            Err(refusal) => self.refused(refusal),
         }
     }
 
     // Takes the node of the key out, then applies a due pending and throws its record away.
-    pub fn remove(self, key: Key, now: u64) -> Step<Result<bool, Refusal>>
+    pub fn remove(self, key: Key, now: u64) -> Step<KBucket, Result<bool, Refusal>>
         ensures { remove_call self key now ≡ (reply_of (λ found. found) result.result, result.bucket) }
     {
         match self.asked(true, Some(now)) {
-            Ok(()) => self.remove_sound(key, now).map(Ok),
-            Err(refusal) => self.stays(Err(refusal)),
+            Ok(()) => SoundBucket { bucket: self }.remove(key, now).answered(),
+            Err(refusal) => self.refused(refusal),
         }
     }
 }
 
-impl<T> Step<T> {
+impl SoundBucket {
+    // Internal: does the bucket hold the key?
+    pub fn holds(&self, key: Key) -> bool
+        ensures { result ≡ holds (num key) (bucket_of self.now.bucket) }
+    {
+        places::position(&self.bucket.nodes[..self.bucket.count], key) < self.bucket.count
+    }
+
+    // Internal: does the bucket filter fail?
+    pub fn fails_filter(&self, value: Value) -> bool
+        ensures { result ≡ fails_bucket_filter (settings_of self.now.bucket) (value_of value) (bucket_of self.now.bucket) }
+    {
+        let b = &self.bucket;
+        b.filter == 1
+            && !places::ip_filter(
+                &b.nodes[..b.count],
+                value,
+                node::filter::MAX_NODES_PER_SUBNET_BUCKET,
+            )
+    }
+
+    // Internal: is the node connected and incoming, with max_incoming such nodes held?
+    pub fn is_max_incoming(&self, node: Node) -> bool
+        ensures { result ≡ is_max_incoming (settings_of self.now.bucket) (node_of node) (bucket_of self.now.bucket) }
+    {
+        let b = &self.bucket;
+        node.is_connected_incoming() && b.max_incoming <= places::incoming(&b.nodes[..b.count])
+    }
+
+    // Internal: the node at place pos. That the place is held is a clause, here and below: it is of an index and its bucket, and a type
+    // of both would be made for one call each.
+    pub fn node_at(&self, pos: usize) -> NodeInRange
+        requires { pos < self.now.bucket.count }
+        ensures { result.node ≡ get_or self.now.bucket.nodes pos zero_node }
+    {
+        NodeInRange {
+            node: self.bucket.nodes[pos],
+        }
+    }
+
+    // Internal: places a node where there is room: connected at the end, disconnected just before the first connected. A pending of its key
+    // goes. That the node's key is not held is a clause, here and below: it is of the node and a bucket that changes on the way.
+    pub fn placed(self, node: NodeInRange) -> SoundBucket
+        requires count_lt_max_nodes_per_bucket { self.bucket.count < max_nodes_per_bucket }
+        requires self_value { holds (num node.node.key) (bucket_of self.bucket) ≡ false }
+        requires self_value_2 { is_max_incoming (settings_of self.bucket) (node_of node.node) (bucket_of self.bucket) ≡ false }
+        ensures { Becomes (settings_of self.bucket) (placed (node_of node.node) (bucket_of self.bucket)) result.bucket }
+    {
+        let b = &self.bucket;
+        let node = node.node;
+        let pending = cleared(node.key, b.pending);
+        if node.is_connected() {
+            return SoundBucket {
+                bucket: KBucket {
+                    nodes: places::insert_at(b.nodes, b.count, node),
+                    count: b.count + 1,
+                    pending,
+                    ..*b
+                },
+            };
+        }
+        SoundBucket {
+            bucket: KBucket {
+                nodes: places::insert_at(b.nodes, b.first_connected_pos, node),
+                count: b.count + 1,
+                first_connected_pos: b.first_connected_pos + 1,
+                pending,
+                ..*b
+            },
+        }
+    }
+
+    // Internal: takes out the node at place pos and closes the gap.
+    pub fn taken_out(&self, pos: usize) -> SoundBucket
+        requires { pos < self.now.bucket.count }
+        ensures { Becomes (settings_of self.now.bucket) (take_out (key_at self.now.bucket pos) (bucket_of self.now.bucket)) result.bucket }
+    {
+        let b = &self.bucket;
+        SoundBucket {
+            bucket: KBucket {
+                nodes: places::remove_at(b.nodes, pos),
+                count: b.count - 1,
+                first_connected_pos: b.first_connected_pos
+                    - usize::from(pos < b.first_connected_pos),
+                ..*b
+            },
+        }
+    }
+
+    // The bucket with no pending.
+    fn without_pending(self) -> SoundBucket
+        ensures { Becomes (settings_of self.bucket) (with_pending none (bucket_of self.bucket)) result.bucket }
+    {
+        SoundBucket {
+            bucket: self.bucket.with_pending(None),
+        }
+    }
+
+    // A step that leaves the bucket as it is.
+    fn stays<T>(self, answer: T) -> Step<SoundBucket, T>
+        ensures { result ≡ record { bucket = self; result = answer } }
+    {
+        Step {
+            bucket: self,
+            result: answer,
+        }
+    }
+
+    // Internal: inserts a node.
+    pub fn insert(self, node: NodeInRange, now: u64) -> Step<SoundBucket, InsertResult>
+        requires { now + self.bucket.pending_timeout < 2 ^ 64 }
+        ensures result_value { insert_result_of result.result ≡ (insert (settings_of self.bucket) now (node_of node.node) (bucket_of self.bucket)).0 }
+        ensures becomes { Becomes (settings_of self.bucket) (insert (settings_of self.bucket) now (node_of node.node) (bucket_of self.bucket)).1 result.bucket.bucket }
+    {
+        if self.holds(node.node.key) {
+            return self.stays(InsertResult::NodeExists);
+        }
+        if self.fails_filter(node.node.value) {
+            return self.stays(InsertResult::FailedFilter);
+        }
+        if self.is_max_incoming(node.node) {
+            return self.stays(InsertResult::TooManyIncoming);
+        }
+        if self.bucket.count < KBucket::MAX_NODES_PER_BUCKET {
+            return Step {
+                bucket: self.placed(node),
+                result: InsertResult::Inserted,
+            };
+        }
+        self.insert_full(node, now)
+    }
+
+    // Internal: what an insert of a node that is not held does with 16 held: the node becomes the pending, or nothing changes.
+    pub fn insert_full(self, node: NodeInRange, now: u64) -> Step<SoundBucket, InsertResult>
+        requires pending_timeout_bound { now + self.bucket.pending_timeout < 2 ^ 64 }
+        requires self_value { holds (num node.node.key) (bucket_of self.bucket) ≡ false }
+        ensures result_value { insert_result_of result.result ≡ (insert_full (settings_of self.bucket) now (node_of node.node) (bucket_of self.bucket) (node_of node.node).connected (bucket_of self.bucket).disconnected (bucket_of self.bucket).pending).0 }
+        ensures becomes { Becomes (settings_of self.bucket) (insert_full (settings_of self.bucket) now (node_of node.node) (bucket_of self.bucket) (node_of node.node).connected (bucket_of self.bucket).disconnected (bucket_of self.bucket).pending).1 result.bucket.bucket }
+    {
+        let b = &self.bucket;
+        let node = node.node;
+        if !node.is_connected() || b.first_connected_pos == 0 || b.pending.is_some() {
+            return self.stays(InsertResult::Full);
+        }
+        let deadline = now + b.pending_timeout;
+        Step {
+            bucket: SoundBucket {
+                bucket: self
+                    .bucket
+                    .with_pending(Some(PendingNode { node, deadline })),
+            },
+            result: InsertResult::Pending(b.nodes[0].key),
+        }
+    }
+
+    // Internal: applies a due node, which is the pending no more. The time plays no part, since no deadline is made.
+    pub fn apply_due(self, node: NodeInRange) -> Step<SoundBucket, Option<EndedPending>>
+        requires pending_value { pending_of self.bucket.pending ≡ none }
+        requires self_value { holds (num node.node.key) (bucket_of self.bucket) ≡ false }
+        ensures result_value { (now : ℕ) → records_of result.result ≡ (apply_due (settings_of self.bucket) now (node_of node.node) (bucket_of self.bucket)).1 }
+        ensures becomes { (now : ℕ) → Becomes (settings_of self.bucket) (apply_due (settings_of self.bucket) now (node_of node.node) (bucket_of self.bucket)).0 result.bucket.bucket }
+    {
+        let key = node.node.key;
+        let full = KBucket::MAX_NODES_PER_BUCKET <= self.bucket.count;
+        if full && self.bucket.first_connected_pos == 0 {
+            return self.dropped(key, Ending::FirstConnected);
+        }
+        if self.fails_filter(node.node.value) {
+            return self.dropped(key, Ending::BucketFilter);
+        }
+        if self.is_max_incoming(node.node) {
+            return self.dropped(key, Ending::TooManyIncoming);
+        }
+        if full {
+            return self.evict(node);
+        }
+        Step {
+            bucket: self.placed(node),
+            result: Some(EndedPending {
+                key,
+                ending: Ending::Placed(None),
+            }),
+        }
+    }
+
+    // The pending of this key is dropped, and the bucket is as it is.
+    fn dropped(self, key: Key, ending: Ending) -> Step<SoundBucket, Option<EndedPending>>
+        ensures { result ≡ record { bucket = self; result = Some (record { key = key; ending = ending }) } }
+    {
+        self.stays(Some(EndedPending { key, ending }))
+    }
+
+    // Internal: a node that is not held in place of the node at place 0, which is disconnected.
+    pub fn evict(&self, node: NodeInRange) -> Step<SoundBucket, Option<EndedPending>>
+        requires max_nodes_per_bucket_le_count { max_nodes_per_bucket ≤ self.now.bucket.count }
+        requires self_value { holds (num node.node.key) (bucket_of self.now.bucket) ≡ false }
+        requires self_value_2 { is_max_incoming (settings_of self.now.bucket) (node_of node.node) (bucket_of self.now.bucket) ≡ false }
+        ensures result_value { records_of result.result ≡ ends.ended (node_of node.node) (ends.Ending.Placed (some (node_of (get_or self.now.bucket.nodes 0 zero_node)))) }
+        ensures becomes { Becomes (settings_of self.now.bucket) (placed (node_of node.node) (take_out (key_at self.now.bucket 0) (bucket_of self.now.bucket))) result.bucket.bucket }
+    {
+        let evicted = self.node_at(0);
+        Step {
+            bucket: self.taken_out(0).placed(node),
+            result: Some(EndedPending {
+                key: node.node.key,
+                ending: Ending::Placed(Some(evicted)),
+            }),
+        }
+    }
+
+    // Internal: applies the pending when its deadline has come.
+    pub fn apply_pending(self, now: u64) -> Step<SoundBucket, Option<EndedPending>>
+        ensures result_value { records_of result.result ≡ (apply_pending (settings_of self.bucket) now (bucket_of self.bucket)).1 }
+        ensures becomes { Becomes (settings_of self.bucket) (apply_pending (settings_of self.bucket) now (bucket_of self.bucket)).0 result.bucket.bucket }
+    {
+        match self.bucket.pending {
+            Some(pending) if pending.deadline <= now => {
+                let node = NodeInRange { node: pending.node };
+                self.without_pending().apply_due(node)
+            }
+            _ => self.stays(None),
+        }
+    }
+
+    // Internal: the status step on the node at place pos.
+    pub fn status_at(&self, pos: usize, status: StatusUpdate) -> Step<SoundBucket, UpdateResult>
+        requires { pos < self.now.bucket.count }
+        ensures result_value { update_result_of result.result ≡ (update_status (settings_of self.now.bucket) (key_at self.now.bucket pos) (is_one status.state) (optional status.direction) (bucket_of self.now.bucket)).0 }
+        ensures becomes { Becomes (settings_of self.now.bucket) (update_status (settings_of self.now.bucket) (key_at self.now.bucket pos) (is_one status.state) (optional status.direction) (bucket_of self.now.bucket)).1 result.bucket.bucket }
+    {
+        self.put_again(pos, self.node_at(pos).with_status(status))
+    }
+
+    // Internal: what is left of the bucket where the node at place pos is out, to be placed again with this state. A pending goes where
+    // place 0 is confirmed.
+    pub fn rest_at(&self, pos: usize, connected: bool) -> SoundBucket
+        requires { pos < self.now.bucket.count }
+        ensures { Becomes (settings_of self.now.bucket) (taken_out (key_at self.now.bucket pos) connected (bucket_of self.now.bucket)) result.bucket }
+    {
+        let rest = self.taken_out(pos);
+        if connected & (pos == 0) {
+            return rest.without_pending();
+        }
+        rest
+    }
+
+    // Internal: takes out the node at place pos, and inserts one of its key.
+    pub fn put_again(&self, pos: usize, node: NodeInRange) -> Step<SoundBucket, UpdateResult>
+        requires pos_lt_count { pos < self.now.bucket.count }
+        requires pos_value { key_at self.now.bucket pos ≡ num node.node.key }
+        ensures result_value { update_result_of result.result ≡ status_result (node_of (get_or self.now.bucket.nodes pos zero_node)) (node_of node.node) (reinsert (settings_of self.now.bucket) (node_of node.node) (taken_out (num node.node.key) (node_of node.node).connected (bucket_of self.now.bucket))).0 }
+        ensures becomes { Becomes (settings_of self.now.bucket) (reinsert (settings_of self.now.bucket) (node_of node.node) (taken_out (num node.node.key) (node_of node.node).connected (bucket_of self.now.bucket))).1 result.bucket.bucket }
+    {
+        self.rest_at(pos, node.node.is_connected())
+            .reinserted(self.bucket.nodes[pos], node)
+    }
+
+    // Inserts a node that was taken out, and that was `old` before. It stays out where a test fails.
+    fn reinserted(self, old: Node, node: NodeInRange) -> Step<SoundBucket, UpdateResult>
+        requires count_lt_max_nodes_per_bucket { self.bucket.count < max_nodes_per_bucket }
+        requires self_value { holds (num node.node.key) (bucket_of self.bucket) ≡ false }
+        ensures result_value { update_result_of result.result ≡ status_result (node_of old) (node_of node.node) (reinsert (settings_of self.bucket) (node_of node.node) (bucket_of self.bucket)).0 }
+        ensures becomes { Becomes (settings_of self.bucket) (reinsert (settings_of self.bucket) (node_of node.node) (bucket_of self.bucket)).1 result.bucket.bucket }
+    {
+        if self.fails_filter(node.node.value) {
+            return self.stays(UpdateResult::Failed(FailureReason::BucketFilter));
+        }
+        if self.is_max_incoming(node.node) {
+            return self.stays(UpdateResult::Failed(FailureReason::TooManyIncoming));
+        }
+        Step {
+            bucket: self.placed(node),
+            result: status_result(old, node.node),
+        }
+    }
+
+    // Internal: the status step on a pending of this key.
+    pub fn status_pending(self, key: Key, status: StatusUpdate) -> Step<SoundBucket, UpdateResult>
+        ensures result_value { update_result_of result.result ≡ (update_if_pending (num key) (with_status (is_one status.state) (optional status.direction)) (bucket_of self.bucket) (pending_of self.bucket.pending)).0 }
+        ensures becomes { Becomes (settings_of self.bucket) (update_if_pending (num key) (with_status (is_one status.state) (optional status.direction)) (bucket_of self.bucket) (pending_of self.bucket.pending)).1 result.bucket.bucket }
+    {
+        let step = self.bucket.pending_changed(key, |node| {
+            node.with_status(status.state, status.direction)
+        });
+        Step {
+            bucket: SoundBucket {
+                bucket: step.bucket,
+            },
+            result: step.result,
+        }
+    }
+
+    // Internal: takes the node of the key out, changes its status and inserts it.
+    pub fn update_status(self, key: Key, status: StatusUpdate) -> Step<SoundBucket, UpdateResult>
+        ensures result_value { update_result_of result.result ≡ (update_status (settings_of self.bucket) (num key) (is_one status.state) (optional status.direction) (bucket_of self.bucket)).0 }
+        ensures becomes { Becomes (settings_of self.bucket) (update_status (settings_of self.bucket) (num key) (is_one status.state) (optional status.direction) (bucket_of self.bucket)).1 result.bucket.bucket }
+    {
+        let pos = places::position(&self.bucket.nodes[..self.bucket.count], key);
+        if pos < self.bucket.count {
+            return self.status_at(pos, status);
+        }
+        self.status_pending(key, status)
+    }
+
+    // Internal: the value step on the node at place pos.
+    pub fn value_at(self, pos: usize, value: ValueInRange) -> Step<SoundBucket, UpdateResult>
+        requires { pos < self.bucket.count }
+        ensures result_value { update_result_of result.result ≡ (update_value (settings_of self.bucket) (key_at self.bucket pos) (value_of value.value) (bucket_of self.bucket)).0 }
+        ensures becomes { Becomes (settings_of self.bucket) (update_value (settings_of self.bucket) (key_at self.bucket pos) (value_of value.value) (bucket_of self.bucket)).1 result.bucket.bucket }
+    {
+        let old = self.bucket.nodes[pos];
+        if old.value.eq(value.value) {
+            return self.stays(UpdateResult::NotModified);
+        }
+        if self.bucket.filter == 1 {
+            let rest = self.taken_out(pos);
+            if rest.fails_filter(value.value) {
+                return Step {
+                    bucket: rest,
+                    result: UpdateResult::Failed(FailureReason::BucketFilter),
+                };
+            }
+        }
+        let mut bucket = self.bucket;
+        bucket.nodes[pos] = old.with_value(value.value);
+        Step {
+            bucket: SoundBucket { bucket },
+            result: UpdateResult::Updated,
+        }
+    }
+
+    // Internal: the value step on a pending of this key.
+    pub fn value_pending(self, key: Key, value: ValueInRange) -> Step<SoundBucket, UpdateResult>
+        ensures result_value { update_result_of result.result ≡ (update_if_pending (num key) (with_value (value_of value.value)) (bucket_of self.bucket) (pending_of self.bucket.pending)).0 }
+        ensures becomes { Becomes (settings_of self.bucket) (update_if_pending (num key) (with_value (value_of value.value)) (bucket_of self.bucket) (pending_of self.bucket.pending)).1 result.bucket.bucket }
+    {
+        let step = self
+            .bucket
+            .pending_changed(key, |node| node.with_value(value.value));
+        Step {
+            bucket: SoundBucket {
+                bucket: step.bucket,
+            },
+            result: step.result,
+        }
+    }
+
+    // Internal: changes the value of the node of the key, in its place. Of the form of update_status, around other steps: one function
+    // for both would take the steps as closures, with their contracts as clauses.
+    pub fn update_value(self, key: Key, value: ValueInRange) -> Step<SoundBucket, UpdateResult>
+        ensures result_value { update_result_of result.result ≡ (update_value (settings_of self.bucket) (num key) (value_of value.value) (bucket_of self.bucket)).0 }
+        ensures becomes { Becomes (settings_of self.bucket) (update_value (settings_of self.bucket) (num key) (value_of value.value) (bucket_of self.bucket)).1 result.bucket.bucket }
+    {
+        let pos = places::position(&self.bucket.nodes[..self.bucket.count], key);
+        if pos < self.bucket.count {
+            return self.value_at(pos, value);
+        }
+        self.value_pending(key, value)
+    }
+
+    // Internal: sets the status of the pending, if any. Both codes are given.
+    pub fn update_pending(self, status: StatusUpdate) -> SoundBucket
+        requires { status.direction ≤ 1 }
+        ensures { Becomes (settings_of self.bucket) (update_pending (is_one status.state) (is_one status.direction) (bucket_of self.bucket)) result.bucket }
+    {
+        let Some(pending) = self.bucket.pending else {
+            return self;
+        };
+        let node = pending.node.with_status(status.state, status.direction);
+        SoundBucket {
+            bucket: self
+                .bucket
+                .with_pending(Some(PendingNode { node, ..pending })),
+        }
+    }
+
+    // Internal: takes the node of the key out, then applies a due pending and throws its record away.
+    pub fn remove(self, key: Key, now: u64) -> Step<SoundBucket, bool>
+        ensures result_value { result.result ≡ (remove (settings_of self.bucket) now (num key) (bucket_of self.bucket)).0 }
+        ensures becomes { Becomes (settings_of self.bucket) (remove (settings_of self.bucket) now (num key) (bucket_of self.bucket)).1 result.bucket.bucket }
+    {
+        let pos = places::position(&self.bucket.nodes[..self.bucket.count], key);
+        if pos < self.bucket.count {
+            return Step {
+                bucket: self.taken_out(pos).apply_pending(now).bucket,
+                result: true,
+            };
+        }
+        self.stays(false)
+    }
+}
+
+impl<B, T> Step<B, T> {
     // Internal: the step with what `f` makes of its result.
-    pub fn map<U, F: FnOnce(T) -> U>(self, f: F) -> Step<U>
+    pub fn map<U, F: FnOnce(T) -> U>(self, f: F) -> Step<B, U>
         requires { F.pre f self.result }
         ensures bucket { result.bucket ≡ self.bucket }
         ensures answer { F.post f self.result result.result }
@@ -666,6 +724,18 @@ impl<T> Step<T> {
         Step {
             bucket: self.bucket,
             result: f(self.result),
+        }
+    }
+}
+
+impl<T> Step<SoundBucket, T> {
+    // The answer of a call that was not refused.
+    fn answered(self) -> Step<KBucket, Result<T, Refusal>>
+        ensures { result ≡ record { bucket = self.bucket.bucket; result = Ok self.result } }
+    {
+        Step {
+            bucket: self.bucket.bucket,
+            result: Ok(self.result),
         }
     }
 }
@@ -699,9 +769,7 @@ pub fn asked_time(pending_timeout: u64, time: Option<u64>) -> Result<(), Refusal
 
 // Internal: the record of a pending that was placed; none of one that was not.
 pub fn only_placed(ended: Option<EndedPending>) -> Option<EndedPending>
-    requires { applied_codes ended ≡ true }
-    ensures result_value { records_of result ≡ placed_of (records_of ended) }
-    ensures result_value_2 { applied_codes result ≡ true }
+    ensures { records_of result ≡ placed_of (records_of ended) }
 {
     ended.filter(|e| matches!(e.ending, Ending::Placed(_)))
 }

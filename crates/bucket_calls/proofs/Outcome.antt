@@ -1,5 +1,8 @@
 -- What a call on a bucket by itself returns and leaves, by its questions and by what it does to the bucket.
-use Rattle.std.specs.Prelude.{Result, Ok, Err, IsErrAnd}
+use Rattle.std.specs.Prelude as code
+use Rattle.std.specs.Prelude.{Result, Ok, Err, None, IsErrAnd}
+use Rattle.std.specs.Option.{ok_or}
+use mathlib.Core.Logic.{◌≢◌}
 use mathlib.Core.Path.{◌≡◌, refl, sym, ap, ◌∙◌}
 use mathlib.Core.Bool.{Bool, true, false, ◌&&◌}
 use mathlib.Core.List.{List, [], ◌∷◌, ◌++◌, append_assoc}
@@ -9,7 +12,7 @@ use native.Mathlib.Omega.{arith}
 use lib.Dec.{eqb, leb}
 use lib.ListN.{length, set, take, length-append, length-take, length-replicate}
 use borrow.Rule.Slice.PartMut.{put_mid}
-use borrow.Author.Tests.{le-leb, lt-leb}
+use borrow.Author.Tests.{le-leb, lt-leb, eq-eqb, ne_eqb}
 use Rattle.model.specs.Bytes.{bytes, splice, zeros}
 use Rattle.model.specs.Bucket.{Bucket, max_nodes_per_bucket}
 use Rattle.model.specs.Sizes.{time_size, bucket_size}
@@ -23,6 +26,7 @@ use Rattle.key.proofs.Bytes.{splice_all}
 use Rattle.node.specs.declared.Refusal.{Refusal}
 use Rattle.node.specs.Refusal.{number_of}
 use Rattle.laws.proofs.Questions.{front_fails, front_passes}
+use Rattle.on_key.proofs.Ended.{size_told}
 use Rattle.codes.specs.Codes.{refused_code, answer_size}
 use Rattle.codes.specs.Exported.{Exported, Leaves, Writes}
 use Rattle.bucket_calls.specs.Lent.{lent_size, lent_settings, lent_bucket, empty_bytes, lent_five, failed_of_lent}
@@ -44,6 +48,20 @@ module _ (bs : List ℕ) (key codes : Bool) (now : Option ℕ) (answer : List �
     roomy l =
         let m : leb answer_size (length answer) ≡ true = le-leb _ _ l in
         sym (front_passes (lent_five bs key codes now) (answer_fits answer) (sym e) ∙ (rw m))
+
+-- question 1, by what was made of the bytes
+module _ (bs answer : List ℕ) where
+  asked_first : (c : BucketCall) → length bs ≢ lent_size → some 1 ≡ first_failed (bucket_questions c answer bs)
+  asked_first (BucketCall.insert k w st dr now) m = rw (ne_eqb _ _ m)
+  asked_first (BucketCall.apply_pending now) m = rw (ne_eqb _ _ m)
+  asked_first (BucketCall.update_status k st dr) m = rw (ne_eqb _ _ m)
+  asked_first (BucketCall.update_value k w) m = rw (ne_eqb _ _ m)
+  asked_first (BucketCall.update_pending st dr) m = rw (ne_eqb _ _ m)
+  asked_first (BucketCall.remove k now) m = rw (ne_eqb _ _ m)
+
+  pub size_asked : (c : BucketCall) {T : Type 0} {o : code.Option T} {q : Refusal} → ◌≡◌ {A = Result T Refusal} (Err q) (ok_or o Refusal.Size) → o ≡ None → length bs ≢ lent_size
+      → some (number_of q) ≡ first_failed (bucket_questions c answer bs)
+  size_asked c v n m = rw (size_told v n) (asked_first c m)
 
 -- the outcome
 
@@ -110,7 +128,21 @@ module _ (timeout m f : ℕ) (bs : List ℕ) where
       let e3 = set_more bs 0 819 ((v ++ w) ++ (m ∷ [])) f e2 (simp length-append (omega arith)) (omega arith) in
       e3 ∙ splice_all bs (((v ++ w) ++ (m ∷ [])) ++ (f ∷ [])) (simp length-append (omega arith)) ∙ simp append_assoc
 
-  pub new_made : eqb (length bs) lent_size ≡ true → (leb m max_nodes_per_bucket && leb f 1) ≡ true → length bs ≡ lent_size → {z t : List ℕ} → z ≡ zeros (length (take 810 bs))
-      → t ≡ bytes time_size timeout → Leaves 0 (set (set (put_mid 810 8 (put_mid 0 810 bs z) t) 818 m) 819 f) (bucket_new timeout m f bs)
+  pub new_made : length bs ≡ lent_size → (leb m max_nodes_per_bucket && leb f 1) ≡ true → {z t : List ℕ} → z ≡ zeros (length (take 810 bs)) → t ≡ bytes time_size timeout
+      → Leaves 0 (set (set (put_mid 810 8 (put_mid 0 810 bs z) t) 818 m) 819 f) (bucket_new timeout m f bs)
   unfolding bucket_new
-  new_made e g l ez et = record { code = rw (e, g); storage = rw (e, g) (made l ez et) }
+  new_made l g ez et = let e = eq-eqb _ _ l in record { code = rw (e, g); storage = rw (e, g) (made l ez et) }
+
+  -- the exits of questions 1 and 4
+  new_refused : (r : Refusal) → some (number_of r) ≡ first_failed ((1, eqb (length bs) lent_size) ∷ (4, leb m max_nodes_per_bucket && leb f 1) ∷ []) → (x : Result (Unit {0}) Refusal) → IsErrAnd x (λ q. q ≡ r)
+      → Leaves (done_code x) bs (bucket_new timeout m f bs)
+  unfolding bucket_new
+  new_refused r e (Ok u) h = absurd h
+  new_refused r e (Err q) h = rw (← e) (record { code = ap (λ (q : Refusal). refused_code (number_of q)) h; storage = refl })
+
+  pub new_size : {T : Type 0} {o : code.Option T} {q : Refusal} → ◌≡◌ {A = Result T Refusal} (Err q) (ok_or o Refusal.Size) → o ≡ None → length bs ≢ lent_size
+      → (x : Result (Unit {0}) Refusal) → IsErrAnd x (λ p. p ≡ q) → Leaves (done_code x) bs (bucket_new timeout m f bs)
+  new_size {q = q} v n l = new_refused q (rw (size_told v n, ne_eqb _ _ l))
+
+  pub new_codes : length bs ≡ lent_size → (leb m max_nodes_per_bucket && leb f 1) ≡ false → Leaves (refused_code 4) bs (bucket_new timeout m f bs)
+  new_codes l g = new_refused Refusal.Code (rw (eq-eqb _ _ l, g)) (Err Refusal.Code) refl

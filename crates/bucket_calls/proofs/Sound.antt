@@ -1,5 +1,5 @@
 -- Question 2 of a bucket by itself, place by place as the code goes.
-use mathlib.Core.Path.{◌≡◌, refl, ap, ◌∙◌}
+use mathlib.Core.Path.{◌≡◌, refl}
 use mathlib.Core.Bool.{Bool, true, false, ◌&&◌, and-true, and-false}
 use mathlib.Core.List.{List}
 use Prim.Native.Nat.{ℕ, ◌*◌, ◌-◌, ◌≤◌, ◌<◌}
@@ -8,7 +8,6 @@ use lib.ListN.{length, get_or}
 use borrow.Author.Tests.{leb-true}
 use Rattle.model.specs.Base.{all_below, tabulate}
 use Rattle.model.specs.Bytes.{part}
-use Rattle.model.specs.Node.{connected_incoming}
 use Rattle.model.specs.Bucket.{max_nodes_per_bucket, incoming_nodes}
 use Rattle.model.specs.Sizes.{node_size, place_at, bucket_size}
 use Rattle.model.specs.Layout.{place_in, bucket_in}
@@ -16,10 +15,9 @@ use Rattle.model.specs.Formed.{are_zero, state_at, not_held, pending_formed}
 use Rattle.laws.proofs.Tests.{and_left, and_right}
 use Rattle.key.specs.Key.{num}
 use Rattle.node.specs.declared.Node as declared
-use Rattle.node.specs.Node.{node_of, node_codes}
+use Rattle.node.specs.Node.{node_codes}
 use Rattle.key.proofs.Words.{num_key_of}
 use Rattle.storage.specs.Read.{read_node}
-use Rattle.storage.proofs.Nodes.{node_of_read}
 use Rattle.well_formed.specs.Tests.{differs, place_formed, node_at}
 use Rattle.well_formed.proofs.Places.{place_formed_lem}
 use Rattle.well_formed.proofs.Buckets.{all_and, bucket_many, bucket_held}
@@ -36,11 +34,7 @@ pub place_is : (bs : List ℕ) (first j : ℕ) (n : declared.Node) → n ≡ rea
 unfolding place_sound differs read_node
 place_is bs first j n e = rw (place_formed_lem bs j (λ k. true) first n e, and-true, e, num_key_of)
 
-pub incoming_is : (bs : List ℕ) (j : ℕ) (n : declared.Node) → n ≡ read_node (place_in bs j) → connected_incoming (node_of n) ≡ connected_incoming (node_at bs j)
-unfolding node_at
-incoming_is bs j n e = ap connected_incoming (ap node_of e ∙ node_of_read (place_in bs j))
-
-regroup : (d p z f i q : Bool) → ((d && (p && z)) && (f && (i && q))) ≡ (z && (f && (((p && d) && i) && q)))
+regroup : (d p z f i q : Bool) → (((d && p) && z) && (f && (i && q))) ≡ (z && (f && (((p && d) && i) && q)))
 regroup true true true f i q = refl
 regroup true true false f i q = refl
 regroup true false z f i q = simp and-false

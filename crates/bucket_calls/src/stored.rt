@@ -1,22 +1,20 @@
 // Internal: a bucket by itself, lent as bytes: its questions, and the bucket by value.
-ghost use Rattle.std.specs.Prelude.{◌≡◌, OnOk, true, ◌&&◌, ◌≤◌, ◌<◌, length, get_or, leb, eqb};
+ghost use Rattle.std.specs.Prelude.{◌≡◌, OnOk, true, ◌&&◌, ◌<◌, length, get_or, leb};
 ghost use Rattle.model.specs.Base.{all_below, tabulate};
 ghost use Rattle.model.specs.Bytes.{part, splice};
-ghost use Rattle.model.specs.Bucket.{max_nodes_per_bucket, incoming_nodes};
+ghost use Rattle.model.specs.Bucket.{incoming_nodes};
 ghost use Rattle.model.specs.Sizes.{bucket_size};
 ghost use Rattle.model.specs.Layout.{bucket_bytes};
-ghost use Rattle.model.specs.Formed.{not_held, state_at, pending_formed};
-ghost use Rattle.key.specs.Key.{num};
+ghost use Rattle.model.specs.Formed.{pending_formed};
 ghost use Rattle.key.specs.Answers.{option_of};
-ghost use Rattle.node.specs.Node.{node_codes};
 ghost use Rattle.node.specs.Refusal.{failed_of};
 ghost use Rattle.well_formed.specs.Tests.{node_at};
-ghost use Rattle.bucket.specs.Bucket.{bucket_of, Sound, Becomes};
-ghost use Rattle.bucket_calls.specs.Lent.{lent_size, read_settings, lent_settings, lent_bucket, lent_formed, failed_of_lent, Passed, place_sound};
+ghost use Rattle.bucket.specs.Bucket.{bucket_of, Becomes};
+ghost use Rattle.bucket_calls.specs.Lent.{read_settings, lent_settings, lent_bucket, lent_formed, failed_of_lent, Passed, place_sound};
 
-use bucket::{KBucket, Settings};
-use node::{Node, Refusal};
-use storage::Layout;
+use bucket::{KBucket, Settings, SoundBucket};
+use node::Refusal;
+use storage::{Layout, Nodes};
 
 // Where the settings stand, behind the bucket.
 #[derive(Clone, Copy)]
@@ -30,54 +28,47 @@ impl Lent {
     pub const FILTER_AT: usize = Lent::MAX_INCOMING_AT + 1;
 }
 
-// Place j, whose node this is.
-fn place_sound(bucket: &[u8; Layout::BUCKET], first: usize, j: usize, node: Node) -> bool
-    requires { j < max_nodes_per_bucket }
-    ensures { result ≡ ((node_codes node && eqb node.status.state (state_at first j)) && not_held bucket.now j (num node.key)) }
+// Place j: codes in range, the state that the place has, and a key that no place before it has.
+fn place_sound(nodes: Nodes, j: usize) -> bool
+    requires { j < nodes.count }
+    ensures { result ≡ place_sound (get_or nodes.entry.bucket.now 1 0) nodes.entry.bucket.now j }
 {
+    let first = usize::from(nodes.bucket[1]);
+    let node = storage::load_node(nodes.place(j));
     (node.in_range() & (node.status.state == well_formed::state_at(first, j)))
-        & well_formed::not_held(bucket, j, node.key)
+        & well_formed::not_held(nodes.bucket, j, node.key)
 }
 
-// The places below count, with at most max_incoming nodes that are connected and incoming.
-fn places_sound(
-    bucket: &[u8; Layout::BUCKET],
-    count: usize,
-    first: usize,
-    max_incoming: usize,
-) -> bool
-    requires { count ≤ max_nodes_per_bucket }
-    ensures { result ≡ (all_below count (place_sound first bucket.now)
-        && leb (length (incoming_nodes (tabulate count (node_at bucket.now)))) max_incoming) }
+// All places are so, with at most max_incoming nodes that are connected and incoming.
+fn places_sound(nodes: Nodes, max_incoming: usize) -> bool
+    ensures { result ≡ (all_below nodes.entry.count (place_sound (get_or nodes.entry.bucket.now 1 0) nodes.entry.bucket.now)
+        && leb (length (incoming_nodes (tabulate nodes.entry.count (node_at nodes.entry.bucket.now)))) max_incoming) }
 {
     let mut ok = true;
     let mut n: usize = 0;
-    for j in 0..count {
-        let node = storage::load_node(storage::place(bucket, j));
-        ok &= place_sound(bucket, first, j, node);
-        n += usize::from(node.is_connected_incoming());
+    for j in 0..nodes.count {
+        ok &= place_sound(nodes, j);
+        n += usize::from(well_formed::is_incoming(nodes.place(j)));
     }
     ok & (n <= max_incoming)
 }
 
 // The pending: its flag, its codes, and a key that is not held.
-fn pending_sound(bucket: &[u8; Layout::BUCKET], count: usize) -> bool
-    requires { (count ≤ max_nodes_per_bucket) × (count ≡ get_or bucket.now 0 0) }
-    ensures { result ≡ pending_formed (λ k. true) bucket.now }
+fn pending_sound(nodes: Nodes) -> bool
+    ensures { result ≡ pending_formed (λ k. true) nodes.entry.bucket.now }
 {
+    let bucket = nodes.bucket;
     let flag = bucket[Layout::PENDING_AT];
-    let at = Layout::PENDING_AT + 1;
     if flag == 0 {
-        return words::all_zero(&bucket[at..Layout::BUCKET]);
+        return words::all_zero(&bucket[Layout::PENDING_AT + 1..Layout::BUCKET]);
     }
-    let node = storage::load_node(&bucket[at..at + Layout::NODE]);
-    (flag == 1) & (well_formed::not_held(bucket, count, node.key) & node.in_range())
+    let node = storage::load_node(storage::pending(bucket));
+    (flag == 1) & (well_formed::not_held(bucket, nodes.count, node.key) & node.in_range())
 }
 
 // The bytes of the bucket.
 #[tactic(auto, unfolding(model::specs::Bytes::part))]
-fn bucket_bytes(s: &[u8]) -> &[u8; Layout::BUCKET]
-    requires { length s.now ≡ lent_size }
+fn bucket_bytes(s: &[u8; KBucket::BYTES]) -> &[u8; Layout::BUCKET]
     ensures { result.now ≡ part s.now 0 bucket_size }
 {
     s[0..Layout::BUCKET].as_array().unwrap()
@@ -85,8 +76,7 @@ fn bucket_bytes(s: &[u8]) -> &[u8; Layout::BUCKET]
 
 // The settings behind the bucket.
 #[tactic(auto, unfolding(model::specs::Bytes::part))]
-fn settings(s: &[u8]) -> Settings
-    requires { length s.now ≡ lent_size }
+fn settings(s: &[u8; KBucket::BYTES]) -> Settings
     ensures { result ≡ read_settings s.now }
 {
     Settings {
@@ -97,33 +87,34 @@ fn settings(s: &[u8]) -> Settings
 }
 
 // Question 2, all but the index.
-fn lent_formed(s: &[u8]) -> bool
-    requires { length s.now ≡ lent_size }
+fn lent_formed(s: &[u8; KBucket::BYTES]) -> bool
     ensures { result ≡ lent_formed s.now }
 {
     let bucket = bucket_bytes(s);
     let settings = settings(s);
-    let count = usize::from(bucket[0]);
-    let first = usize::from(bucket[1]);
-    if model::MAX_NODES_PER_BUCKET < count {
+    if model::MAX_NODES_PER_BUCKET < usize::from(bucket[0]) {
         return false;
     }
-    let unused = Layout::PLACES_AT + count * Layout::NODE;
+    let nodes = Nodes::of(bucket);
+    let unused = Layout::PLACES_AT + nodes.count * Layout::NODE;
     let rest = words::all_zero(&bucket[unused..Layout::PENDING_AT]);
-    let places = places_sound(bucket, count, first, settings.max_incoming);
+    let places = places_sound(nodes, settings.max_incoming);
     let codes = (settings.max_incoming <= model::MAX_NODES_PER_BUCKET) & (settings.filter <= 1);
-    (rest & ((first <= count) & (places & pending_sound(bucket, count)))) & codes
+    (rest & ((usize::from(bucket[1]) <= nodes.count) & (places & pending_sound(nodes)))) & codes
 }
 
-// Internal: questions 1 to 4 and, where a time is given, 5.
+// Internal: questions 2 to 4 and, where a time is given, 5. Question 1 passes by the type. `key` and `codes` are what 3 and 4 find of the
+// call's other arguments, which are asked after 2.
 #[tactic(auto, unfolding(crate::specs::Lent::lent_settings))]
-pub fn asked(s: &[u8], key: bool, codes: bool, time: Option<u64>) -> Result<(), Refusal>
+pub fn asked(
+    s: &[u8; KBucket::BYTES],
+    key: bool,
+    codes: bool,
+    time: Option<u64>,
+) -> Result<(), Refusal>
     ensures value { failed_of result ≡ failed_of_lent s.now key codes (option_of time) }
     ensures passed { OnOk result (Passed s.now key codes (option_of time)) }
 {
-    if s.len() != KBucket::BYTES {
-        return Err(Refusal::Size);
-    }
     if !lent_formed(s) {
         return Err(Refusal::Form);
     }
@@ -137,17 +128,16 @@ pub fn asked(s: &[u8], key: bool, codes: bool, time: Option<u64>) -> Result<(), 
 }
 
 // Internal: the bucket, by value.
-pub fn load(s: &[u8]) -> KBucket
-    requires { (length s.now ≡ lent_size) × (lent_formed s.now ≡ true) }
-    ensures { Becomes (lent_settings s.now) (lent_bucket s.now) result }
+pub fn load(s: &[u8; KBucket::BYTES]) -> SoundBucket
+    requires { lent_formed s.now ≡ true }
+    ensures { Becomes (lent_settings s.now) (lent_bucket s.now) result.bucket }
 {
     buckets::load(bucket_bytes(s), settings(s))
 }
 
-// Internal: a sound bucket, stored; the settings stay.
-pub fn store(s: &mut [u8], b: KBucket)
-    requires { (length s.old ≡ lent_size) × Sound b }
-    ensures { s.new ≡ splice s.old 0 (bucket_bytes (bucket_of b)) }
+// Internal: the bucket is stored; the settings stay.
+pub fn store(s: &mut [u8; KBucket::BYTES], b: &SoundBucket)
+    ensures { s.new ≡ splice s.old 0 (bucket_bytes (bucket_of b.now.bucket)) }
 {
     buckets::store(&mut s[0..Layout::BUCKET], b);
 }

@@ -1,20 +1,15 @@
 -- What update_node and insert_or_update answer and leave, case by case.
-use Prim.Native.Nat.{ℕ, ◌≤◌}
+use Prim.Native.Nat.{ℕ}
 use mathlib.Core.Path.{◌≡◌, refl, ap, ◌∙◌, subst}
 use mathlib.Core.Bool.{Bool, true, false, cond}
 use mathlib.Core.Option.{Option, none, some}
-use lib.Dec.{leb}
-use borrow.Author.Tests.{eq-eqb, ne_eqb, le-leb}
+use borrow.Author.Tests.{eq-eqb, ne_eqb}
 use Rattle.model.specs.Value.{Value}
 use Rattle.model.specs.Node.{Node}
 use Rattle.model.specs.Result.{FailureReason, UpdateResult, InsertResult, is_failed}
 use Rattle.model.specs.Bucket.{Bucket, BucketSettings, holds, insert, update_status, update_value, remove}
 use Rattle.model.specs.Table.{Answer, both_updates, update_node_in, insert_updates, inserts, insert_or_update_in}
 use Rattle.model.specs.Call.{is_one, optional}
-use Rattle.laws.proofs.Tests.{and_left, and_right}
-use Rattle.node.specs.declared.Value as stored
-use Rattle.node.specs.declared.Node as node
-use Rattle.node.specs.Node.{value_codes, node_codes, restated, revalued}
 use Rattle.bucket.specs.declared.FailureReason as failure
 use Rattle.bucket.specs.declared.UpdateResult as declared
 use Rattle.bucket.specs.declared.UpdateResult.TheVariants as result
@@ -48,10 +43,6 @@ not_failed result.UpdatedAndPromoted h = refl
 not_failed result.UpdatedPending h = refl
 not_failed (result.Failed x) h = absurd (h x refl)
 not_failed result.NotModified h = refl
-
--- the codes of a stored node with another value and another state
-pub codes_again : (v : stored.Value) (state : ℕ) (old : node.Node) → node_codes old ≡ true → value_codes v ≡ true → state ≤ 1 → node_codes (restated state 2 (revalued v old)) ≡ true
-codes_again v state old e c l = rw (le-leb state 1 l, and_left (leb old.status.direction 1) (value_codes old.value) (and_right (leb old.status.state 1) _ e)) c
 
 -- update_node
 

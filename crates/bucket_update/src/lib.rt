@@ -1,20 +1,19 @@
 // Internal: what update_node and insert_or_update (kbucket.rs) do to the bucket of their key, by value.
 #![tactic(auto)]
 
-ghost use Rattle.std.specs.Prelude.{◌≡◌, true, false, ◌+◌, ◌≤◌, ◌<◌, ◌^◌};
-ghost use Rattle.model.specs.Bucket.{status_result};
+ghost use Rattle.std.specs.Prelude.{◌≡◌, ◌+◌, ◌<◌, ◌^◌};
 ghost use Rattle.model.specs.Table.{Answer, both_updates, update_node_in, insert_updates, inserts, insert_or_update_in};
 ghost use Rattle.model.specs.Call.{optional};
 ghost use Rattle.key.specs.Key.{num};
-ghost use Rattle.node.specs.Node.{value_of, node_of, value_codes, node_codes};
-ghost use Rattle.bucket.specs.Bucket.{key_at, bucket_of, settings_of, Sound, Becomes};
+ghost use Rattle.node.specs.Node.{value_of, node_of};
+ghost use Rattle.bucket.specs.Bucket.{bucket_of, settings_of, Becomes};
 ghost use Rattle.bucket.specs.Calls.{update_result_of, insert_result_of};
 ghost use Rattle.bucket_update.specs.Results.{table_insert_result_of};
-ghost use Rattle.bucket_update.specs.Again.{put_again, value_result};
+ghost use Rattle.bucket_update.specs.Again.{value_result};
 
-use bucket::{FailureReason, InsertResult as BucketInsertResult, KBucket, Step, UpdateResult};
+use bucket::{FailureReason, InsertResult as BucketInsertResult, SoundBucket, Step, UpdateResult};
 use key::Key;
-use node::{Code, Node, Value};
+use node::{NodeInRange, NodeUpdate, StatusUpdate, Value};
 
 // What insert_or_update answers.
 #[derive(Clone, Copy, Debug, PartialEq, Eq)]
@@ -60,41 +59,45 @@ pub fn value_result(old: Value, value: Value) -> UpdateResult
 // Internal: update_node on the bucket of its key; state 2 is none given. `fails` is the answer of the table filter, a test that the bucket
 // alone cannot make. A bool, as in the model's rule: two functions would leave each of their callers the same branch.
 pub fn update_node_in(
-    b: KBucket,
+    b: SoundBucket,
     fails: bool,
     key: Key,
-    value: Value,
-    state: Code,
+    update: NodeUpdate,
     time: u64,
-) -> Step<UpdateResult>
-    requires sound { Sound b }
-    requires value_value { value_codes value ≡ true }
-    requires state_bound { state ≤ 2 }
-    requires pending_timeout_bound { time + b.pending_timeout < 2 ^ 64 }
-    ensures result_value { Answer.Update (update_result_of result.result) ≡ (update_node_in (settings_of b) fails time (num key) (value_of value) (optional state) (bucket_of b)).0 }
-    ensures becomes { Becomes (settings_of b) (update_node_in (settings_of b) fails time (num key) (value_of value) (optional state) (bucket_of b)).1 result.bucket }
+) -> Step<SoundBucket, UpdateResult>
+    ensures result_value { Answer.Update (update_result_of result.result) ≡ (update_node_in (settings_of b.bucket) fails time (num key) (value_of update.value.value) (optional update.state) (bucket_of b.bucket)).0 }
+    ensures becomes { Becomes (settings_of b.bucket) (update_node_in (settings_of b.bucket) fails time (num key) (value_of update.value.value) (optional update.state) (bucket_of b.bucket)).1 result.bucket.bucket }
 {
     if fails {
         return Step {
-            bucket: b.remove_sound(key, time).bucket,
+            bucket: b.remove(key, time).bucket,
             result: UpdateResult::Failed(FailureReason::TableFilter),
         };
     }
-    let pos = places::position(&b.nodes[..b.count], key);
-    if pos < b.count && b.filter != 1 && state != 2 {
-        let old = b.nodes[pos];
-        let of_value = value_result(old.value, value);
+    let NodeUpdate { value, state } = update;
+    let pos = places::position(&b.bucket.nodes[..b.bucket.count], key);
+    if pos < b.bucket.count && b.bucket.filter != 1 && state != 2 {
+        let old = b.node_at(pos);
+        let of_value = value_result(old.node.value, value.value);
+        let status = StatusUpdate {
+            state,
+            direction: 2,
+        };
         return b
-            .put_again(pos, old.with_value(value).with_status(state, 2))
+            .put_again(pos, old.with_value(value).with_status(status))
             .map(|of_status| both_updates(of_value, of_status));
     }
-    let valued = b.update_value_sound(key, value);
+    let valued = b.update_value(key, value);
     if state == 2 || matches!(valued.result, UpdateResult::Failed(_)) {
         return valued;
     }
+    let status = StatusUpdate {
+        state,
+        direction: 2,
+    };
     valued
         .bucket
-        .update_status_sound(key, state, 2)
+        .update_status(key, status)
         .map(|of_status| both_updates(valued.result, of_status))
 }
 
@@ -139,30 +142,34 @@ pub fn inserts(r: BucketInsertResult) -> InsertResult
 }
 
 // Internal: insert_or_update on the bucket of its key; `fails` as in update_node_in.
-pub fn insert_or_update_in(b: KBucket, fails: bool, node: Node, time: u64) -> Step<InsertResult>
-    requires sound { Sound b }
-    requires node_value { node_codes node ≡ true }
-    requires pending_timeout_bound { time + b.pending_timeout < 2 ^ 64 }
-    ensures result_value { Answer.InsertOrUpdate (table_insert_result_of result.result) ≡ (insert_or_update_in (settings_of b) fails time (node_of node) (bucket_of b)).0 }
-    ensures becomes { Becomes (settings_of b) (insert_or_update_in (settings_of b) fails time (node_of node) (bucket_of b)).1 result.bucket }
+pub fn insert_or_update_in(
+    b: SoundBucket,
+    fails: bool,
+    node: NodeInRange,
+    time: u64,
+) -> Step<SoundBucket, InsertResult>
+    requires { time + b.bucket.pending_timeout < 2 ^ 64 }
+    ensures result_value { Answer.InsertOrUpdate (table_insert_result_of result.result) ≡ (insert_or_update_in (settings_of b.bucket) fails time (node_of node.node) (bucket_of b.bucket)).0 }
+    ensures becomes { Becomes (settings_of b.bucket) (insert_or_update_in (settings_of b.bucket) fails time (node_of node.node) (bucket_of b.bucket)).1 result.bucket.bucket }
 {
+    let key = node.node.key;
     if fails {
         return Step {
-            bucket: b.remove_sound(node.key, time).bucket,
+            bucket: b.remove(key, time).bucket,
             result: InsertResult::Failed(FailureReason::TableFilter),
         };
     }
-    let pos = places::position(&b.nodes[..b.count], node.key);
-    if b.count <= pos {
-        return b.insert_sound(node, time).map(inserts);
+    let pos = places::position(&b.bucket.nodes[..b.bucket.count], key);
+    if b.bucket.count <= pos {
+        return b.insert(node, time).map(inserts);
     }
-    if b.filter != 1 {
-        let of_value = value_result(b.nodes[pos].value, node.value);
+    if b.bucket.filter != 1 {
+        let of_value = value_result(b.bucket.nodes[pos].value, node.node.value);
         return b
             .put_again(pos, node)
             .map(|of_status| insert_updates(of_value, of_status));
     }
-    let stated = b.update_status_sound(node.key, node.status.state, node.status.direction);
+    let stated = b.update_status(key, node.status());
     if matches!(stated.result, UpdateResult::Failed(_)) {
         return Step {
             bucket: stated.bucket,
@@ -171,6 +178,6 @@ pub fn insert_or_update_in(b: KBucket, fails: bool, node: Node, time: u64) -> St
     }
     stated
         .bucket
-        .update_value_sound(node.key, node.value)
+        .update_value(key, node.value())
         .map(|of_value| insert_updates(of_value, stated.result))
 }

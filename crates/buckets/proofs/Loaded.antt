@@ -1,24 +1,23 @@
 -- What is read of a bucket's bytes, place by place, is what is stored of the bucket that they are.
 use mathlib.Core.Path.{◌≡◌, refl, sym, ap, ◌∙◌}
-use mathlib.Core.Bool.{Bool, true, false, cond}
+use mathlib.Core.Bool.{Bool, true, false}
 use mathlib.Core.List.{List, [], ◌∷◌, ◌++◌, map, append_assoc}
 use Prim.Native.Nat.{ℕ, suc, ◌+◌, ◌-◌, ◌≤◌, ◌<◌}
 use native.Mathlib.Omega.{arith}
-use Rattle.std.specs.Prelude.{Option, Some, None}
+use Rattle.std.specs.Prelude.{Option}
 use lib.ListN.{length, get_or, set, replicate, length-append}
 use lib.Seq.{set-append_seam}
 use lib.Dec.{eqb, leb}
 use borrow.Author.Tests.{eqb-true, le-leb}
 use Rattle.model.specs.Base.{tabulate}
-use Rattle.model.specs.Bytes.{number, part, Bytes}
+use Rattle.model.specs.Bytes.{part, Bytes}
 use Rattle.model.specs.Bucket.{BucketSettings, max_nodes_per_bucket, nodes}
-use Rattle.model.specs.Sizes.{key_size, time_size, value_size, node_size, pending_at, pending_size, bucket_size}
+use Rattle.model.specs.Sizes.{key_size, value_size, node_size, pending_at, bucket_size}
 use Rattle.model.specs.Layout.{value_in, node_in, place_in, nodes_in, pending_in, bucket_in, settings_in, bucket_part, table_of}
 use Rattle.model.specs.Formed as formed
 use Rattle.model.specs.Fits.{All}
 use Rattle.laws.proofs.Tests.{split, and_left, and_right}
 use Rattle.laws.proofs.Lists.{length_tabulate, map_tabulate, tabulate_one_more, tabulate_ext, conj_gives, conj_if}
-use Rattle.laws.proofs.Parts.{part_part, get_d_part}
 use Rattle.laws.proofs.NodeFormed.{flag_back}
 use Rattle.laws.proofs.BucketFormed.{Checked, checked, checked_if}
 use Rattle.laws.proofs.BucketBack.{nodes_in_lem, count_in, first_in, pending_of_lem, bucket_good}
@@ -27,7 +26,7 @@ use Rattle.node.specs.Node.{stored_value, stored_node, zero_node}
 use Rattle.node.proofs.Stored.{stored_value_of}
 use Rattle.places.specs.Places.{padded}
 use Rattle.storage.specs.Read.{read_value, read_node}
-use Rattle.storage.proofs.Nodes.{value_of_read, codes_read, codes_value}
+use Rattle.storage.proofs.Bytes.{value_of_read, codes_read, codes_value}
 use Rattle.bucket.specs.declared.PendingNode.{PendingNode}
 use Rattle.bucket.specs.declared.KBucket.{KBucket}
 use Rattle.bucket.specs.Bucket.{stored_pending, Becomes}
@@ -99,23 +98,14 @@ module _ (bs : List ℕ) (p : ℕ → Bool) (h : formed.pending_formed p bs ≡ 
       (λ e. rw e (rw e at h))
       (λ e. let t = asked e in rw e (conj_if (eqb flag 1) (true ∷ absent ∷ formed.node_codes waiting ∷ []) (t.0, (refl, (t.1.1.0, (t.1.1.1.0, tt))))))
 
-  pending_is : read_pending (part bs pending_at pending_size)
-      ≡ cond (eqb flag 1) (Some (record { node = read_node waiting; deadline = number (part bs (pending_at + 1 + node_size) time_size) })) None
+  stored_pending_lem : stored_pending (pending_in bs) ≡ read_pending bs
   unfolding read_pending
-  pending_is =
-      rw (
-        get_d_part bs pending_at pending_size 0 (omega arith),
-        part_part bs pending_at pending_size 1 node_size (omega arith),
-        part_part bs pending_at pending_size (1 + node_size) time_size (omega arith),
-      )
-
-  stored_pending_lem : stored_pending (pending_in bs) ≡ read_pending (part bs pending_at pending_size)
   stored_pending_lem =
       split (eqb flag 1)
       (λ e.
       let z : eqb flag 0 ≡ false = ap (λ (x : ℕ). eqb x 0) (eqb-true flag 1 e) in
-      rw (pending_is, e, stored_read waiting (asked z).1.1.1.0))
-      (λ e. rw (pending_is, e))
+      rw (e, stored_read waiting (asked z).1.1.1.0))
+      (λ e. rw e)
 
 -- what passes question 2 passes it less the index
 any_index : (p : ℕ → Bool) (m : ℕ) (bs : List ℕ) → formed.bucket_formed p m bs ≡ true → sound_bytes m bs ≡ true
@@ -150,7 +140,7 @@ module _ (bs : List ℕ) (l : length bs ≡ bucket_size) (h : Bytes bs) (s : Set
       ∙ tabulate_ext (get_or bs 0 0) (λ j. stored_node (node_in (place_in bs j))) (λ j. read_node (place_in bs j)) (λ j i. stored_read (place_in bs j) (passed.codes j i))
 
   pub loaded : (s.max_incoming ≤ max_nodes_per_bucket) × (s.filter ≤ 1) → (ns : List Node) (k j : ℕ) (q : Option PendingNode)
-      → ns ≡ padded (read_places bs k) → k ≡ get_or bs 0 0 → j ≡ get_or bs 1 0 → q ≡ read_pending (part bs pending_at pending_size)
+      → ns ≡ padded (read_places bs k) → k ≡ get_or bs 0 0 → j ≡ get_or bs 1 0 → q ≡ read_pending bs
       → Becomes (settings_of s) (bucket_in bs)
       (record {
         nodes = ns;

@@ -2,7 +2,7 @@
 use Rattle.std.specs.Prelude.{ℕ, ◌+◌, Bool, true, cond, Option, Some, None, List, get_or, eqb}
 use Rattle.model.specs.Base.{tabulate}
 use Rattle.model.specs.Bytes.{number, part}
-use Rattle.model.specs.Sizes.{time_size, node_size}
+use Rattle.model.specs.Sizes.{time_size, node_size, pending_at}
 use Rattle.model.specs.Layout.{place_in}
 use Rattle.model.specs.Formed.{bucket_formed}
 use Rattle.node.specs.declared.Node.{Node}
@@ -14,10 +14,11 @@ use Rattle.bucket.specs.declared.PendingNode.{PendingNode}
 unfoldable pub read_places : List ℕ → ℕ → List Node
 read_places bs k = tabulate k (λ j. read_node (place_in bs j))
 
--- flag, node, deadline
+-- the pending of a bucket's bytes: flag, node, deadline
 unfoldable pub read_pending : List ℕ → Option PendingNode
 read_pending bs =
-    cond (eqb (get_or bs 0 0) 1) (Some (record { node = read_node (part bs 1 node_size); deadline = number (part bs (1 + node_size) time_size) })) None
+    cond (eqb (get_or bs pending_at 0) 1)
+    (Some (record { node = read_node (part bs (pending_at + 1) node_size); deadline = number (part bs (pending_at + 1 + node_size) time_size) })) None
 
 -- 01, question 4, of a pending's node
 abbrev pub pending_codes : Option PendingNode → Bool

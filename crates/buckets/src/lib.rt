@@ -5,27 +5,26 @@ ghost use Rattle.std.specs.Prelude.{◌≡◌, true, ◌≤◌, ◌<◌, length}
 ghost use Rattle.model.specs.Bytes.{splice};
 ghost use Rattle.model.specs.Bucket.{max_nodes_per_bucket};
 ghost use Rattle.model.specs.Table.{num_buckets};
-ghost use Rattle.model.specs.Sizes.{pending_size, bucket_size, bucket_at, storage_size};
+ghost use Rattle.model.specs.Sizes.{pending_size, bucket_size, bucket_at};
 ghost use Rattle.model.specs.Layout.{pending_bytes, bucket_bytes, bucket_in, table_of};
 ghost use Rattle.model.specs.Formed.{header_formed, bucket_formed_at};
-ghost use Rattle.bucket.specs.Bucket.{pending_of, bucket_of, Sound, Becomes};
+ghost use Rattle.bucket.specs.Bucket.{pending_of, bucket_of, Becomes};
 ghost use Rattle.bucket.specs.Settings.{settings_of};
 ghost use Rattle.buckets.specs.Read.{read_pending, pending_codes, sound_bytes};
 
-use bucket::{KBucket, PendingNode, Settings};
+use bucket::{KBucket, PendingNode, Settings, SoundBucket};
 use node::Node;
-use storage::Layout;
+use storage::{Layout, Nodes};
 
-// The pending of its bytes.
+// The pending of a bucket's bytes.
 #[tactic(auto, unfolding(model::specs::Bytes::part, crate::specs::Read::read_pending))]
-fn load_pending(s: &[u8]) -> Option<PendingNode>
-    requires { length s.now ≡ pending_size }
-    ensures { result ≡ read_pending s.now }
+fn load_pending(bucket: &[u8; Layout::BUCKET]) -> Option<PendingNode>
+    ensures { result ≡ read_pending bucket.now }
 {
-    if s[0] == 1 {
+    if bucket[Layout::PENDING_AT] == 1 {
         Some(PendingNode {
-            node: storage::load_node(&s[1..1 + Layout::NODE]),
-            deadline: words::get_u64(&s[1 + Layout::NODE..Layout::PENDING]),
+            node: storage::load_node(storage::pending(bucket)),
+            deadline: words::get_u64(&bucket[Layout::DEADLINE_AT..Layout::BUCKET]),
         })
     } else {
         None
@@ -33,35 +32,35 @@ fn load_pending(s: &[u8]) -> Option<PendingNode>
 }
 
 // Internal: the bucket of its bytes, which pass question 2, all but the index, under settings that are in range.
-pub fn load(bucket: &[u8], settings: Settings) -> KBucket
-    requires bucket_len { length bucket.now ≡ bucket_size }
+pub fn load(bucket: &[u8; Layout::BUCKET], settings: Settings) -> SoundBucket
     requires bucket_value { sound_bytes settings.max_incoming bucket.now ≡ true }
     requires settings_value { (settings.max_incoming ≤ max_nodes_per_bucket) × (settings.filter ≤ 1) }
-    ensures { Becomes (settings_of settings) (bucket_in bucket.now) result }
+    ensures { Becomes (settings_of settings) (bucket_in bucket.now) result.bucket }
 {
-    let count = usize::from(bucket[0]);
+    let held = Nodes::of(bucket);
     let mut nodes = [Node::zero(); KBucket::MAX_NODES_PER_BUCKET];
-    for i in 0..count {
-        let at = Layout::PLACES_AT + i * Layout::NODE;
-        nodes[i] = storage::load_node(&bucket[at..at + Layout::NODE]);
+    for i in 0..held.count {
+        nodes[i] = storage::load_node(held.place(i));
     }
-    KBucket {
-        nodes,
-        count,
-        first_connected_pos: usize::from(bucket[1]),
-        pending: load_pending(&bucket[Layout::PENDING_AT..Layout::BUCKET]),
-        pending_timeout: settings.pending_timeout,
-        max_incoming: settings.max_incoming,
-        filter: settings.filter,
+    SoundBucket {
+        bucket: KBucket {
+            nodes,
+            count: held.count,
+            first_connected_pos: usize::from(bucket[1]),
+            pending: load_pending(bucket),
+            pending_timeout: settings.pending_timeout,
+            max_incoming: settings.max_incoming,
+            filter: settings.filter,
+        },
     }
 }
 
 // Internal: bucket i of storage whose header and bucket i pass question 2.
-pub fn load_bucket(s: &[u8; Layout::STORAGE], i: usize) -> KBucket
+pub fn load_bucket(s: &[u8; Layout::STORAGE], i: usize) -> SoundBucket
     requires s_value { header_formed s.now ≡ true }
     requires i_lt_num_buckets { i < num_buckets }
     requires i_value { bucket_formed_at s.now i ≡ true }
-    ensures { Becomes (table_of s.now).settings.bucket ((table_of s.now).buckets i) result }
+    ensures { Becomes (table_of s.now).settings.bucket ((table_of s.now).buckets i) result.bucket }
 {
     load(storage::bucket(s, i), header::settings(s))
 }
@@ -81,29 +80,30 @@ pub fn store_pending(s: &mut [u8], pending: Option<PendingNode>)
     }
 }
 
-// Internal: the bytes become those of a sound bucket.
-pub fn store(bucket: &mut [u8], b: KBucket)
-    requires bucket_len { length bucket.old ≡ bucket_size }
-    requires sound { Sound b }
-    ensures { bucket.new ≡ bucket_bytes (bucket_of b) }
+// Internal: the bytes become those of the bucket.
+pub fn store(bucket: &mut [u8], b: &SoundBucket)
+    requires { length bucket.old ≡ bucket_size }
+    ensures { bucket.new ≡ bucket_bytes (bucket_of b.now.bucket) }
 {
-    let count = b.count;
+    let count = b.bucket.count;
     bucket[0] = count as u8;
-    bucket[1] = b.first_connected_pos as u8;
+    bucket[1] = b.bucket.first_connected_pos as u8;
     for i in 0..count {
         let at = Layout::PLACES_AT + i * Layout::NODE;
-        storage::store_node(&mut bucket[at..at + Layout::NODE], b.nodes[i]);
+        storage::store_node(&mut bucket[at..at + Layout::NODE], b.bucket.nodes[i]);
     }
     let unused = Layout::PLACES_AT + count * Layout::NODE;
     words::put_zeros(&mut bucket[unused..Layout::PENDING_AT]);
-    store_pending(&mut bucket[Layout::PENDING_AT..Layout::BUCKET], b.pending);
+    store_pending(
+        &mut bucket[Layout::PENDING_AT..Layout::BUCKET],
+        b.bucket.pending,
+    );
 }
 
-// Internal: a sound bucket, stored as bucket i of the storage.
-pub fn store_bucket(s: &mut [u8; Layout::STORAGE], i: usize, b: KBucket)
-    requires i_lt_num_buckets { i < num_buckets }
-    requires sound { Sound b }
-    ensures { s.new ≡ splice s.old (bucket_at i) (bucket_bytes (bucket_of b)) }
+// Internal: bucket i of the storage becomes this one.
+pub fn store_bucket(s: &mut [u8; Layout::STORAGE], i: usize, b: &SoundBucket)
+    requires { i < num_buckets }
+    ensures { s.new ≡ splice s.old (bucket_at i) (bucket_bytes (bucket_of b.now.bucket)) }
 {
     let at = Layout::HEADER + i * Layout::BUCKET;
     store(&mut s[at..at + Layout::BUCKET], b);

@@ -55,6 +55,7 @@ use Rattle.listing.proofs.closest_values_predicate.Reads as ClosestValuesPredica
 use Rattle.listing.proofs.closest_values_predicate.Symbol as ClosestValuesPredicateSymbol
 use Rattle.listing.proofs.closest_values_predicate.Met as ClosestValuesPredicateMet
 use Rattle.table.proofs.take_applied_pending.Kinds as TakeAppliedPendingKinds
+use Rattle.table.proofs.take_applied_pending.Reads as TakeAppliedPending
 use Rattle.table.proofs.take_applied_pending.Symbol as TakeAppliedPendingSymbol
 use Rattle.table.proofs.take_applied_pending.Met as TakeAppliedPendingMet
 use Rattle.loaded.proofs.read.Kinds as ReadKinds
@@ -70,7 +71,6 @@ use mathlib.Core.Bool.{true}
 use Rattle.model.specs.Call.{Call, KeyCall}
 use Rattle.model.specs.StepBytes.{step_bytes}
 use Rattle.on_key.specs.Answers.{Answers}
-use Rattle.table.specs.Calls.{take_answer, take_codes}
 use Rattle.entry.specs.Kind.{entry_answer, entry_codes}
 use Rattle.claims.specs.EntryPoints.{EntryPoints}
 use Rattle.claims.proofs.Returns.{plain, paired}
@@ -95,10 +95,7 @@ entry_points =
       closest_keys = plain 3 ClosestKeysKinds.ps ClosestKeysKinds.r ClosestKeys.Post ClosestKeysSymbol.code ClosestKeysSymbol.name (λ M. ClosestKeysMet.met);
       closest_values = plain 3 ClosestValuesKinds.ps ClosestValuesKinds.r ClosestValues.Post ClosestValuesSymbol.code ClosestValuesSymbol.name (λ M. ClosestValuesMet.met);
       closest_values_predicate = plain 3 ClosestValuesPredicateKinds.ps ClosestValuesPredicateKinds.r ClosestValuesPredicate.Post ClosestValuesPredicateSymbol.code ClosestValuesPredicateSymbol.name (λ M. ClosestValuesPredicateMet.met);
-      take_applied_pending =
-          paired 1 TakeAppliedPendingKinds.ps TakeAppliedPendingKinds.r
-          (λ κs a b e. Answers (take_answer b) e.0.now (step_bytes Call.take_applied_pending a.0.now)) (λ κs a b e. take_codes b ≡ true)
-          TakeAppliedPendingSymbol.code TakeAppliedPendingSymbol.name (λ M. TakeAppliedPendingMet.met);
+      take_applied_pending = plain 1 TakeAppliedPendingKinds.ps TakeAppliedPendingKinds.r TakeAppliedPending.Post TakeAppliedPendingSymbol.code TakeAppliedPendingSymbol.name (λ M. TakeAppliedPendingMet.met);
       read = plain 2 ReadKinds.ps ReadKinds.r Read.Post ReadSymbol.code ReadSymbol.name (λ M. ReadMet.met);
       write = plain 2 WriteKinds.ps WriteKinds.r Write.Post WriteSymbol.code WriteSymbol.name (λ M. WriteMet.met);
     }

@@ -1,19 +1,18 @@
--- What an answer carries, at its front: a key, a record, or nothing.
-use Rattle.std.proofs.Common.{Some, None}
-use Rattle.std.specs.Prelude as code
-use mathlib.Core.Path.{◌≡◌, sym, ◌∙◌}
+-- What an answer carries, at its front: a key, or a record.
+use Rattle.std.proofs.Common.{Some}
+use mathlib.Core.Path.{◌≡◌, ap, ◌∙◌}
 use mathlib.Core.List.{List, append-nil}
 use Prim.Native.Nat.{ℕ}
+use lib.ListN.{length}
 use borrow.Rule.Slice.PartMut.{put_mid}
+use Rattle.model.specs.Base.{first, joined}
 use Rattle.model.specs.Bytes.{bytes, splice}
 use Rattle.model.specs.Node as model
 use Rattle.model.specs.Sizes.{key_size}
+use Rattle.model.specs.Layout.{record_bytes}
 use Rattle.laws.proofs.Bytes.{length_bytes}
 use Rattle.laws.proofs.NodeBytes.{length_record}
-use Rattle.laws.proofs.Parts.{splice_nil}
 use Rattle.words.proofs.Words.{put_mid_splice}
-use Rattle.model.specs.Base.{first, joined}
-use Rattle.model.specs.Layout.{record_bytes}
 use Rattle.key.specs.Key.{num}
 use Rattle.bucket.specs.declared.EndedPending.{EndedPending}
 use Rattle.bucket.specs.Calls.{ending_of, records_of}
@@ -22,12 +21,14 @@ use Rattle.codes.specs.Codes.{applied_bytes}
 pub key_put : (s w : List ℕ) (k : ℕ) → w ≡ bytes key_size k → put_mid 0 32 s w ≡ splice s 0 (bytes key_size k)
 key_put s w k e = put_mid_splice s 0 32 e (length_bytes key_size k)
 
-pub record_put : (s w : List ℕ) (x : code.Option EndedPending) (e : EndedPending) → x ≡ Some e → w ≡ joined record_bytes (records_of (Some e))
-    → put_mid 0 80 s w ≡ splice s 0 (applied_bytes (first (records_of x)))
+-- one record is its bytes
+pub record_carried : (e : EndedPending) → joined record_bytes (records_of (Some e)) ≡ applied_bytes (first (records_of (Some e)))
 unfolding joined
-record_put s w x e is h =
+record_carried e =
     let r : model.EndedPending = record { key = num e.key; ending = ending_of e.ending } in
-    rw is (put_mid_splice s 0 80 (h ∙ append-nil (record_bytes r)) (length_record r))
+    append-nil (record_bytes r)
 
-pub none_put : (s : List ℕ) (x : code.Option EndedPending) → x ≡ None → s ≡ splice s 0 (applied_bytes (first (records_of x)))
-none_put s x is = rw is (sym (splice_nil s 0))
+pub record_put : (s w : List ℕ) (e : EndedPending) → w ≡ joined record_bytes (records_of (Some e)) → put_mid 0 80 s w ≡ splice s 0 (joined record_bytes (records_of (Some e)))
+record_put s w e h =
+    let r : model.EndedPending = record { key = num e.key; ending = ending_of e.ending } in
+    put_mid_splice s 0 80 h (ap length (record_carried e) ∙ length_record r)

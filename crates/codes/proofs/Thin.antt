@@ -19,6 +19,8 @@ use Rattle.on_key.specs.Answers.{Answers, failed_of_two, failed_of_five}
 use Rattle.laws.proofs.Questions.{with_room_lem, up_to_five, short_of_room}
 use Rattle.on_key.proofs.OneKey.{refused_bytes}
 use Rattle.codes.specs.Codes.{refused_code, answer_code, answer_bytes, answer_size}
+use Rattle.codes.specs.declared.Reply.{Reply}
+use Rattle.codes.specs.Carried.{carried_bytes}
 use Rattle.codes.specs.Exported.{Writes, exported_with}
 
 pub cases : {P : Type 0} (o : Option ℕ) → ((n : ℕ) → o ≡ some n → P) → (o ≡ none → P) → P
@@ -50,6 +52,11 @@ module _ (c : Call) (s answer : List ℕ) where
         storage = x.storage ∙ (rw g);
         output = w ∙ ap (λ (b : Answer). splice answer 0 (answer_bytes b)) x.answer ∙ (rw g);
       })
+
+  -- the reply of the call, put in the answer
+  pub replied : answer_size ≤ length answer → (x : Reply) {a : Answer} {r : ℕ} {s' out : List ℕ} → Answers a s' (step_bytes c s) → x.code ≡ answer_code a
+      → carried_bytes x.carried ≡ answer_bytes a → r ≡ x.code → out ≡ splice answer 0 (carried_bytes x.carried) → Writes r s' out (exported_with c answer s)
+  replied l x y e f g h = carries l y (g ∙ e) (h ∙ ap (splice answer 0) f)
 
   -- a refusal carries nothing
   pub refuses : answer_size ≤ length answer → {q r : ℕ} {s' : List ℕ} → Answers (Answer.Refused q) s' (step_bytes c s) → r ≡ refused_code q → Writes r s' answer (exported_with c answer s)

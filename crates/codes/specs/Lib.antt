@@ -1,3 +1,4 @@
 -- What the exports return.
 pub mod Codes
 pub mod Exported
+pub mod Carried

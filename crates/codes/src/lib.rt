@@ -1,11 +1,13 @@
-// Internal: the numbers that the exports return, and the bytes that an answer carries, put at the front of a lent answer.
+// Internal: the numbers that the exports return, and the bytes that an answer carries, put at the front of a lent answer. No `From` gives a
+// number: it could only stand in the crate of the type, and the numbers are the exports' alone.
 #![tactic(auto)]
 
-ghost use Rattle.std.specs.Prelude.{◌≡◌, true, ◌≤◌, length};
+ghost use Rattle.std.specs.Prelude.{◌≡◌, Some, None, ◌≤◌, length};
 ghost use Rattle.model.specs.Base.{first};
 ghost use Rattle.model.specs.Bytes.{splice};
 ghost use Rattle.node.specs.Refusal.{number_of};
-ghost use Rattle.bucket.specs.Calls.{insert_result_of, failure_reason_of, update_result_of, records_of, applied_codes};
+ghost use Rattle.bucket.specs.Calls.{insert_result_of, failure_reason_of, update_result_of, records_of};
+ghost use Rattle.codes.specs.Carried.{carried_bytes};
 ghost use Rattle.codes.specs.Codes.{refused_code, failed_code, update_code, bucket_insert_code, bucket_insert_bytes, applied_code, applied_bytes, answer_size};
 
 pub mod answers;
@@ -23,6 +25,59 @@ impl Answer {
     pub const BYTES: usize = Layout::RECORD;
 }
 
+// What an answer carries at its front.
+#[derive(Clone, Copy)]
+pub enum Carried {
+    Key(Key),
+    Record(EndedPending),
+}
+
+// The number that an export returns, and what its answer carries.
+#[derive(Clone, Copy)]
+pub struct Reply {
+    pub code: u32,
+    pub carried: Option<Carried>,
+}
+
+impl Reply {
+    // The number alone.
+    fn bare(code: u32) -> Reply
+        ensures { result ≡ record { code = code; carried = None } }
+    {
+        Reply {
+            code,
+            carried: None,
+        }
+    }
+
+    // 1, with the key that is to be asked for.
+    fn of_key(key: Key) -> Reply
+        ensures { result ≡ record { code = 1; carried = Some (Carried.Key key) } }
+    {
+        Reply {
+            code: 1,
+            carried: Some(Carried::Key(key)),
+        }
+    }
+
+    // Internal: puts what is carried at the front of the answer, and gives the number.
+    #[tactic(auto, using(crate::proofs::Put::key_put, crate::proofs::Put::record_put, laws::proofs::Parts::splice_nil))]
+    pub fn put(self, answer: &mut [u8]) -> u32
+        requires { answer_size ≤ length answer.old }
+        ensures code { result ≡ self.code }
+        ensures answer_after { answer.new ≡ splice answer.old 0 (carried_bytes self.carried) }
+    {
+        match self.carried {
+            None => {}
+            Some(Carried::Key(key)) => key.store(&mut answer[0..Layout::KEY]),
+            Some(Carried::Record(ended)) => {
+                header::store_record(&mut answer[0..Layout::RECORD], ended);
+            }
+        }
+        self.code
+    }
+}
+
 // Internal: the number of a refusal.
 pub fn refused(refusal: Refusal) -> u32
     ensures { result ≡ refused_code (number_of refusal) }
@@ -30,7 +85,7 @@ pub fn refused(refusal: Refusal) -> u32
     0x1_0000 + u32::from(refusal.number())
 }
 
-// Internal: the number of a reason. It is no `From`, which can only stand in the crate of the type: the numbers are the exports' alone.
+// Internal: the number of a reason.
 pub fn reason_code(reason: FailureReason) -> u32
     ensures { result ≡ failed_code (failure_reason_of reason) }
 {
@@ -44,7 +99,7 @@ pub fn reason_code(reason: FailureReason) -> u32
     }
 }
 
-// Internal: the number of an update's result. Not a `From`, as reason_code.
+// Internal: the number of an update's result.
 pub fn update_code(res: UpdateResult) -> u32
     ensures { result ≡ update_code (update_result_of res) }
 {
@@ -57,39 +112,32 @@ pub fn update_code(res: UpdateResult) -> u32
     }
 }
 
-// Internal: the number of a bucket insert's result; the key that it names, put in the answer.
-#[tactic(auto, using(crate::proofs::Put::key_put, laws::proofs::Parts::splice_nil))]
-pub fn put_bucket_insert(answer: &mut [u8], res: InsertResult) -> u32
-    requires { answer_size ≤ length answer.old }
-    ensures value { result ≡ bucket_insert_code (insert_result_of res) }
-    ensures answer_after { answer.new ≡ splice answer.old 0 (bucket_insert_bytes (insert_result_of res)) }
+// Internal: the reply of a bucket insert: the number of its result, and the key that it names.
+pub fn bucket_insert_reply(res: InsertResult) -> Reply
+    ensures code { result.code ≡ bucket_insert_code (insert_result_of res) }
+    ensures carried { carried_bytes result.carried ≡ bucket_insert_bytes (insert_result_of res) }
 {
     match res {
-        InsertResult::Inserted => 0,
-        InsertResult::Pending(key) => {
-            key.store(&mut answer[0..Layout::KEY]);
-            1
-        }
-        InsertResult::FailedFilter => 2,
-        InsertResult::TooManyIncoming => 3,
-        InsertResult::Full => 4,
-        InsertResult::NodeExists => 5,
+        InsertResult::Inserted => Reply::bare(0),
+        InsertResult::Pending(key) => Reply::of_key(key),
+        InsertResult::FailedFilter => Reply::bare(2),
+        InsertResult::TooManyIncoming => Reply::bare(3),
+        InsertResult::Full => Reply::bare(4),
+        InsertResult::NodeExists => Reply::bare(5),
     }
 }
 
-// Internal: 1 for a record, which is put in the answer, 0 for none.
-#[tactic(auto, using(crate::proofs::Put::record_put, crate::proofs::Put::none_put))]
-pub fn put_applied(answer: &mut [u8], applied: Option<EndedPending>) -> u32
-    requires answer_size_in_bounds { answer_size ≤ length answer.old }
-    requires applied_value { applied_codes applied ≡ true }
-    ensures value { result ≡ applied_code (first (records_of applied)) }
-    ensures answer_after { answer.new ≡ splice answer.old 0 (applied_bytes (first (records_of applied))) }
+// Internal: the reply of a record, or of none: 1 with the record, or 0.
+#[tactic(auto, using(crate::proofs::Put::record_carried))]
+pub fn applied_reply(applied: Option<EndedPending>) -> Reply
+    ensures code { result.code ≡ applied_code (first (records_of applied)) }
+    ensures carried { carried_bytes result.carried ≡ applied_bytes (first (records_of applied)) }
 {
     match applied {
-        None => 0,
-        Some(ended) => {
-            header::store_record(&mut answer[0..Layout::RECORD], ended);
-            1
-        }
+        None => Reply::bare(0),
+        Some(ended) => Reply {
+            code: 1,
+            carried: Some(Carried::Record(ended)),
+        },
     }
 }

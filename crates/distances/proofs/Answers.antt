@@ -24,18 +24,17 @@ use Rattle.model.specs.StepBytes.{all_questions, restore, unless_refused_bytes, 
 use Rattle.laws.proofs.Tests.{and_left, and_right}
 use Rattle.laws.proofs.Applied.{apply_all_queue}
 use Rattle.laws.proofs.Lists.{joined_map}
-use Rattle.laws.proofs.Listing.{most_few}
 use Rattle.laws.proofs.DistanceReads.{found_reads}
 use Rattle.laws.proofs.Questions as asked
 use Rattle.laws.proofs.Questions.{front_fails, front_passes}
-use Rattle.on_key.specs.Answers.{first_three, failed_of_three, Timely}
+use Rattle.on_key.specs.Answers.{first_three, failed_of_three}
 use Rattle.visit.specs.Passes.{applied_in}
-use Rattle.visit.proofs.Applying.{Appliable, Applying, applying_done, applying_size, applying_header, applying_table, applying_formed}
+use Rattle.visit.proofs.Applying.{Appliable, Applying, applying_done, applying_table, applying_formed}
 use Rattle.items.specs.Lists.{Lists}
 use Rattle.items.proofs.Asked.{asked_passes}
 use Rattle.distances.specs.Passes.{table_after, distance_pass, passed, Taken, listed_nodes}
 use Rattle.distances.specs.Early.{early, failed_early}
-use Rattle.distances.proofs.Passes.{Holds, pass_appliable}
+use Rattle.distances.proofs.Passes.{pass_appliable}
 
 -- one item is as few as none
 most_few_is : (n : ℕ) → leb (at_least_one n) max_count ≡ leb n max_count
@@ -69,9 +68,7 @@ module _ (now n room : ℕ) (s : List ℕ) where
   pub record Passed : Type 0 where
     pub size : length s ≡ storage_size
     pub header : header_formed s ≡ true
-    pub timely : Timely s now
     pub few : n ≤ max_count
-    pub most_few : at_least_one n ≤ max_count
     pub fit : at_least_one n * node_size ≤ room
 
   pub passed_early : failed_early now n room s ≡ none → Passed
@@ -81,14 +78,11 @@ module _ (now n room : ℕ) (s : List ℕ) where
       let q = asked.passed 2 (header_formed s) ((5, clock) ∷ (6, fits) ∷ []) p.1 in
       let r = asked.passed 5 clock ((6, fits) ∷ []) q.1 in
       let u = (asked.passed 6 fits [] r.1).0 in
-      let c = leb-true (now + (table_of s).settings.bucket.pending_timeout) 18446744073709551615 r.0 in
       let m : n ≤ max_count = leb-true n max_count (and_left (leb n max_count) (leb (at_least_one n * node_size) room) u) in
       record {
         size = eqb-true _ _ p.0;
         header = q.0;
-        timely = omega (arith, c);
         few = m;
-        most_few = most_few (Listing.nodes_by_distances []) n m;
         fit = leb-true (at_least_one n * node_size) room (and_right (leb n max_count) (leb (at_least_one n * node_size) room) u);
       }
 
@@ -184,13 +178,10 @@ module _ (s : List ℕ) (ds : List ℕ) (n now : ℕ) (out : List ℕ) where
         -- the storage once the pass has been made
         module _ (b : Bytes s) {s' : List ℕ} (v : s' ≡ applied_in s now is) where
           p : Appliable s now is
-          p = let q = passed_early now n (length out) s e in pass_appliable s now taken b (record { size = q.size; header = q.header }) q.timely taken_formed taken_room
+          p = let q = passed_early now n (length out) s e in pass_appliable s now taken b (record { size = q.size; header = q.header }) taken_formed taken_room
 
           w : Applying s now is s' []
           w = applying_done s now is p v
-
-          pub holds_left : Holds s'
-          holds_left = record { size = applying_size s now is p s' [] w; header = applying_header s now is p s' [] w }
 
           pub formed_left : buckets_formed s' is ≡ true
           formed_left = applying_formed s now is p s' [] w is p.below taken_formed

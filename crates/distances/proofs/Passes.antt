@@ -23,10 +23,10 @@ use Rattle.laws.proofs.Tests.{split, and_left, and_right, and_none}
 use Rattle.laws.proofs.Lists.{joined_append, every_append}
 use Rattle.laws.proofs.Touched.{distance_of, distances_below}
 use Rattle.laws.proofs.ReadBack.{header_fits}
-use Rattle.on_key.specs.Answers.{Ready, Timely}
+use Rattle.on_key.specs.Answers.{Ready}
 use Rattle.visit.specs.declared.Given.{Given}
 use Rattle.visit.specs.Passes.{visit_one, applied_in}
-use Rattle.visit.proofs.Applying.{Appliable, Applying, applying_starts, applying_size, applying_bytes, applying_header, applying_timely, applying_rest, applying_room, applying_next, applying_ends, applying_nothing}
+use Rattle.visit.proofs.Applying.{Appliable, Applying, applying_starts, applying_size, applying_bytes, applying_header, applying_rest, applying_room, applying_next, applying_ends, applying_nothing}
 use Rattle.distances.specs.declared.pass.Tally.{Tally}
 use Rattle.distances.specs.Passes.{records_at, yields, held_at, Yields, next_table, table_after, distance_pass, passed, Taken, Told}
 use Rattle.distances.proofs.Named.{held_none, table_next}
@@ -213,18 +213,19 @@ pub record Holds (s : List ℕ) : Type 0 where
 -- one bucket of the applying pass
 
 -- the bucket at a distance, where it was asked
-pub ready_of : (s : List ℕ) (d i : ℕ) → Holds s → index_at d ≡ some i → buckets_formed s (indices (index_at d)) ≡ true → Ready s i
-ready_of s d i h e f =
-    let g : (bucket_formed_at s i && true) ≡ true = ap (λ (o : Option ℕ). buckets_formed s (indices o)) (sym e) ∙ f in
-    record { size = h.size; header = h.header; below = (distance_of d i e).below; bucket = and_left (bucket_formed_at s i) true g }
+pub formed_of : (s : List ℕ) (d i : ℕ) → index_at d ≡ some i → buckets_formed s (indices (index_at d)) ≡ true → bucket_formed_at s i ≡ true
+formed_of s d i e f = and_left (bucket_formed_at s i) true (ap (λ (o : Option ℕ). buckets_formed s (indices o)) (sym e) ∙ f)
 
-pub asked_none : (s : List ℕ) (d : ℕ) → index_at d ≡ none → true ≡ buckets_formed s (indices (index_at d))
-asked_none s d e = sym (ap (λ (o : Option ℕ). buckets_formed s (indices o)) e)
+pub ready_of : (s : List ℕ) (d i : ℕ) → Holds s → index_at d ≡ some i → bucket_formed_at s i ≡ true → Ready s i
+ready_of s d i h e f = record { size = h.size; header = h.header; below = (distance_of d i e).below; bucket = f }
 
-pub asked_some : (s : List ℕ) (d i : ℕ) {r : Bool} → index_at d ≡ some i → r ≡ bucket_formed_at s i → r ≡ buckets_formed s (indices (index_at d))
-asked_some s d i {r} e f = f ∙ one (bucket_formed_at s i) ∙ sym (ap (λ (o : Option ℕ). buckets_formed s (indices o)) e)
+pub asked_none : (s : List ℕ) {o : Option ℕ} → o ≡ none → buckets_formed s (indices o) ≡ true
+asked_none s e = ap (λ (o : Option ℕ). buckets_formed s (indices o)) e
+
+pub asked_some : (s : List ℕ) {o : Option ℕ} {i : ℕ} {b : Bool} → o ≡ some i → bucket_formed_at s i ≡ b → buckets_formed s (indices o) ≡ b
+asked_some s {i = i} e f = ap (λ (o : Option ℕ). buckets_formed s (indices o)) e ∙ one (bucket_formed_at s i) ∙ f
   where
-    one : (b : Bool) → b ≡ (b && true)
+    one : (b : Bool) → (b && true) ≡ b
     one true = refl
     one false = refl
 
@@ -232,13 +233,13 @@ pub room_at : (now : ℕ) (t : Table) (d i : ℕ) → index_at d ≡ some i → 
 room_at now t d i e h = rw e at h
 
 -- no bucket: nothing is written
-none_written : (s : List ℕ) (now : ℕ) → Bytes s → Holds s → Timely s now → s ≡ applied_in s now []
-none_written s now h f c =
+none_written : (s : List ℕ) (now : ℕ) → Bytes s → Holds s → s ≡ applied_in s now []
+none_written s now h f =
     applying_nothing s now []
-    (record { bytes = h; size = f.size; header = f.header; timely = c; below = tt; formed = refl; room = (header_fits s h f.size f.header).queue }) refl
+    (record { bytes = h; size = f.size; header = f.header; below = tt; formed = refl; room = (header_fits s h f.size f.header).queue }) refl
 
-pub one_nothing : (s : List ℕ) (now d : ℕ) → Bytes s → Holds s → Timely s now → index_at d ≡ none → s ≡ applied_in s now (indices (index_at d))
-one_nothing s now d h f c e = none_written s now h f c ∙ ap (λ (o : Option ℕ). applied_in s now (indices o)) (sym e)
+pub one_nothing : (s : List ℕ) (now d : ℕ) → Bytes s → Holds s → index_at d ≡ none → s ≡ applied_in s now (indices (index_at d))
+one_nothing s now d h f e = none_written s now h f ∙ ap (λ (o : Option ℕ). applied_in s now (indices o)) (sym e)
 
 pub one_bucket : (s : List ℕ) (now d i : ℕ) → index_at d ≡ some i → {u : List ℕ} → u ≡ applied_in s now (i ∷ []) → u ≡ applied_in s now (indices (index_at d))
 one_bucket s now d i e f = f ∙ ap (λ (o : Option ℕ). applied_in s now (indices o)) (sym e)
@@ -282,14 +283,14 @@ module _ (s₀ : List ℕ) (now : ℕ) (is : List ℕ) (a : Appliable s₀ now i
 
   next_applying : (o : Option ℕ) → Applying s₀ now is s (indices o ++ rest) → (s' : List ℕ) → s' ≡ applied_in s now (indices o) → Applying s₀ now is s' rest
   next_applying none w s' e =
-      let f : s ≡ s' = none_written s now (applying_bytes s₀ now is a s rest w) (holds_here rest w) (applying_timely s₀ now is a s rest w) ∙ sym e in
+      let f : s ≡ s' = none_written s now (applying_bytes s₀ now is a s rest w) (holds_here rest w) ∙ sym e in
       subst (λ (x : List ℕ). Applying s₀ now is x rest) f w
   next_applying (some i) w s' e = applying_next s₀ now is a s i rest w s' e
 
-pub pass_appliable : (s₀ : List ℕ) (now : ℕ) (ds : List ℕ) → Bytes s₀ → Holds s₀ → Timely s₀ now → buckets_formed s₀ (buckets_at ds) ≡ true
+pub pass_appliable : (s₀ : List ℕ) (now : ℕ) (ds : List ℕ) → Bytes s₀ → Holds s₀ → buckets_formed s₀ (buckets_at ds) ≡ true
     → length (table_after now ds (table_of s₀)).queue ≤ max_records → Appliable s₀ now (buckets_at ds)
 unfolding table_after
-pass_appliable s₀ now ds h f c b q = record { bytes = h; size = f.size; header = f.header; timely = c; below = distances_below ds; formed = b; room = q }
+pass_appliable s₀ now ds h f b q = record { bytes = h; size = f.size; header = f.header; below = distances_below ds; formed = b; room = q }
 
 -- the storage while the distances are visited
 pub record Passing (s₀ : List ℕ) (now : ℕ) (ds s : List ℕ) (p : ℕ) : Type 0 where
@@ -310,9 +311,6 @@ module _ {s₀ : List ℕ} {now : ℕ} {ds s : List ℕ} {p : ℕ} (w : Passing 
 
   pub passing_holds : Holds s
   passing_holds = holds_here s₀ now is w.appliable s [] (buckets_at (drop p ds)) w.applying
-
-  pub passing_timely : Timely s now
-  passing_timely = applying_timely s₀ now is w.appliable s (buckets_at (drop p ds)) w.applying
 
   module _ (h : p < length ds) where
     abbrev later : List ℕ

@@ -7,7 +7,7 @@ use Rattle.model.specs.Bucket.{max_nodes_per_bucket, nodes, num_entries, apply_p
 use Rattle.model.specs.Table.{Table}
 use Rattle.model.specs.Layout.{table_of}
 use Rattle.model.specs.Formed.{buckets_formed}
-use Rattle.model.specs.Listing.{apply_all, applied, applied_pass, buckets_at}
+use Rattle.model.specs.Listing.{apply_all, applied, applied_pass, indices, buckets_at}
 use Rattle.node.specs.declared.Refusal.{Refusal}
 use Rattle.visit.specs.declared.Given.{Given}
 use Rattle.visit.specs.Passes.{visit_one}
@@ -40,6 +40,11 @@ next_table now t (some i) = visit_one now i t
 -- the table once the buckets at the distances have been visited
 unfoldable pub table_after : ℕ → List ℕ → Table → Table
 table_after now ds t = (apply_all now (buckets_at ds) t).0
+
+-- 02, slip 7: question 2 of the bucket, and where it passes what it gives, those at the distances before it being visited
+abbrev pub Asked : ℕ → List ℕ → Option ℕ → List ℕ → Result Given Refusal → Type 0
+Asked now before o s (Ok g) = (buckets_formed s (indices o) ≡ true) × Yields now (table_after now before (table_of s)) o g
+Asked now before o s (Err r) = (buckets_formed s (indices o) ≡ false) × (r ≡ Refusal.Form)
 
 -- the applying pass: the table that it leaves, and its records. seen: what the buckets that yielded the record of a placed pending hold so
 -- far.

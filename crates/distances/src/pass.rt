@@ -11,9 +11,9 @@ ghost use Rattle.model.specs.Sizes.{node_size};
 ghost use Rattle.model.specs.Layout.{node_bytes, table_of};
 ghost use Rattle.model.specs.Formed.{header_formed, buckets_formed};
 ghost use Rattle.key.specs.Answers.{option_of};
-ghost use Rattle.on_key.specs.Answers.{Ready, Timely};
+ghost use Rattle.on_key.specs.Answers.{Ready};
 ghost use Rattle.visit.specs.Passes.{applied_in};
-ghost use Rattle.distances.specs.Passes.{Yields, next_table, table_after, Surveyed, listed_nodes};
+ghost use Rattle.distances.specs.Passes.{Yields, next_table, table_after, Asked, Surveyed, listed_nodes};
 
 use items::Shape;
 use node::Refusal;
@@ -43,8 +43,7 @@ fn index_at(d: u64) -> Option<usize>
 
 // What bucket i gives; the nodes that it holds are counted only where it gives the record of a placed pending.
 fn given_in(s: &[u8; Layout::STORAGE], i: usize, time: u64) -> Given
-    requires ready { Ready s.now i }
-    requires timely { Timely s.now time }
+    requires { Ready s.now i }
     ensures { Yields time (table_of s.now) (some i) result }
 {
     let g = visit::given_at(s, i, time);
@@ -57,39 +56,30 @@ fn given_in(s: &[u8; Layout::STORAGE], i: usize, time: u64) -> Given
     g
 }
 
-// What the bucket at distance d gives, those at the distances before it being visited. A bucket named before has given its record already.
-fn given_at(s: &[u8; Layout::STORAGE], before: &[u64], d: u64, time: u64) -> Given
-    requires header { header_formed s.now ≡ true }
-    requires timely { Timely s.now time }
-    requires d_value { buckets_formed s.now (indices (index_at d)) ≡ true }
-    ensures { Yields time (table_after time before.now (table_of s.now)) (index_at d) result }
+// Question 2 of the bucket at distance d, and what it gives, those at the distances before it being visited; nothing where there is none.
+// A bucket named before has given its record already.
+fn given_at(s: &[u8; Layout::STORAGE], before: &[u64], d: u64, time: u64) -> Result<Given, Refusal>
+    requires { header_formed s.now ≡ true }
+    ensures { Asked time before.now (index_at d) s.now result }
 {
     let Some(i) = index_at(d) else {
-        return Given::default();
+        return Ok(Given::default());
     };
+    if !well_formed::bucket_formed_at(s, i) {
+        return Err(Refusal::Form);
+    }
     let g = given_in(s, i, time);
     if g.records == 0 {
-        return g;
+        return Ok(g);
     }
     if before.contains(&d) {
-        return Given::default();
+        return Ok(Given::default());
     }
-    g
+    Ok(g)
 }
 
-// Question 2 of the bucket at distance d; it passes where there is none.
-fn is_formed(s: &[u8; Layout::STORAGE], d: u64) -> bool
-    requires { header_formed s.now ≡ true }
-    ensures { result ≡ buckets_formed s.now (indices (index_at d)) }
-{
-    match index_at(d) {
-        Some(i) => well_formed::bucket_formed_at(s, i),
-        None => true,
-    }
-}
-
-// Internal: question 2 of each bucket that the applying pass comes to, the records that they would give, and how far the pass goes. Nothing
-// of a bucket is read before it is asked, and nothing is written.
+// Internal: question 2 of each bucket that the applying pass comes to, the records that they would give, and how far the pass goes.
+// Nothing of a bucket is read before it is asked, and nothing is written.
 pub fn survey<'a>(
     s: &[u8; Layout::STORAGE],
     distances: &'a [u64],
@@ -97,17 +87,13 @@ pub fn survey<'a>(
     time: u64,
 ) -> Result<Tally<'a>, Refusal>
     requires header { header_formed s.now ≡ true }
-    requires timely { Timely s.now time }
     requires n_le_max_count { n ≤ max_count }
     ensures { Surveyed time n distances.now s.now result }
 {
     let mut records = 0;
     let mut seen = 0;
     for p in 0..distances.len() {
-        if !is_formed(s, distances[p]) {
-            return Err(Refusal::Form);
-        }
-        let g = given_at(s, &distances[..p], distances[p], time);
+        let g = given_at(s, &distances[..p], distances[p], time)?;
         records += g.records;
         seen += g.count;
         if (g.placed != 0) & (n <= seen) {
@@ -126,7 +112,6 @@ pub fn survey<'a>(
 // Applies the due pending of the bucket at distance d in the storage.
 fn apply_one(s: &mut [u8; Layout::STORAGE], d: u64, time: u64)
     requires header { header_formed s.old ≡ true }
-    requires timely { Timely s.old time }
     requires d_value { buckets_formed s.old (indices (index_at d)) ≡ true }
     requires d_len_bound { length (next_table time (table_of s.old) (index_at d)).queue ≤ max_records }
     ensures { s.new ≡ applied_in s.old time (indices (index_at d)) }
@@ -139,7 +124,6 @@ fn apply_one(s: &mut [u8; Layout::STORAGE], d: u64, time: u64)
 // Internal: the applying pass over the storage. Where the survey counted no record, none is due.
 pub fn apply_pass(s: &mut [u8; Layout::STORAGE], tally: Tally, time: u64)
     requires header { header_formed s.old ≡ true }
-    requires timely { Timely s.old time }
     requires taken_value { buckets_formed s.old (buckets_at tally.taken.now) ≡ true }
     requires s_len_bound { length (table_after time tally.taken.now (table_of s.old)).queue ≤ max_records }
     requires records_value { tally.records ≡ length (apply_all time (buckets_at tally.taken.now) (table_of s.old)).1 }
@@ -155,10 +139,8 @@ pub fn apply_pass(s: &mut [u8; Layout::STORAGE], tally: Tally, time: u64)
 
 // Writes the nodes of the bucket at distance d behind the k that are there, up to n; answers how many are there then.
 fn put_one(s: &[u8; Layout::STORAGE], d: u64, out: &mut [u8], k: usize, n: usize) -> usize
-    requires header { header_formed s.now ≡ true }
     requires d_value { buckets_formed s.now (indices (index_at d)) ≡ true }
     requires k_le_n { k ≤ n }
-    requires n_le_max_count { n ≤ max_count }
     requires node_size_in_bounds { n * node_size ≤ length out.old }
     ensures value { result ≡ k + length (listed_nodes (table_of s.now) (n - k) (d ∷ [])) }
     ensures out_after { out.new ≡ splice out.old (k * node_size) (joined node_bytes (listed_nodes (table_of s.now) (n - k) (d ∷ []))) }
@@ -171,9 +153,7 @@ fn put_one(s: &[u8; Layout::STORAGE], d: u64, out: &mut [u8], k: usize, n: usize
 
 // Internal: writes the first n nodes of the buckets at the distances; answers how many there are.
 pub fn put_all(s: &[u8; Layout::STORAGE], distances: &[u64], out: &mut [u8], n: usize) -> usize
-    requires header { header_formed s.now ≡ true }
     requires distances_value { buckets_formed s.now (buckets_at distances.now) ≡ true }
-    requires n_le_max_count { n ≤ max_count }
     requires node_size_in_bounds { n * node_size ≤ length out.old }
     ensures value { result ≡ length (listed_nodes (table_of s.now) n distances.now) }
     ensures out_after { out.new ≡ splice out.old 0 (joined node_bytes (listed_nodes (table_of s.now) n distances.now)) }

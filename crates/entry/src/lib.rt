@@ -8,15 +8,16 @@ ghost use Rattle.model.specs.Layout.{bucket_in};
 ghost use Rattle.model.specs.StepBytes.{step_bytes};
 ghost use Rattle.key.specs.Key.{num};
 ghost use Rattle.node.specs.Node.{argument_of};
-ghost use Rattle.bucket.specs.Bucket.{bucket_of, Sound};
+ghost use Rattle.bucket.specs.Bucket.{bucket_of};
 ghost use Rattle.held.specs.Held.{Quiet};
 ghost use Rattle.on_key.specs.Answers.{Answers, update_answer};
 ghost use Rattle.session.specs.Hours.{hours_of};
 ghost use Rattle.entry.specs.Kind as kind;
 
-use bucket::{InsertResult, KBucket, Step, UpdateResult};
+use bucket::{InsertResult, SoundBucket, UpdateResult};
+use held::SettingsAt;
 use key::Key;
-use node::{Code, Node, NodeStatus, Refusal, Value};
+use node::{Code, Node, NodeInRange, NodeStatus, Refusal, StatusUpdate, Value};
 use session::Hours;
 use storage::Layout;
 
@@ -30,16 +31,15 @@ pub enum EntryKind {
 }
 
 // Internal: the kind of the key in its bucket.
-pub fn kind_of(b: KBucket, key: Key) -> EntryKind
-    requires { Sound b }
-    ensures result_value { kind.kind_of result ≡ kind_of (num key) (bucket_of b) }
+pub fn kind_of(b: &SoundBucket, key: Key) -> EntryKind
+    ensures result_value { kind.kind_of result ≡ kind_of (num key) (bucket_of b.now.bucket) }
     ensures result_value_2 { kind.kind_codes result ≡ true }
 {
-    let pos = places::position(&b.nodes[..b.count], key);
-    if pos < b.count {
-        return EntryKind::Present(b.nodes[pos].status);
+    let pos = places::position(&b.bucket.nodes[..b.bucket.count], key);
+    if pos < b.bucket.count {
+        return EntryKind::Present(b.bucket.nodes[pos].status);
     }
-    match b.pending {
+    match b.bucket.pending {
         Some(pending) if pending.node.key.eq(key) => EntryKind::Pending(pending.node.status),
         _ => EntryKind::Absent,
     }
@@ -51,16 +51,16 @@ pub fn kind_here(bucket: &[u8; Layout::BUCKET], key: Key) -> EntryKind
     ensures result_value { kind.kind_of result ≡ kind_of (num key) (bucket_in bucket.now) }
     ensures result_value_2 { kind.kind_codes result ≡ true }
 {
-    let pos = held::position(bucket, key);
-    if pos < usize::from(bucket[0]) {
-        let node = storage::load_node(storage::place(bucket, pos));
-        return EntryKind::Present(node.status);
+    let nodes = held::nodes(bucket);
+    let pos = held::position(nodes, key);
+    if pos < nodes.count {
+        return EntryKind::Present(held::node_at(bucket, pos).node.status);
     }
     EntryKind::Absent
 }
 
-// The kind and status of the key, after a due pending was applied. Without a pending nothing is written. Not one function with `table::remove`: it
-// would take what each does in both ways as closures, with their contracts, and be longer than the two are.
+// The kind and status of the key, after a due pending was applied. Without a pending nothing is written. Not one function with
+// `table::remove`: it would take what each does in both ways as closures, with their contracts, and be longer than the two are.
 pub fn entry(s: &mut [u8], key: &[u8], time: u64) -> Result<EntryKind, Refusal>
     ensures answers { Answers (kind.entry_answer result) s.new (step_bytes (Call.on_key key.now (KeyCall.entry time)) s.old) }
     ensures result_value { kind.entry_codes result ≡ true }
@@ -74,8 +74,8 @@ pub fn entry(s: &mut [u8], key: &[u8], time: u64) -> Result<EntryKind, Refusal>
         return Ok(kind_here(bucket, k));
     }
     let applied = on_key::apply_at(s, i, time);
-    let found = kind_of(applied.bucket, k);
-    on_key::finish(s, i, applied.result, applied.bucket)?;
+    let found = kind_of(&applied.bucket, k);
+    on_key::finish(s, i, applied.result, &applied.bucket)?;
     Ok(found)
 }
 
@@ -91,26 +91,25 @@ pub fn present_update(
     let s = s.as_mut_array().ok_or(Refusal::Size)?;
     let codes = (state <= 1) & (direction <= 2);
     let (k, i) = on_key::begin(s, key, codes, None)?.ok_or(Refusal::Kind)?;
-    let at = Layout::HEADER + i * Layout::BUCKET;
-    let bucket = &s[at..at + Layout::BUCKET];
+    let status = StatusUpdate { state, direction };
+    let bucket = storage::bucket(s, i);
     if held::is_quiet(bucket) {
-        let pos = held::position(bucket, k);
-        if usize::from(bucket[0]) <= pos {
+        let nodes = held::nodes(bucket);
+        let pos = held::position(nodes, k);
+        if nodes.count <= pos {
             return Err(Refusal::Kind);
         }
         let settings = header::settings(s);
+        let at = Layout::HEADER + i * Layout::BUCKET;
         let bucket = &mut s[at..at + Layout::BUCKET];
-        return Ok(held::update_status_at(bucket, settings, pos, state, direction));
+        return Ok(held::update_status_at(bucket, settings, pos, status));
     }
-    let stored = Step {
-        bucket: buckets::load_bucket(s, i),
-        result: None,
-    };
-    let EntryKind::Present(_) = kind_of(stored.bucket, k) else {
+    let stored = buckets::load_bucket(s, i);
+    let EntryKind::Present(_) = kind_of(&stored, k) else {
         return Err(Refusal::Kind);
     };
-    let step = stored.bucket.update_status_sound(k, state, direction);
-    on_key::end(s, i, &stored, step.bucket, k)?;
+    let step = stored.update_status(k, status);
+    on_key::end(s, i, None, stored.bucket.pending, &step.bucket, k)?;
     Ok(step.result)
 }
 
@@ -121,16 +120,15 @@ pub fn pending_update(s: &mut [u8], key: &[u8], status: NodeStatus) -> Result<Up
     let s = s.as_mut_array().ok_or(Refusal::Size)?;
     let codes = (status.state <= 1) & (status.direction <= 1);
     let (k, i) = on_key::begin(s, key, codes, None)?.ok_or(Refusal::Kind)?;
-    let b = buckets::load_bucket(s, i);
-    let EntryKind::Pending(_) = kind_of(b, k) else {
+    let status = StatusUpdate {
+        state: status.state,
+        direction: status.direction,
+    };
+    let stored = buckets::load_bucket(s, i);
+    let EntryKind::Pending(_) = kind_of(&stored, k) else {
         return Err(Refusal::Kind);
     };
-    on_key::finish(
-        s,
-        i,
-        None,
-        b.update_pending_sound(status.state, status.direction),
-    )?;
+    on_key::finish(s, i, None, &stored.update_pending(status))?;
     Ok(UpdateResult::UpdatedPending)
 }
 
@@ -148,28 +146,32 @@ pub fn absent_insert(
     let s = s.as_mut_array().ok_or(Refusal::Size)?;
     let codes = value.in_range() & ((status.state <= 1) & (status.direction <= 1));
     let (k, i) = on_key::begin(s, key, codes, Some(time))?.ok_or(Refusal::Kind)?;
-    let node = Node {
-        key: k,
-        value,
-        status,
+    let node = NodeInRange {
+        node: Node {
+            key: k,
+            value,
+            status,
+        },
     };
-    let at = Layout::HEADER + i * Layout::BUCKET;
-    let bucket = &s[at..at + Layout::BUCKET];
+    let bucket = storage::bucket(s, i);
     if held::is_quiet(bucket) {
-        if held::position(bucket, k) < usize::from(bucket[0]) {
+        let nodes = held::nodes(bucket);
+        if held::position(nodes, k) < nodes.count {
             return Err(Refusal::Kind);
         }
         session::asked(hours, false)?;
         let settings = header::settings(s);
+        let now = SettingsAt { settings, time };
+        let at = Layout::HEADER + i * Layout::BUCKET;
         let bucket = &mut s[at..at + Layout::BUCKET];
-        return Ok(held::insert_new(bucket, settings, node, time));
+        return Ok(held::insert_new(bucket, now, node));
     }
-    let b = buckets::load_bucket(s, i);
-    match kind_of(b, k) {
-        EntryKind::Absent => session::asked(hours, false)?,
-        _ => return Err(Refusal::Kind),
-    }
-    let step = b.insert_sound(node, time);
-    on_key::finish(s, i, None, step.bucket)?;
+    let stored = buckets::load_bucket(s, i);
+    let EntryKind::Absent = kind_of(&stored, k) else {
+        return Err(Refusal::Kind);
+    };
+    session::asked(hours, false)?;
+    let step = stored.insert(node, time);
+    on_key::finish(s, i, None, &step.bucket)?;
     Ok(step.result)
 }

@@ -4,30 +4,30 @@ use Rattle.std.specs.Prelude.{Result, Ok, Err}
 use Rattle.std.specs.Result.{IsErrAnd}
 use Rattle.std.specs.Option.{ok_or}
 use Rattle.std.proofs.lemmas.Result.{err_from_is_err_and}
-use Prim.Native.Nat.{ℕ, ◌+◌, ◌≤◌}
+use Prim.Native.Nat.{ℕ, ◌+◌}
 use native.Mathlib.Nat.{add-zero}
 use mathlib.Core.Path.{◌≡◌, sym, ap, ◌∙◌}
-use mathlib.Core.Bool.{Bool, true, false, cond, ◌&&◌, and-true}
+use mathlib.Core.Bool.{Bool, true, false, cond, and-true}
 use mathlib.Core.List.{List, [], ◌∷◌, ◌++◌}
 use mathlib.Core.Option.{Option, none, some}
+use mathlib.Core.Logic.{◌⊎◌, inl, inr}
 use lib.ListN.{length, length-append}
 use lib.Dec.{leb}
-use borrow.Author.Tests.{leb-true, ne_eqb}
+use borrow.Author.Tests.{ne_eqb}
 use Rattle.model.specs.Sizes.{storage_size}
 use Rattle.model.specs.Bytes.{number, splice}
 use Rattle.model.specs.Value.{Value}
 use Rattle.model.specs.Node.{Node, EndedPending}
 use Rattle.model.specs.Bucket.{Bucket, BucketSettings}
-use Rattle.model.specs.Table.{Table, index_in, max_records}
+use Rattle.model.specs.Table.{Table, EntryKind, index_in, max_records}
 use Rattle.model.specs.Result.{Reply}
 use Rattle.model.specs.Call.{Call, KeyCall}
 use Rattle.model.specs.Question.{first_failed, with_room, key_arguments, kind_of_key, keys_fit, codes_in_range, clock_fits, output_fits, kind_fits}
 use Rattle.model.specs.Step.{Outcome, on_key, own_answer, effect, act, queue_fits, late}
 use Rattle.model.specs.Layout.{table_of}
-use Rattle.model.specs.Formed.{header_formed, buckets_formed}
-use Rattle.model.specs.StepBytes.{Replied, reads, all_questions}
+use Rattle.model.specs.Formed.{buckets_formed}
+use Rattle.model.specs.StepBytes.{Replied, filtered, runs_filter, key_reads, reads, all_questions}
 use Rattle.model.specs.Explain.{Told, told, Reason, bucket_reason, key_reason, reason, explanation, line, explanation_room, line_unless_refused, explain_bytes}
-use Rattle.laws.proofs.Tests.{and_left, and_right}
 use Rattle.laws.proofs.Questions.{front_fails, front_passes}
 use Rattle.key.specs.declared.Key.{Key}
 use Rattle.node.specs.declared.Refusal.{Refusal}
@@ -35,15 +35,15 @@ use Rattle.node.specs.Refusal.{number_of}
 use Rattle.bucket.specs.declared.KBucket.{KBucket}
 use Rattle.bucket.specs.Bucket.{bucket_of, settings_of, Becomes}
 use Rattle.on_key.specs.Answers.{Replies, first_five, failed_of_five, room_for}
-use Rattle.on_key.specs.Start.{key_formed, Located}
-use Rattle.on_key.proofs.Questions.{stricter_fails, passed_five}
+use Rattle.on_key.specs.Start.{key_formed, Located, AtBucket}
+use Rattle.on_key.proofs.Questions.{stricter_fails}
 use Rattle.on_key.proofs.Stored.{no_room}
-use Rattle.on_key.proofs.Ended.{size_told}
-use Rattle.on_key.proofs.OneKey.{ReadFormed, hours, read_own, reads_none}
+use Rattle.on_key.proofs.Ended.{size_told, own_formed}
+use Rattle.on_key.proofs.OneKey.{ReadFormed, hours, read_own, reads_none, reads_are}
 use Rattle.on_key.proofs.Steps.{begun_at}
+use Rattle.entry.proofs.Kind.{kind_self}
 use Rattle.explanation.specs.declared.Reason as declared
 use Rattle.explanation.specs.Explanation.{reason_of}
-use Rattle.reasons.specs.Reasons.{Tells}
 use Rattle.explain.specs.Calls.{Explains, failed_at_opening, Opened, last_asked}
 
 -- the exit of a `?`: the query answers the refusal that was met
@@ -96,8 +96,11 @@ module _ (s key : List ℕ) (c : KeyCall) (out : List ℕ) where
   abbrev call : Call
   call = Call.on_key key c
 
-  abbrev failed : Option ℕ
-  failed = failed_of_five key (key_arguments c).codes (key_arguments c).now s
+  abbrev codes : Bool
+  codes = (key_arguments c).codes
+
+  abbrev now : Option ℕ
+  now = (key_arguments c).now
 
   abbrev room : Bool
   room = leb explanation_room (length out)
@@ -105,8 +108,7 @@ module _ (s key : List ℕ) (c : KeyCall) (out : List ℕ) where
   abbrev kind : Bool
   kind = (key_arguments c).kind (kind_of_key key t)
 
-  asked_are : first_failed (with_room room (all_questions call s))
-      ≡ first_failed (first_five key (key_arguments c).codes (key_arguments c).now s ++ ((6, room) ∷ (2, buckets_formed s (reads call t)) ∷ late call t))
+  asked_are : first_failed (with_room room (all_questions call s)) ≡ first_failed (first_five key codes now s ++ ((6, room) ∷ (2, buckets_formed s (reads call t)) ∷ late call t))
   unfolding keys_fit codes_in_range clock_fits output_fits
   asked_are = rw and-true
 
@@ -118,90 +120,99 @@ module _ (s key : List ℕ) (c : KeyCall) (out : List ℕ) where
         output = ap (λ (o : Option ℕ). (line_unless_refused o (line (explanation c key t)) out).output) (sym e);
       }
 
-  pub refused_early : (r : Refusal) → failed_at_opening key (key_arguments c).codes (key_arguments c).now room s ≡ some (number_of r) → Explains (Err r) out (explain_bytes key c out s)
+  refused_early : (r : Refusal) → failed_at_opening key codes now room s ≡ some (number_of r) → Explains (Err r) out (explain_bytes key c out s)
   unfolding failed_at_opening
   refused_early r e =
       refused r
       (asked_are
-      ∙ stricter_fails (first_five key (key_arguments c).codes (key_arguments c).now s ++ ((6, room) ∷ [])) 2 (key_formed s key) (buckets_formed s (reads call t)) (late call t)
-      (read_own s key c) (number_of r) e)
+      ∙ stricter_fails (first_five key codes now s ++ ((6, room) ∷ [])) 2 (key_formed s key) (buckets_formed s (reads call t)) (late call t) (read_own s key c) (number_of r) e)
+
+  -- one of the questions that `begin` asks
+  pub refused_opening : (r : Result ℕ Refusal) (q : Refusal) → IsErrAnd r (λ x. x ≡ q) → failed_at_opening key codes now room s ≡ some (number_of q) → Explains r out (explain_bytes key c out s)
+  refused_opening r q h e = refused_exit r q h (refused_early q e)
 
   -- question 1
   pub refused_size : {T : Type 0} {o : code.Option T} {q : Refusal} (r : Result ℕ Refusal) → ◌≡◌ {A = Result T Refusal} (Err q) (ok_or o Refusal.Size) → o ≡ code.None
       → (length s ≡ storage_size → ⊥) → IsErrAnd r (λ x. x ≡ q) → Explains r out (explain_bytes key c out s)
   unfolding failed_of_five
   refused_size {q = q} r v n h e =
-      refused_exit r q e (rw (size_told v n) (refused_early Refusal.Size (opened_refused s key (key_arguments c).codes (key_arguments c).now room 1 (rw (ne_eqb (length s) storage_size h)))))
-
-  -- what `ended_local` requires
-  pub own_header : failed ≡ none → header_formed s ≡ true
-  own_header e = (passed_five s key (key_arguments c).codes (key_arguments c).now e).header
+      refused_exit r q e (rw (size_told v n) (refused_early Refusal.Size (opened_refused s key codes now room 1 (rw (ne_eqb (length s) storage_size h)))))
 
   -- the output has room, and questions 1 to 5 have passed
-  module _ (h : room ≡ true) (e : failed ≡ none) where
+  module _ (h : room ≡ true) (e : failed_of_five key codes now s ≡ none) where
     asked_then : first_failed (with_room room (all_questions call s)) ≡ first_failed ((2, buckets_formed s (reads call t)) ∷ late call t)
     unfolding failed_of_five
     asked_then =
-        asked_are ∙ front_passes (first_five key (key_arguments c).codes (key_arguments c).now s) ((6, room) ∷ (2, buckets_formed s (reads call t)) ∷ late call t) e
+        asked_are ∙ front_passes (first_five key codes now s) ((6, room) ∷ (2, buckets_formed s (reads call t)) ∷ late call t) e
         ∙ ap (λ (b : Bool). first_failed ((6, b) ∷ (2, buckets_formed s (reads call t)) ∷ late call t)) h
-
-    -- a bucket that the table filter reads
-    pub refused_read : buckets_formed s (reads call t) ≡ false → Explains (Err Refusal.Form) out (explain_bytes key c out s)
-    refused_read d = refused Refusal.Form (asked_then ∙ rw d)
 
     module _ (f : ReadFormed s key c) where
       asked_late : first_failed (with_room room (all_questions call s)) ≡ cond kind (cond (queue_fits call t) (first_failed (hours s key c)) (some 8)) (some 7)
       unfolding kind_fits
       asked_late = asked_then ∙ ap (λ (b : Bool). first_failed ((2, b) ∷ late call t)) f
 
-      pub refused_kind : kind ≡ false → Explains (Err Refusal.Kind) out (explain_bytes key c out s)
-      refused_kind k = refused Refusal.Kind (asked_late ∙ rw k)
+      refused_at_kind : kind ≡ false → Explains (Err Refusal.Kind) out (explain_bytes key c out s)
+      refused_at_kind k = refused Refusal.Kind (asked_late ∙ rw k)
 
-      asked_last : kind ≡ true → explain_bytes key c out s ≡ last_asked (queue_fits call t) (first_failed (hours s key c)) (line (explanation c key t)) out
-      unfolding explain_bytes last_asked
-      asked_last k = ap (λ (o : Option ℕ). line_unless_refused o (line (explanation c key t)) out) (asked_late ∙ rw k)
+      module _ (k : kind ≡ true) where
+        asked_last : explain_bytes key c out s ≡ last_asked (queue_fits call t) (first_failed (hours s key c)) (line (explanation c key t)) out
+        unfolding explain_bytes last_asked
+        asked_last = ap (λ (o : Option ℕ). line_unless_refused o (line (explanation c key t)) out) (asked_late ∙ rw k)
 
-    -- by what was asked and explained
-    module _ (k : kind ≡ true) {hrs : Option ℕ} (n : hrs ≡ first_failed (hours s key c)) {d : Told} {w : Reason} {r : Reply ℕ} {out' : List ℕ} where
-      ends : {fits : Bool} → ReadFormed s key c → fits ≡ queue_fits call t → d ≡ told (act call t).answer → w ≡ reason c key t
-          → Replies r out' (last_asked fits hrs (line (record { told = d; reason = w })) out) → Replies r out' (explain_bytes key c out s)
-      unfolding explanation
-      ends {fits} g f p q x =
-          let z : last_asked fits hrs (line (record { told = d; reason = w })) out ≡ explain_bytes key c out s = rw (f, n, p, q) (sym (asked_last g k)) in
-          record { answer = x.answer ∙ ap (λ (y : Replied). y.answer) z; output = x.output ∙ ap (λ (y : Replied). y.output) z }
+        -- by what was asked and explained
+        ends : {fits : Bool} {hrs : Option ℕ} {d : Told} {w : Reason} {r : Reply ℕ} {out' : List ℕ} → fits ≡ queue_fits call t → hrs ≡ first_failed (hours s key c)
+            → d ≡ told (act call t).answer → w ≡ reason c key t → Replies r out' (last_asked fits hrs (line (record { told = d; reason = w })) out) → Replies r out' (explain_bytes key c out s)
+        unfolding explanation
+        ends {fits} {hrs} {d} {w} g n p q x =
+            let z : last_asked fits hrs (line (record { told = d; reason = w })) out ≡ explain_bytes key c out s = rw (g, n, p, q) (sym asked_last) in
+            record { answer = x.answer ∙ ap (λ (y : Replied). y.answer) z; output = x.output ∙ ap (λ (y : Replied). y.output) z }
 
-      -- the local key
-      pub ends_local : index_in t (number key) ≡ none → d ≡ told (own_answer c) → w ≡ Reason.LocalKey
-          → Replies r out' (last_asked (room_for s []) hrs (line (record { told = d; reason = w })) out) → Replies r out' (explain_bytes key c out s)
-      unfolding queue_fits room_for act reason
-      ends_local i p q x =
-          let a = ap (on_key t (own_answer c) (effect c key t)) (sym i) in
-          ends (reads_none s key c i)
-          (ap (λ (n : ℕ). leb n max_records) (add-zero (length t.queue)) ∙ ap (λ (o : Outcome). leb (length o.table.queue) max_records) a)
-          (p ∙ ap (λ (o : Outcome). told o.answer) a) (q ∙ ap (key_reason (bucket_reason c key t)) (sym i)) x
+  -- the local key
+  module _ (y : (room ≡ true) × ((failed_of_five key codes now s ≡ none) × (index_in t (number key) ≡ none))) where
+    pub refused_self : (key_arguments c).kind EntryKind.SelfEntry ≡ false → Explains (Err Refusal.Kind) out (explain_bytes key c out s)
+    refused_self k = refused_at_kind y.0 y.1.0 (reads_none s key c y.1.1) (ap (key_arguments c).kind (kind_self s key y.1.1) ∙ k)
 
-      -- any other key
-      pub ends_at : {i : ℕ} → index_in t (number key) ≡ some i → ReadFormed s key c → {rs : List EndedPending} → rs ≡ (effect c key t i (t.buckets i)).records
-          → d ≡ told (effect c key t i (t.buckets i)).answer → w ≡ bucket_reason c key t i
-          → Replies r out' (last_asked (room_for s rs) hrs (line (record { told = d; reason = w })) out) → Replies r out' (explain_bytes key c out s)
-      unfolding queue_fits room_for act reason
-      ends_at {i} j g m p q x =
-          let a = ap (on_key t (own_answer c) (effect c key t)) (sym j) in
-          ends g
-          (ap (λ (l : List EndedPending). leb (length t.queue + length l) max_records) m
-          ∙ ap (λ (n : ℕ). leb n max_records) (sym (length-append t.queue (effect c key t i (t.buckets i)).records))
-          ∙ ap (λ (o : Outcome). leb (length o.table.queue) max_records) a)
-          (p ∙ ap (λ (o : Outcome). told o.answer) a) (q ∙ ap (key_reason (bucket_reason c key t)) (sym j)) x
+    pub ends_local : kind ≡ true → {hrs : Option ℕ} → hrs ≡ first_failed (hours s key c) → {r : Reply ℕ} {out' : List ℕ}
+        → Replies r out' (last_asked (room_for s []) hrs (line (record { told = told (own_answer c); reason = Reason.LocalKey })) out) → Replies r out' (explain_bytes key c out s)
+    unfolding queue_fits room_for act reason
+    ends_local k n x =
+        let a = ap (on_key t (own_answer c) (effect c key t)) (sym y.1.1) in
+        ends y.0 y.1.0 (reads_none s key c y.1.1) k
+        (ap (λ (n : ℕ). leb n max_records) (add-zero (length t.queue)) ∙ ap (λ (o : Outcome). leb (length o.table.queue) max_records) a) n
+        (ap (λ (o : Outcome). told o.answer) a) (ap (key_reason (bucket_reason c key t)) (sym y.1.1)) x
+
+  -- any other key
+  module _ {k : Key} {i : ℕ} (y : (room ≡ true) × AtBucket s key codes now k i) where
+    -- a bucket that the table filter reads
+    pub refused_read : buckets_formed s (key_reads c (number key) t (some i)) ≡ false → Explains (Err Refusal.Form) out (explain_bytes key c out s)
+    refused_read d = refused Refusal.Form (asked_then y.0 y.1.passed ∙ rw (reads_are s key c y.1.index d))
+
+    pub refused_kind : runs_filter t i (number key) (filtered c) ≡ false → kind ≡ false → Explains (Err Refusal.Kind) out (explain_bytes key c out s)
+    refused_kind r n = refused_at_kind y.0 y.1.passed (own_formed s key c y.1 r) n
+
+    -- by what the call does to the bucket, where that alone is read, or what the table filter has read
+    pub ends_at : (runs_filter t i (number key) (filtered c) ≡ false) ⊎ (buckets_formed s (key_reads c (number key) t (some i)) ≡ true) → kind ≡ true
+        → {hrs : Option ℕ} → hrs ≡ first_failed (hours s key c) → {rs : List EndedPending} → rs ≡ (effect c key t i (t.buckets i)).records
+        → {d : Told} → d ≡ told (effect c key t i (t.buckets i)).answer → {w : Reason} → w ≡ bucket_reason c key t i → {r : Reply ℕ} {out' : List ℕ}
+        → Replies r out' (last_asked (room_for s rs) hrs (line (record { told = d; reason = w })) out) → Replies r out' (explain_bytes key c out s)
+    unfolding queue_fits room_for act reason
+    ends_at f k n m p q x =
+        let a = ap (on_key t (own_answer c) (effect c key t)) (sym y.1.index) in
+        ends y.0 y.1.passed (formed f) k
+        (ap (λ (l : List EndedPending). leb (length t.queue + length l) max_records) m
+        ∙ ap (λ (n : ℕ). leb n max_records) (sym (length-append t.queue (effect c key t i (t.buckets i)).records))
+        ∙ ap (λ (o : Outcome). leb (length o.table.queue) max_records) a) n
+        (p ∙ ap (λ (o : Outcome). told o.answer) a) (q ∙ ap (key_reason (bucket_reason c key t)) (sym y.1.index)) x
+      where
+        formed : (runs_filter t i (number key) (filtered c) ≡ false) ⊎ (buckets_formed s (key_reads c (number key) t (some i)) ≡ true) → ReadFormed s key c
+        formed (inl r) = own_formed s key c y.1 r
+        formed (inr e) = reads_are s key c y.1.index e
 
 -- a node, by its key
 abbrev pub node_with : ℕ → Value → Bool → Bool → Node
 node_with k v u d = record { key = k; value = v; connected = u; incoming = d }
 
--- the codes that question 4 was asked of
-pub low_codes : (st dr n : ℕ) → (leb st 1 && leb dr n) ≡ true → (st ≤ 1) × (dr ≤ n)
-low_codes st dr n e = (leb-true st 1 (and_left (leb st 1) (leb dr n) e), leb-true dr n (and_right (leb st 1) (leb dr n) e))
-
 -- the reason found on a bucket by value, as a reason on the model's bucket, with the key as the bytes that were given
-pub reason_told : {s : BucketSettings} {m : Bucket} {b : KBucket} {k n : ℕ} {w : code.Option declared.Reason} → Becomes s m b → (F : BucketSettings → ℕ → Bucket → Reason) → k ≡ n
-    → Tells (F (settings_of b) k (bucket_of b)) w → (bs : ℕ → Bucket) → reason_of bs w ≡ F s n m
-reason_told x F e r bs = r.reason bs ∙ rw (x.settings, x.bucket, e)
+pub reason_told : {s : BucketSettings} {m : Bucket} {b : KBucket} {k n : ℕ} (w : code.Option declared.Reason) → Becomes s m b → (F : BucketSettings → ℕ → Bucket → Reason) → k ≡ n
+    → reason_of w ≡ F (settings_of b) k (bucket_of b) → reason_of w ≡ F s n m
+reason_told w x F e r = r ∙ rw (x.settings, x.bucket, e)

@@ -1,12 +1,10 @@
-// What a call that inserts, updates or removes a peer would answer, the true reason and the keys behind it, in one line (document 02, slip 1).
-// A query: it is asked what the call is asked, and nothing but the lent output is written.
+// What a call that inserts, updates or removes a peer would answer, the true reason and the keys behind it, in one line (document 02,
+// slip 1). A query: it is asked what the call is asked, and nothing but the lent output is written.
 #![tactic(auto)]
 
-ghost use Rattle.std.specs.Prelude.{◌≡◌, true, [], ◌≤◌, length, leb};
-ghost use Rattle.model.specs.Layout.{table_of};
-ghost use Rattle.model.specs.Formed.{header_formed, formed};
+ghost use Rattle.std.specs.Prelude.{◌≡◌, true, ◌≤◌, length, leb};
+ghost use Rattle.model.specs.Formed.{header_formed};
 ghost use Rattle.model.specs.Call.{KeyCall};
-ghost use Rattle.model.specs.Explain as model;
 ghost use Rattle.model.specs.Explain.{explanation_room, line, explain_bytes};
 ghost use Rattle.key.specs.Answers.{option_of};
 ghost use Rattle.node.specs.Node.{argument_of};
@@ -14,16 +12,19 @@ ghost use Rattle.node.specs.Refusal.{failed_of};
 ghost use Rattle.bucket.specs.Calls.{records_of};
 ghost use Rattle.on_key.specs.Answers.{room_for};
 ghost use Rattle.session.specs.Hours.{hours_of};
-ghost use Rattle.explanation.specs.Explanation.{told_of, reason_of, Reads};
+ghost use Rattle.explanation.specs.Explanation.{told_of, reason_of};
 ghost use Rattle.explain.specs.Calls.{call_of, Explains, Opened, last_asked};
 
 use bucket::{EndedPending, FailureReason};
 use entry::EntryKind;
 use explanation::{Reason, Told};
 use key::Key;
-use node::{Code, Node, NodeStatus, Refusal, Value};
+use node::{
+    Code, Node, NodeInRange, NodeStatus, NodeUpdate, Refusal, StatusUpdate, Value, ValueInRange,
+};
 use session::Hours;
 use storage::Layout;
+use well_formed::FormedTable;
 
 // A call on a peer's key, with its arguments: value, state and direction, time.
 #[derive(Clone, Copy)]
@@ -40,8 +41,8 @@ pub enum PeerCall {
 // The bytes that an output has at the least.
 pub const ROOM: usize = 2048;
 
-// How an explanation starts: questions 2 to 4 and, where a time is given, 5; 6 of an output of `room` bytes; then 2 of the key's bucket. The key
-// and its bucket, or none for the local key.
+// How an explanation starts: questions 2 to 4 and, where a time is given, 5; 6 of an output of `room` bytes; then 2 of the key's bucket.
+// The key and its bucket, or none for the local key.
 fn begin(
     s: &[u8; Layout::STORAGE],
     key: &[u8],
@@ -58,8 +59,8 @@ fn begin(
     on_key::located(s, key)
 }
 
-// How an explanation ends: question 8, then 10 and 11, then the line, whose length it answers. `applied` is the record of the call, `asked` what 10
-// and 11 answered.
+// How an explanation ends: question 8, then 10 and 11, then the line, whose length it answers. `applied` is the record of the call, `asked`
+// what 10 and 11 answered.
 fn ended(
     s: &[u8; Layout::STORAGE],
     out: &mut [u8],
@@ -69,27 +70,12 @@ fn ended(
     why: Option<Reason>,
 ) -> Result<usize, Refusal>
     requires header { header_formed s.now ≡ true }
-    requires reads { Reads (formed s.now ≡ true) why }
     requires explanation_room_in_bounds { explanation_room ≤ length out.old }
-    ensures { Explains result out.new (last_asked (room_for s.now (records_of applied)) (failed_of asked) (line (record { told = told_of told; reason = reason_of (table_of s.now).buckets why })) out.old) }
+    ensures { Explains result out.new (last_asked (room_for s.now (records_of applied)) (failed_of asked) (line (record { told = told_of told; reason = reason_of why.entry })) out.old) }
 {
     on_key::asked_queue(s, usize::from(applied.is_some()))?;
     asked?;
-    Ok(explanation::put_line(s, out, told, why))
-}
-
-// How the explanation of a call on the local key ends: it looks at no bucket.
-fn ended_local(
-    s: &[u8; Layout::STORAGE],
-    out: &mut [u8],
-    asked: Result<(), Refusal>,
-    told: Told,
-) -> Result<usize, Refusal>
-    requires header { header_formed s.now ≡ true }
-    requires explanation_room_in_bounds { explanation_room ≤ length out.old }
-    ensures { Explains result out.new (last_asked (room_for s.now []) (failed_of asked) (line (record { told = told_of told; reason = model.Reason.LocalKey })) out.old) }
-{
-    ended(s, out, None, asked, told, Some(Reason::LocalKey))
+    Ok(explanation::put_line(out, told, why))
 }
 
 // remove.
@@ -98,11 +84,12 @@ pub fn explain_remove(s: &[u8], key: &[u8], time: u64, out: &mut [u8]) -> Result
 {
     let s = s.as_array().ok_or(Refusal::Size)?;
     let Some((k, i)) = begin(s, key, true, Some(time), out.len())? else {
-        return ended_local(s, out, Ok(()), Told::Removed(false));
+        let why = Some(Reason::LocalKey);
+        return ended(s, out, None, Ok(()), Told::Removed(false), why);
     };
     let applied = on_key::apply_at(s, i, time);
-    let step = applied.bucket.remove_sound(k, time);
-    let why = reasons::remove_reason(applied.bucket, k);
+    let step = applied.bucket.remove(k, time);
+    let why = reasons::remove_reason(&applied.bucket, k);
     ended(
         s,
         out,
@@ -127,13 +114,20 @@ pub fn explain_update_node_status(
     let s = s.as_array().ok_or(Refusal::Size)?;
     let codes = (state <= 1) & (direction <= 2);
     let Some((k, i)) = begin(s, key, codes, Some(time), out.len())? else {
-        return ended_local(s, out, Ok(()), Told::NotModified);
+        let why = Some(Reason::LocalKey);
+        return ended(s, out, None, Ok(()), Told::NotModified, why);
     };
+    let status = StatusUpdate { state, direction };
     let applied = on_key::apply_at(s, i, time);
     let b = applied.bucket;
-    let step = b.update_status_sound(k, state, direction);
-    let record = on_key::record_of(applied.result, b.pending, step.bucket.pending, k);
-    let why = reasons::status_reason(b, k, state, direction);
+    let step = b.update_status(k, status);
+    let record = on_key::record_of(
+        applied.result,
+        b.bucket.pending,
+        step.bucket.bucket.pending,
+        k,
+    );
+    let why = reasons::status_reason(&b, k, status);
     ended(s, out, record, Ok(()), Told::from(step.result), why)
 }
 
@@ -151,17 +145,27 @@ pub fn explain_update_node(
     let s = s.as_array().ok_or(Refusal::Size)?;
     let codes = value.in_range() & (state <= 2);
     let Some((k, i)) = begin(s, key, codes, Some(time), out.len())? else {
-        return ended_local(s, out, Ok(()), Told::NotModified);
+        let why = Some(Reason::LocalKey);
+        return ended(s, out, None, Ok(()), Told::NotModified, why);
     };
     let fails = table_filter::asked_filter(s, i, k, value)?;
     let applied = on_key::apply_at(s, i, time);
     let b = applied.bucket;
-    let step = bucket_update::update_node_in(b, fails, k, value, state, time);
-    let record = on_key::record_of(applied.result, b.pending, step.bucket.pending, k);
+    let update = NodeUpdate {
+        value: ValueInRange { value },
+        state,
+    };
+    let step = bucket_update::update_node_in(b, fails, k, update, time);
+    let record = on_key::record_of(
+        applied.result,
+        b.bucket.pending,
+        step.bucket.bucket.pending,
+        k,
+    );
     let why = if fails {
-        Some(Reason::TableFilter(k, value))
+        Some(Reason::TableFilter(FormedTable { s }, k, value))
     } else {
-        reasons::update_node_reason(b, k, value, state)
+        reasons::update_node_reason(&b, k, update)
     };
     ended(s, out, record, Ok(()), Told::from(step.result), why)
 }
@@ -182,23 +186,31 @@ pub fn explain_insert_or_update(
     let codes = value.in_range() & ((status.state <= 1) & (status.direction <= 1));
     let Some((k, i)) = begin(s, key, codes, Some(time), out.len())? else {
         let told = Told::Failed(FailureReason::InvalidSelfUpdate);
-        return ended_local(s, out, session::asked(hours, true), told);
+        let why = Some(Reason::LocalKey);
+        return ended(s, out, None, session::asked(hours, true), told, why);
     };
     let fails = table_filter::asked_filter(s, i, k, value)?;
     let applied = on_key::apply_at(s, i, time);
     let b = applied.bucket;
-    let node = Node {
-        key: k,
-        value,
-        status,
+    let node = NodeInRange {
+        node: Node {
+            key: k,
+            value,
+            status,
+        },
     };
     let step = bucket_update::insert_or_update_in(b, fails, node, time);
-    let record = on_key::record_of(applied.result, b.pending, step.bucket.pending, k);
+    let record = on_key::record_of(
+        applied.result,
+        b.bucket.pending,
+        step.bucket.bucket.pending,
+        k,
+    );
     let asked = admission::asked(s, i, k, hours);
     let why = if fails {
-        Some(Reason::TableFilter(node.key, node.value))
+        Some(Reason::TableFilter(FormedTable { s }, k, node.node.value))
     } else {
-        reasons::insert_or_update_reason(b, node)
+        reasons::insert_or_update_reason(&b, node)
     };
     ended(s, out, record, asked, Told::from(step.result), why)
 }
@@ -217,12 +229,13 @@ pub fn explain_present_update(
     let codes = (state <= 1) & (direction <= 2);
     let (k, i) = begin(s, key, codes, None, out.len())?.ok_or(Refusal::Kind)?;
     let stored = buckets::load_bucket(s, i);
-    let EntryKind::Present(_) = entry::kind_of(stored, k) else {
+    let EntryKind::Present(_) = entry::kind_of(&stored, k) else {
         return Err(Refusal::Kind);
     };
-    let step = stored.update_status_sound(k, state, direction);
-    let record = on_key::record_of(None, stored.pending, step.bucket.pending, k);
-    let why = reasons::status_reason(stored, k, state, direction);
+    let status = StatusUpdate { state, direction };
+    let step = stored.update_status(k, status);
+    let record = on_key::record_of(None, stored.bucket.pending, step.bucket.bucket.pending, k);
+    let why = reasons::status_reason(&stored, k, status);
     ended(s, out, record, Ok(()), Told::from(step.result), why)
 }
 
@@ -239,7 +252,7 @@ pub fn explain_pending_update(
     let codes = (status.state <= 1) & (status.direction <= 1);
     let (k, i) = begin(s, key, codes, None, out.len())?.ok_or(Refusal::Kind)?;
     let stored = buckets::load_bucket(s, i);
-    let EntryKind::Pending(_) = entry::kind_of(stored, k) else {
+    let EntryKind::Pending(_) = entry::kind_of(&stored, k) else {
         return Err(Refusal::Kind);
     };
     ended(s, out, None, Ok(()), Told::UpdatedPending, None)
@@ -261,22 +274,24 @@ pub fn explain_absent_insert(
     let codes = value.in_range() & ((status.state <= 1) & (status.direction <= 1));
     let (k, i) = begin(s, key, codes, Some(time), out.len())?.ok_or(Refusal::Kind)?;
     let stored = buckets::load_bucket(s, i);
-    let EntryKind::Absent = entry::kind_of(stored, k) else {
+    let EntryKind::Absent = entry::kind_of(&stored, k) else {
         return Err(Refusal::Kind);
     };
-    let node = Node {
-        key: k,
-        value,
-        status,
+    let node = NodeInRange {
+        node: Node {
+            key: k,
+            value,
+            status,
+        },
     };
-    let step = stored.insert_sound(node, time);
-    let why = reasons::insert_reason(stored, node);
+    let step = stored.insert(node, time);
+    let why = reasons::insert_reason(&stored, node.node);
     let asked = session::asked(hours, false);
     ended(s, out, None, asked, Told::from(step.result), why)
 }
 
-// The line of a call: what it would answer, and why. The hours are those of insert_or_update and of Absent's insert, and nothing to the others. The call
-// is a value, since slip 1's tool is given one; so a match chooses the step.
+// The line of a call: what it would answer, and why. The hours are those of insert_or_update and of Absent's insert, and nothing to the
+// others. The call is a value, since slip 1's tool is given one; so a match chooses the step.
 pub fn explain(
     s: &[u8],
     key: &[u8],

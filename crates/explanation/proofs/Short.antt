@@ -16,19 +16,21 @@ use Rattle.model.specs.Filter.{counted, max_nodes_per_subnet_table, max_nodes_pe
 use Rattle.model.specs.Result.{FailureReason}
 use Rattle.model.specs.Bucket.{Bucket, nodes, incoming_nodes}
 use Rattle.model.specs.Table.{other_nodes}
+use Rattle.model.specs.Layout.{table_of}
 use Rattle.model.specs.Explain.{Told, Explanation, space, line_feed, told_text, failure_text, flag_text, reason_text, reason_keys, keys_of, keys_text, filter_keys, line}
 use Rattle.laws.proofs.Tests.{split}
 use Rattle.key.specs.declared.Key.{Key}
 use Rattle.key.specs.Key.{num}
 use Rattle.node.specs.declared.Value as declared_value
-use Rattle.bucket.specs.declared.KBucket.{KBucket}
+use Rattle.bucket.specs.declared.SoundBucket.{SoundBucket}
+use Rattle.well_formed.specs.declared.FormedTable.{FormedTable}
 use Rattle.node.specs.Node.{value_of}
 use Rattle.bucket.specs.Bucket.{bucket_of}
 use Rattle.explanation.specs.declared.Reason.{Reason}
 use Rattle.explanation.specs.declared.Told as declared
 use Rattle.explanation.specs.declared.Told.TheVariants as told
 use Rattle.explanation.specs.declared.Reason.TheVariants as reason
-use Rattle.explanation.specs.Explanation.{told_of, told_detail, reason_of, Reads, why_text}
+use Rattle.explanation.specs.Explanation.{told_of, told_detail, reason_of, why_text}
 use Rattle.explanation.specs.Put.{Put, PutKeys, key_room, spaced_key_size, longest_failure, longest_flag, longest_told, longest_reason}
 use Rattle.explanation.proofs.Text.{put_left, put_then, length_key_text}
 use Rattle.explanation.proofs.Keys.{length_keys_text, keys_text_none, held_few}
@@ -99,45 +101,46 @@ incoming_put {a} {o} {t} {u} {n} b h l p q =
     let f : length (keys_of (incoming_nodes (nodes b))) ≤ key_room (take (length t - n) (drop n t)) = omega (arith, incoming_few b h, put_left p (16 * spaced_key_size) l) in
     put_then p (rw (take_all (key_room (take (length t - n) (drop n t))) (keys_of (incoming_nodes (nodes b))) f) at q.put)
 
-pub why_short : (bs : ℕ → Bucket) (F : Type 0) (r : Option Reason) → Reads F r → length (why_text (reason_of bs r)) ≤ longest_reason
+pub why_short : (r : Option Reason) → length (why_text (reason_of r)) ≤ longest_reason
 unfolding why_text
-why_short bs F None h = rw keys_text_none (omega arith)
-why_short bs F (Some (reason.TableFilter k v)) h =
-    let ns : List Node = other_nodes (num k) bs in
+why_short None = rw keys_text_none (omega arith)
+why_short (Some (reason.TableFilter t k v)) =
+    let ns : List Node = other_nodes (num k) (table_of t.s.now).buckets in
     omega (arith, length_keys_text (filter_keys max_nodes_per_subnet_table (value_of v) ns), filter_few max_nodes_per_subnet_table (value_of v) ns)
-why_short bs F (Some (reason.BucketFilter b v)) h =
-    let ns : List Node = nodes (bucket_of b) in
+why_short (Some (reason.BucketFilter b v)) =
+    let ns : List Node = nodes (bucket_of b.bucket) in
     omega (arith, length_keys_text (filter_keys max_nodes_per_subnet_bucket (value_of v) ns), filter_few max_nodes_per_subnet_bucket (value_of v) ns)
-why_short bs F (Some (reason.IncomingLimit b)) h =
-    let ks : List ℕ = keys_of (incoming_nodes (nodes (bucket_of b))) in
-    omega (arith, length_keys_text ks, incoming_few (bucket_of b) (held_few b h.few))
-why_short bs F (Some reason.NewcomerDisconnected) h = rw keys_text_none (omega arith)
-why_short bs F (Some reason.AllConnected) h = rw keys_text_none (omega arith)
-why_short bs F (Some (reason.Pending k)) h = omega (arith, length_keys_text (num k ∷ []))
-why_short bs F (Some reason.NoSuchKey) h = rw keys_text_none (omega arith)
-why_short bs F (Some reason.LocalKey) h = rw keys_text_none (omega arith)
+why_short (Some (reason.IncomingLimit b)) =
+    let ks : List ℕ = keys_of (incoming_nodes (nodes (bucket_of b.bucket))) in
+    omega (arith, length_keys_text ks, incoming_few (bucket_of b.bucket) (held_few b.bucket b.sound.few))
+why_short (Some reason.NewcomerDisconnected) = rw keys_text_none (omega arith)
+why_short (Some reason.AllConnected) = rw keys_text_none (omega arith)
+why_short (Some (reason.Pending k)) = omega (arith, length_keys_text (num k ∷ []))
+why_short (Some reason.NoSuchKey) = rw keys_text_none (omega arith)
+why_short (Some reason.LocalKey) = rw keys_text_none (omega arith)
 
 -- a reason's words, and the keys behind them
-module _ (bs : ℕ → Bucket) (r : Option Reason) {a : List ℕ} (e : reason_text (reason_of bs r) ≡ a) where
-  pub words_short : (F : Type 0) → Reads F r → length a ≤ longest_reason
+module _ (r : Option Reason) {a : List ℕ} (e : reason_text (reason_of r) ≡ a) where
+  pub words_short : length a ≤ longest_reason
   unfolding why_text
-  words_short F h = omega (arith, why_short bs F r h, ap length e, length-append (reason_text (reason_of bs r)) (keys_text (reason_keys (reason_of bs r))))
+  words_short = omega (arith, why_short r, ap length e, length-append (reason_text (reason_of r)) (keys_text (reason_keys (reason_of r))))
 
-  pub why_put : {o u : List ℕ} {m : ℕ} → Put (a ++ keys_text (reason_keys (reason_of bs r))) o u m → Put (why_text (reason_of bs r)) o u m
+  pub why_put : {o u : List ℕ} {m : ℕ} → Put (a ++ keys_text (reason_keys (reason_of r))) o u m → Put (why_text (reason_of r)) o u m
   unfolding why_text
   why_put p = rw e p
 
 -- a reason that names no nodes
-pub no_keys : (bs : ℕ → Bucket) (r : Reason) → ((k : Key) (v : declared_value.Value) → r ≡ reason.TableFilter k v → ⊥) → ((b : KBucket) (v : declared_value.Value) → r ≡ reason.BucketFilter b v → ⊥)
-    → ((b : KBucket) → r ≡ reason.IncomingLimit b → ⊥) → ((k : Key) → r ≡ reason.Pending k → ⊥) → keys_text (reason_keys (reason_of bs (Some r))) ≡ []
-no_keys bs (reason.TableFilter k v) f g h i = absurd (f k v refl)
-no_keys bs (reason.BucketFilter b v) f g h i = absurd (g b v refl)
-no_keys bs (reason.IncomingLimit b) f g h i = absurd (h b refl)
-no_keys bs reason.NewcomerDisconnected f g h i = keys_text_none
-no_keys bs reason.AllConnected f g h i = keys_text_none
-no_keys bs (reason.Pending k) f g h i = absurd (i k refl)
-no_keys bs reason.NoSuchKey f g h i = keys_text_none
-no_keys bs reason.LocalKey f g h i = keys_text_none
+pub no_keys : (r : Reason) → ((t : FormedTable) (k : Key) (v : declared_value.Value) → r ≡ reason.TableFilter t k v → ⊥)
+    → ((b : SoundBucket) (v : declared_value.Value) → r ≡ reason.BucketFilter b v → ⊥) → ((b : SoundBucket) → r ≡ reason.IncomingLimit b → ⊥) → ((k : Key) → r ≡ reason.Pending k → ⊥)
+    → keys_text (reason_keys (reason_of (Some r))) ≡ []
+no_keys (reason.TableFilter t k v) f g h i = absurd (f t k v refl)
+no_keys (reason.BucketFilter b v) f g h i = absurd (g b v refl)
+no_keys (reason.IncomingLimit b) f g h i = absurd (h b refl)
+no_keys reason.NewcomerDisconnected f g h i = keys_text_none
+no_keys reason.AllConnected f g h i = keys_text_none
+no_keys (reason.Pending k) f g h i = absurd (i k refl)
+no_keys reason.NoSuchKey f g h i = keys_text_none
+no_keys reason.LocalKey f g h i = keys_text_none
 
 -- the line, piece by piece
 pub line_text : {o u : List ℕ} {n : ℕ} (e : Explanation) → Put (((told_text e.told ++ (space ∷ [])) ++ why_text e.reason) ++ (line_feed ∷ [])) o u n → Put (line e) o u n

@@ -1,11 +1,11 @@
 -- What the types stand for.
 use Rattle.std.specs.Prelude.{Option, Some, None, ℕ, List, [], ◌++◌}
-use Rattle.model.specs.Bucket.{Bucket}
+use Rattle.model.specs.Layout.{table_of}
 use Rattle.model.specs.Explain as explain
 use Rattle.model.specs.Explain.{table_filter_reason, bucket_filter_reason, incoming_limit_reason, key_text, failure_text, flag_text, reason_text, reason_keys, keys_text}
 use Rattle.key.specs.Key.{num}
 use Rattle.node.specs.Node.{value_of}
-use Rattle.bucket.specs.Bucket.{bucket_of, Sound}
+use Rattle.bucket.specs.Bucket.{bucket_of}
 use Rattle.bucket.specs.Calls.{failure_reason_of}
 use Rattle.explanation.specs.declared.Told.{Told}
 use Rattle.explanation.specs.declared.Told.TheVariants as told
@@ -47,29 +47,17 @@ told_detail explain.Told.Full = []
 told_detail explain.Told.NodeExists = []
 told_detail (explain.Told.Removed r) = flag_text r
 
--- the reason with its keys, or none: bs is the table's buckets, for the table filter
-abbrev pub reason_of : (ℕ → Bucket) → Option Reason → explain.Reason
-reason_of bs None = explain.Reason.None
-reason_of bs (Some (reason.TableFilter k v)) = table_filter_reason (num k) (value_of v) bs
-reason_of bs (Some (reason.BucketFilter b v)) = bucket_filter_reason (value_of v) (bucket_of b)
-reason_of bs (Some (reason.IncomingLimit b)) = incoming_limit_reason (bucket_of b)
-reason_of bs (Some reason.NewcomerDisconnected) = explain.Reason.NewcomerDisconnected
-reason_of bs (Some reason.AllConnected) = explain.Reason.AllConnected
-reason_of bs (Some (reason.Pending k)) = explain.Reason.Pending (num k)
-reason_of bs (Some reason.NoSuchKey) = explain.Reason.NoSuchKey
-reason_of bs (Some reason.LocalKey) = explain.Reason.LocalKey
-
--- what is known where a reason's keys are looked for: of the table, which is read for the table filter alone (02, slip 7), F; else the bucket is sound
-abbrev pub Reads : Type 0 → Option Reason → Type 0
-Reads F None = Unit
-Reads F (Some (reason.TableFilter k v)) = F
-Reads F (Some (reason.BucketFilter b v)) = Sound b
-Reads F (Some (reason.IncomingLimit b)) = Sound b
-Reads F (Some reason.NewcomerDisconnected) = Unit
-Reads F (Some reason.AllConnected) = Unit
-Reads F (Some (reason.Pending k)) = Unit
-Reads F (Some reason.NoSuchKey) = Unit
-Reads F (Some reason.LocalKey) = Unit
+-- the reason with its keys, or none
+abbrev pub reason_of : Option Reason → explain.Reason
+reason_of None = explain.Reason.None
+reason_of (Some (reason.TableFilter t k v)) = table_filter_reason (num k) (value_of v) (table_of t.s.now).buckets
+reason_of (Some (reason.BucketFilter b v)) = bucket_filter_reason (value_of v) (bucket_of b.bucket)
+reason_of (Some (reason.IncomingLimit b)) = incoming_limit_reason (bucket_of b.bucket)
+reason_of (Some reason.NewcomerDisconnected) = explain.Reason.NewcomerDisconnected
+reason_of (Some reason.AllConnected) = explain.Reason.AllConnected
+reason_of (Some (reason.Pending k)) = explain.Reason.Pending (num k)
+reason_of (Some reason.NoSuchKey) = explain.Reason.NoSuchKey
+reason_of (Some reason.LocalKey) = explain.Reason.LocalKey
 
 -- the text of a reason and its keys
 unfoldable pub why_text : explain.Reason → List ℕ

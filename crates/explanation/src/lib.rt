@@ -1,24 +1,24 @@
 // Internal: what is told of a call before it runs (document 02, slip 1): the answer, the reason, and the line that says both.
 #![tactic(auto)]
 
-ghost use Rattle.std.specs.Prelude.{◌≡◌, ℕ, true, ◌++◌, ◌∷◌, [], map, ◌≤◌, length, get_or, Some};
+ghost use Rattle.std.specs.Prelude.{◌≡◌, ◌++◌, ◌∷◌, [], map, ◌≤◌, length, Some};
 ghost use Rattle.model.specs.Base.{select};
-ghost use Rattle.model.specs.Bucket.{Bucket, max_nodes_per_bucket, nodes};
+ghost use Rattle.model.specs.Bucket.{nodes};
 ghost use Rattle.model.specs.Table.{num_buckets, held_nodes};
 ghost use Rattle.model.specs.Layout.{bucket_in, table_of};
-ghost use Rattle.model.specs.Formed.{formed};
 ghost use Rattle.model.specs.Explain.{told_update, told_insert, told_insert_or_update, key_text, failure_text, flag_text, told_text, reason_text, keys_of, keys_text, explanation_room, line};
 ghost use Rattle.key.specs.Key.{num};
 ghost use Rattle.node.specs.Node.{node_of};
 ghost use Rattle.bucket.specs.Calls.{failure_reason_of, update_result_of, insert_result_of};
 ghost use Rattle.bucket_update.specs.Results.{table_insert_result_of};
-ghost use Rattle.explanation.specs.Explanation.{told_of, told_detail, reason_of, Reads, why_text};
+ghost use Rattle.explanation.specs.Explanation.{told_of, told_detail, reason_of, why_text};
 ghost use Rattle.explanation.specs.Put.{Put, PutKeys, passes, key_text_size, spaced_key_size, longest_told, longest_reason};
 
-use bucket::{FailureReason, KBucket};
+use bucket::{FailureReason, SoundBucket};
 use key::Key;
 use node::{Node, Value};
-use storage::Layout;
+use storage::Nodes;
+use well_formed::FormedTable;
 
 // What is told of the answer.
 #[derive(Clone, Copy, PartialEq, Eq)]
@@ -43,14 +43,14 @@ pub enum Told {
     Removed(bool),
 }
 
-// The reason of a call that fails. Its keys are found where it is put: those of the table filter in the table, of which the key's own node is not
-// counted; those of the bucket filter and of the incoming limit in the bucket that the failing test looked at. A filter counts against the value.
-// It has no `==`, as a value has none.
+// The reason of a call that fails. Its keys are found where it is put: those of the table filter in the table, of which the key's own
+// node is not counted; those of the bucket filter and of the incoming limit in the bucket that the failing test looked at. A filter
+// counts against the value. It has no `==`, as a value has none.
 #[derive(Clone, Copy)]
-pub enum Reason {
-    TableFilter(Key, Value),
-    BucketFilter(KBucket, Value),
-    IncomingLimit(KBucket),
+pub enum Reason<'a> {
+    TableFilter(FormedTable<'a>, Key, Value),
+    BucketFilter(SoundBucket, Value),
+    IncomingLimit(SoundBucket),
     NewcomerDisconnected,
     AllConnected,
     Pending(Key),
@@ -118,8 +118,8 @@ impl From<bucket_update::InsertResult> for Told {
     }
 }
 
-// The bytes of the word, put at the front of the output. It answers how many they are, as all that put text do. No Display and `write!`: the
-// bytes that these write are ensured of a String alone, and that needs a heap.
+// The bytes of the word, put at the front of the output. It answers how many they are, as all that put text do. No Display and `write!`:
+// the bytes that these write are ensured of a String alone, and that needs a heap.
 fn put_word(out: &mut [u8], word: &[u8]) -> usize
     requires { length word.now ≤ length out.old }
     ensures { Put word.now out.old out.new result }
@@ -245,41 +245,39 @@ fn put_held(out: &mut [u8], nodes: &[Node], test: Test) -> usize
 }
 
 // The same of the nodes of a bucket in the storage. Where there is no room it reads nothing.
-fn put_stored(out: &mut [u8], bucket: &[u8; Layout::BUCKET], test: Test) -> usize
-    requires { get_or bucket.now 0 0 ≤ max_nodes_per_bucket }
-    ensures { PutKeys (keys_of (select (passes test) (nodes (bucket_in bucket.now)))) out.old out.new result }
+fn put_stored(out: &mut [u8], held: Nodes, test: Test) -> usize
+    ensures { PutKeys (keys_of (select (passes test) (nodes (bucket_in held.entry.bucket.now)))) out.old out.new result }
 {
     if out.len() < SPACED_KEY {
         return 0;
     }
     let mut n = 0;
-    for j in 0..usize::from(bucket[0]) {
-        let node = storage::load_node(storage::place(bucket, j));
+    for j in 0..held.count {
+        let node = storage::load_node(held.place(j));
         n += put_node(&mut out[n..], test, node);
     }
     n
 }
 
 // The same of all nodes of the table, in bucket and place order.
-fn put_table(out: &mut [u8], s: &[u8; Layout::STORAGE], test: Test) -> usize
-    requires { formed s.now ≡ true }
-    ensures { PutKeys (keys_of (select (passes test) (held_nodes num_buckets (table_of s.now).buckets))) out.old out.new result }
+fn put_table(out: &mut [u8], table: FormedTable, test: Test) -> usize
+    ensures { PutKeys (keys_of (select (passes test) (held_nodes num_buckets (table_of table.entry.s.now).buckets))) out.old out.new result }
 {
     let mut n = 0;
     for i in 0..model::NUM_BUCKETS {
-        n += put_stored(&mut out[n..], storage::bucket(s, i), test);
+        n += put_stored(&mut out[n..], Nodes::of(storage::bucket(table.s, i)), test);
     }
     n
 }
 
-impl Reason {
+impl<'a> Reason<'a> {
     // The reason's words.
-    fn words(self) -> &'static [u8]
-        ensures { (bs : ℕ → Bucket) → reason_text (reason_of bs (Some self)) ≡ result.now }
+    fn words(&self) -> &'static [u8]
+        ensures { reason_text (reason_of (Some self.now)) ≡ result.now }
     {
         match self {
-            Reason::TableFilter(_, _) => b"table filter",
-            Reason::BucketFilter(_, _) => b"bucket filter",
+            Reason::TableFilter(..) => b"table filter",
+            Reason::BucketFilter(..) => b"bucket filter",
             Reason::IncomingLimit(_) => b"incoming limit",
             Reason::NewcomerDisconnected => b"newcomer disconnected",
             Reason::AllConnected => b"all connected",
@@ -291,40 +289,40 @@ impl Reason {
 }
 
 // The reason and the keys behind it: for a filter as many as its limit.
-fn put_why(out: &mut [u8], s: &[u8; Layout::STORAGE], why: Option<Reason>) -> usize
-    requires reads { Reads (formed s.now ≡ true) why }
-    requires longest_reason_in_bounds { longest_reason ≤ length out.old }
-    ensures { Put (why_text (reason_of (table_of s.now).buckets why)) out.old out.new result }
+fn put_why(out: &mut [u8], why: Option<Reason>) -> usize
+    requires { longest_reason ≤ length out.old }
+    ensures { Put (why_text (reason_of why.entry)) out.old out.new result }
 {
-    let Some(reason) = why else {
+    let Some(reason) = &why else {
         return put_word(out, b"none");
     };
     let n = put_word(out, reason.words());
     match reason {
-        Reason::TableFilter(key, value) => {
+        Reason::TableFilter(table, key, value) => {
             let end = n + node::filter::MAX_NODES_PER_SUBNET_TABLE * SPACED_KEY;
-            n + put_table(&mut out[n..end], s, Test::CountsOther(key, value))
+            n + put_table(&mut out[n..end], *table, Test::CountsOther(*key, *value))
         }
         Reason::BucketFilter(b, value) => {
+            let b = &b.bucket;
             let end = n + node::filter::MAX_NODES_PER_SUBNET_BUCKET * SPACED_KEY;
-            n + put_held(&mut out[n..end], &b.nodes[..b.count], Test::Counts(value))
+            n + put_held(&mut out[n..end], &b.nodes[..b.count], Test::Counts(*value))
         }
         Reason::IncomingLimit(b) => {
+            let b = &b.bucket;
             n + put_held(&mut out[n..], &b.nodes[..b.count], Test::Incoming)
         }
-        Reason::Pending(key) => n + put_spaced_key(&mut out[n..], key),
+        Reason::Pending(key) => n + put_spaced_key(&mut out[n..], *key),
         _ => n,
     }
 }
 
 // Internal: the line, put at the front of the output. It answers its length.
-pub fn put_line(s: &[u8; Layout::STORAGE], out: &mut [u8], told: Told, why: Option<Reason>) -> usize
-    requires reads { Reads (formed s.now ≡ true) why }
-    requires explanation_room_in_bounds { explanation_room ≤ length out.old }
-    ensures { Put (line (record { told = told_of told; reason = reason_of (table_of s.now).buckets why })) out.old out.new result }
+pub fn put_line(out: &mut [u8], told: Told, why: Option<Reason>) -> usize
+    requires { explanation_room ≤ length out.old }
+    ensures { Put (line (record { told = told_of told; reason = reason_of why.entry })) out.old out.new result }
 {
     let mut n = put_told(out, told);
     n += put_word(&mut out[n..], b" ");
-    n += put_why(&mut out[n..], s, why);
+    n += put_why(&mut out[n..], why);
     n + put_word(&mut out[n..], b"\n")
 }

@@ -29,6 +29,7 @@ use Rattle.key.specs.Key.{num}
 use Rattle.key.proofs.Bytes.{splice_all}
 use Rattle.words.proofs.Words.{set_more, put_mid_splice}
 use Rattle.node.specs.declared.Node as stored
+use Rattle.node.specs.declared.NodeInRange.{NodeInRange}
 use Rattle.node.specs.Node.{node_of, node_codes}
 use Rattle.bucket.specs.declared.Ending as code
 use Rattle.bucket.specs.declared.Ending.TheVariants as ending
@@ -36,7 +37,7 @@ use Rattle.bucket.specs.declared.EndedPending as ended
 use Rattle.bucket.specs.Calls as calls
 use Rattle.bucket.specs.Calls.{records_of}
 use Rattle.storage.specs.Read.{read_node}
-use Rattle.storage.proofs.Nodes.{node_of_read, codes_read}
+use Rattle.storage.proofs.Bytes.{node_of_read, codes_read}
 use Rattle.header.specs.Queue.{requeued}
 use Rattle.header.proofs.Runs.{splice_front, blank, blank_is, blank_add, length_blank}
 use Rattle.header.proofs.Header.{front_bytes, length_front, parts_of, header_parts}
@@ -130,7 +131,7 @@ module _ (s : List ℕ) (e : ended.EndedPending) (l : length s ≡ record_size) 
       record_put (ev ∙ ap zeros o) ew
 
 -- an ending that names no node
-pub no_evicted : (e : code.Ending) → ((n : stored.Node) → e ≡ ending.Placed (Some n) → ⊥) → zeros node_size ≡ evicted_bytes (evicted_in (calls.ending_of e))
+pub no_evicted : (e : code.Ending) → ((n : NodeInRange) → e ≡ ending.Placed (Some n) → ⊥) → zeros node_size ≡ evicted_bytes (evicted_in (calls.ending_of e))
 no_evicted (ending.Placed None) h = refl
 no_evicted (ending.Placed (Some n)) h = absurd (h n refl)
 no_evicted ending.FirstConnected h = refl
@@ -151,11 +152,13 @@ module _ (bs : List ℕ) where
   loaded_plain n = rw (ne_eqb (get_or bs key_size 0) evicting_kind n)
 
   -- of the kind with one
-  pub loaded_evicted : (v : stored.Node) → v ≡ read_node (part bs (key_size + 1) node_size) → get_or bs key_size 0 ≡ evicting_kind → record_formed bs ≡ true
-      → (Ending.Placed (some (node_of v)) ≡ ending_in bs) × (node_codes v ≡ true)
-  unfolding record_formed
-  loaded_evicted v o n h =
-      (rw (n, o, node_of_read (part bs (key_size + 1) node_size)), rw (o, codes_read (part bs (key_size + 1) node_size)) (rw n at h))
+  module _ (v : stored.Node) (o : v ≡ read_node (part bs (key_size + 1) node_size)) (n : get_or bs key_size 0 ≡ evicting_kind) where
+    pub loaded_evicted : Ending.Placed (some (node_of v)) ≡ ending_in bs
+    loaded_evicted = rw (n, o, node_of_read (part bs (key_size + 1) node_size))
+
+    pub evicted_codes : record_formed bs ≡ true → node_codes v ≡ true
+    unfolding record_formed
+    evicted_codes h = rw (o, codes_read (part bs (key_size + 1) node_size)) (rw n at h)
 
 -- on formed storage
 module _ (s : List ℕ) (l : length s ≡ storage_size) (h : Bytes s) (f : header_formed s ≡ true) where

@@ -1,23 +1,24 @@
 // Internal: the front of the lent storage: the settings, and the queue of 64 records, oldest first.
+// That it passes question 2 is a clause and no type: the functions that ask it write the storage.
 #![tactic(auto)]
 
 ghost use Rattle.std.specs.Prelude.{◌≡◌, Some, true, [], ◌∷◌, ◌++◌, ◌+◌, ◌≤◌, ◌<◌, leb, length, take, drop};
 ghost use Rattle.model.specs.Base.{joined};
 ghost use Rattle.model.specs.Bucket.{max_nodes_per_bucket};
 ghost use Rattle.model.specs.Table.{empty_table, max_records};
-ghost use Rattle.model.specs.Sizes.{record_size, storage_size};
+ghost use Rattle.model.specs.Sizes.{record_size};
 ghost use Rattle.model.specs.Layout.{record_bytes, bytes_of, ending_of, record_in, table_of};
 ghost use Rattle.model.specs.Formed.{record_formed, header_formed};
 ghost use Rattle.model.specs.Step as step;
 ghost use Rattle.key.specs.Key.{num};
 ghost use Rattle.bucket.specs.Calls as code;
-ghost use Rattle.bucket.specs.Calls.{records_of, ending_codes, applied_codes};
+ghost use Rattle.bucket.specs.Calls.{records_of};
 ghost use Rattle.bucket.specs.Settings.{settings_of};
 ghost use Rattle.header.specs.Queue.{requeued};
 
 use bucket::{EndedPending, Ending, Settings};
 use key::Key;
-use node::Code;
+use node::{Code, NodeInRange};
 use storage::Layout;
 
 // Internal: the table's own key.
@@ -58,14 +59,14 @@ pub fn record_count(s: &[u8; Layout::STORAGE]) -> usize
 
 // Internal: the bytes become the record of an ended pending.
 pub fn store_record(s: &mut [u8], ended: EndedPending)
-    requires { (length s.old ≡ record_size) × (ending_codes ended.ending ≡ true) }
+    requires { length s.old ≡ record_size }
     ensures { s.new ≡ joined record_bytes (records_of (Some ended)) }
 {
     ended.key.store(&mut s[0..Layout::KEY]);
     s[Layout::KEY] = ended.ending.kind();
     let evicted = &mut s[Layout::KEY + 1..Layout::RECORD];
     match ended.ending {
-        Ending::Placed(Some(node)) => storage::store_node(evicted, node),
+        Ending::Placed(Some(node)) => storage::store_node(evicted, node.node),
         _ => words::put_zeros(evicted),
     }
 }
@@ -74,7 +75,6 @@ pub fn store_record(s: &mut [u8], ended: EndedPending)
 pub fn push_record(s: &mut [u8; Layout::STORAGE], ended: Option<EndedPending>)
     requires s_value { header_formed s.old ≡ true }
     requires ended_len_bound { length (table_of s.old).queue + length (records_of ended) ≤ max_records }
-    requires ended_value { applied_codes ended ≡ true }
     ensures { s.new ≡ requeued ((table_of s.old).queue ++ records_of ended) s.old }
 {
     let Some(ended) = ended else {
@@ -88,8 +88,7 @@ pub fn push_record(s: &mut [u8; Layout::STORAGE], ended: Option<EndedPending>)
 
 // The ending of a kind. No `From<u8>`: the kind of a record with an evicted node is not among them, since the ending names that node.
 fn ending_of(kind: u8) -> Ending
-    ensures value { code.ending_of result ≡ ending_of kind }
-    ensures codes { ending_codes result ≡ true }
+    ensures { code.ending_of result ≡ ending_of kind }
 {
     match kind {
         2 => Ending::FirstConnected,
@@ -101,20 +100,21 @@ fn ending_of(kind: u8) -> Ending
     }
 }
 
-// The record of its bytes.
-fn load_record(s: &[u8]) -> EndedPending
-    requires { (length s.now ≡ record_size) × (record_formed s.now ≡ true) }
-    ensures result_value { records_of (Some result) ≡ record_in s.now ∷ [] }
-    ensures result_value_2 { applied_codes (Some result) ≡ true }
+// The record of these bytes.
+fn load_record(bytes: &[u8; Layout::RECORD]) -> EndedPending
+    requires { record_formed bytes.now ≡ true }
+    ensures { records_of (Some result) ≡ record_in bytes.now ∷ [] }
 {
-    let kind = s[Layout::KEY];
+    let kind = bytes[Layout::KEY];
     let ending = if kind == Layout::EVICTING_KIND {
-        Ending::Placed(Some(storage::load_node(&s[Layout::KEY + 1..Layout::RECORD])))
+        Ending::Placed(Some(NodeInRange {
+            node: storage::load_node(storage::evicted(bytes)),
+        }))
     } else {
         ending_of(kind)
     };
     EndedPending {
-        key: Key::load(&s[0..Layout::KEY]),
+        key: Key::load(&bytes[0..Layout::KEY]),
         ending,
     }
 }
@@ -139,14 +139,13 @@ fn drop_record(s: &mut [u8; Layout::STORAGE], n: usize)
 pub fn take_record(s: &mut [u8; Layout::STORAGE]) -> Option<EndedPending>
     requires { header_formed s.old ≡ true }
     ensures result_value { records_of result ≡ take 1 (table_of s.old).queue }
-    ensures result_value_2 { applied_codes result ≡ true }
     ensures s_after { s.new ≡ requeued (drop 1 (table_of s.old).queue) s.old }
 {
     let n = record_count(s);
     if n == 0 {
         return None;
     }
-    let oldest = load_record(&s[Layout::RECORDS_AT..Layout::RECORDS_AT + Layout::RECORD]);
+    let oldest = load_record(storage::record(s, 0));
     drop_record(s, n - 1);
     Some(oldest)
 }

@@ -21,7 +21,7 @@ use Rattle.laws.proofs.KeepLists.{more, length_select_insert}
 use Rattle.places.specs.Places.{remove_at}
 use Rattle.node.specs.Node.{value_of}
 use Rattle.storage.specs.Read.{read_value}
-use Rattle.storage.proofs.Nodes.{value_of_read}
+use Rattle.storage.proofs.Bytes.{value_of_read}
 use Rattle.well_formed.specs.Tests.{node_at, nodes_here}
 use Rattle.held.specs.Held.{others}
 use Rattle.held.proofs.Quiet.{nodes_are}

@@ -12,7 +12,7 @@ use lib.Seq.{split_at, set_split, length-take-le}
 use borrow.Author.Tests.{eq-eqb, ne_eqb, lt-ltb}
 use borrow.Rule.Slice.PartMut.{put_mid}
 use Rattle.model.specs.Base.{is_some}
-use Rattle.model.specs.Bytes.{number, part, splice}
+use Rattle.model.specs.Bytes.{part, splice}
 use Rattle.model.specs.Node.{Node, PendingNode, connected_incoming, with_status, with_value}
 use Rattle.model.specs.Value as model-value
 use Rattle.model.specs.Value.{same_value}
@@ -20,11 +20,11 @@ use Rattle.model.specs.Filter.{counted, ip_filter_fails, max_nodes_per_subnet_bu
 use Rattle.model.specs.Result.{FailureReason, UpdateResult, BucketInsertResult}
 use Rattle.model.specs.Bucket.{Bucket, BucketSettings, max_nodes_per_bucket, nodes, get, holds, incoming_nodes, is_max_incoming, fails_bucket_filter, with_pending, cleared, put, placed, take_out, taken_out, is_first, apply_pending, apply_if_due, reinsert, status_result, update_status, update_value, revalue, insert, remove}
 use Rattle.model.specs.Call.{is_one, optional}
-use Rattle.model.specs.Sizes.{key_size, value_size, node_size, pending_at, place_at, pending_size}
-use Rattle.model.specs.Layout.{value_bytes, pending_bytes, bucket_bytes, value_in, node_in, place_in, bucket_in}
+use Rattle.model.specs.Sizes.{key_size, value_size, pending_at, place_at, pending_size}
+use Rattle.model.specs.Layout.{value_bytes, pending_bytes, bucket_bytes, node_in, place_in, bucket_in}
 use Rattle.model.specs.Formed as formed
+use Rattle.model.specs.Formed.{key_in}
 use Rattle.laws.proofs.Tests.{cases}
-use Rattle.laws.proofs.Parts.{part_part, part_zero}
 use Rattle.laws.proofs.Lists.{get_d_tabulate}
 use Rattle.laws.proofs.NodeBytes.{length_value}
 use Rattle.laws.proofs.NodeFormed.{node_codes_lem}
@@ -39,9 +39,9 @@ use Rattle.node.specs.declared.Value.{Value}
 use Rattle.node.specs.declared.Node as declared
 use Rattle.node.specs.Node.{value_of, node_of, node_codes, stored_node}
 use Rattle.node.specs.Node as node
-use Rattle.node.proofs.Stored.{node_of_restated, stored_restated, codes_stored}
+use Rattle.node.proofs.Stored.{node_of_restated}
 use Rattle.storage.specs.Read.{read_value, read_node}
-use Rattle.storage.proofs.Nodes.{value_of_read, node_of_read}
+use Rattle.storage.proofs.Bytes.{value_of_read, node_of_read}
 use Rattle.well_formed.specs.Tests.{node_at, nodes_here}
 use Rattle.buckets.proofs.Loaded.{stored_read}
 use Rattle.places.proofs.Model.{held_is, find_held, find_absent, found_key, revalue_at, own_place}
@@ -145,11 +145,8 @@ module _ {u : List ℕ} (q : Quiet u) where
 
       -- with another status
       module _ (state direction : ℕ) {new : declared.Node} (en : new ≡ node.restated state direction old) where
-        pub new_node : state ≤ 1 → direction ≤ 2 → (node_codes new ≡ true) × (place (num new.key) (nodes b) ≡ pos)
-        new_node ls ld = (
-          ap node_codes (en ∙ stored_restated state direction old own_stored ls ld) ∙ codes_stored (with_status (is_one state) (optional direction) (node_of old)),
-          ap (λ (n : declared.Node). place (num n.key) (nodes b)) en ∙ own_key,
-        )
+        pub same_place : place (num new.key) (nodes b) ≡ pos
+        same_place = ap (λ (n : declared.Node). place (num n.key) (nodes b)) en ∙ own_key
 
         new_is : node_of new ≡ with_status (is_one state) (optional direction) (node_of old)
         new_is = ap node_of en ∙ node_of_restated state direction old
@@ -251,12 +248,12 @@ module _ {u : List ℕ} (q : Quiet u) where
     get_was : get k b ≡ some was
     get_was = get_nodes k b ∙ find_held k (nodes b) (node_in []) (omega (arith, ep, many q)) ∙ ap some (ap (λ (i : ℕ). get_or (nodes b) i (node_in [])) ep)
 
-    module _ {old : Value} (eo : old ≡ read_value (part u (place_at pos + (key_size + 2)) value_size)) {r : Bool} (er : r ≡ same_value (value_of old) (value_of v)) where
+    module _ {old : Value} (eo : old ≡ read_value (part (place_in u pos) (key_size + 2) value_size)) {r : Bool} (er : r ≡ same_value (value_of old) (value_of v)) where
       was_value : was.value ≡ value_of old
       unfolding node_in
       was_value =
           ap (λ (n : Node). n.value) (place_is pos h)
-          ∙ sym (ap value_of eo ∙ value_of_read (part u (place_at pos + (key_size + 2)) value_size) ∙ ap value_in (sym (part_part u (place_at pos) node_size (key_size + 2) value_size (omega arith))))
+          ∙ sym (ap value_of eo ∙ value_of_read (part (place_in u pos) (key_size + 2) value_size))
 
       is_same : same_value was.value (value_of v) ≡ r
       is_same = ap (λ (x : model-value.Value). same_value x (value_of v)) was_value ∙ sym er
@@ -329,7 +326,7 @@ module _ {u : List ℕ} (q : Quiet u) where
     pub full_none : n.connected ≡ true → get_or u 1 0 ≡ 0 → Does (inserted_full c time n b) BucketInsertResult.Full u
     full_none e z = does (full_connected c time n b e (none_left b.disconnected (first_is q ∙ z))) q.exact
 
-    pub full_waits : n.connected ≡ true → 0 < get_or u 1 0 → {key : ℕ} → key ≡ number (part u 2 key_size)
+    pub full_waits : n.connected ≡ true → 0 < get_or u 1 0 → {key : ℕ} → key ≡ key_in (place_in u 0)
         → {w : List ℕ} → w ≡ pending_bytes (some (record { node = n; deadline = time + c.pending_timeout }))
         → Does (inserted_full c time n b) (BucketInsertResult.Pending key) (put_mid pending_at pending_size u w)
     unfolding node_in
@@ -338,7 +335,7 @@ module _ {u : List ℕ} (q : Quiet u) where
         let x = head_is b.disconnected b.connected (node_in []) (omega (arith, first_is q)) in
         let y : Node = get_or (nodes b) 0 (node_in []) in
         let k : y.key ≡ key =
-        ap (λ (n : Node). n.key) (place_is 0 (omega (arith, q.first))) ∙ ap number (part_zero u 2 node_size key_size (omega arith)) ∙ sym ek in
+        ap (λ (n : Node). n.key) (place_is 0 (omega (arith, q.first))) ∙ sym ek in
         does (full_becomes_pending c time n b y x.0 e x.1 q.pending ∙ ap (λ (i : ℕ). (BucketInsertResult.Pending i, with_pending (some p) b)) k)
         (put_mid_splice u pending_at pending_size f (length_pending (some p)) ∙ ap (λ (s : List ℕ). splice s pending_at (pending_bytes (some p))) q.exact
         ∙ bytes_pending b (some p) (omega (arith, q.few, count_in u)))

@@ -3,11 +3,11 @@ use Rattle.std.specs.Prelude.{ℕ, ◌≤◌, ◌≡◌, List, length, get_or}
 use Rattle.std.proofs.Math.Option.{none}
 use Rattle.model.specs.Node.{Node}
 use Rattle.model.specs.Result.{BucketInsertResult, UpdateResult}
-use Rattle.model.specs.Bucket.{Bucket, BucketSettings, max_nodes_per_bucket, nodes, put, take_out, reinsert, status_result, insert_full}
+use Rattle.model.specs.Bucket.{Bucket, BucketSettings, max_nodes_per_bucket, nodes, take_out, reinsert, status_result, insert_full}
 use Rattle.model.specs.Sizes.{bucket_size}
 use Rattle.model.specs.Layout.{bucket_bytes, bucket_in}
 use Rattle.model.specs.Fits.{Different}
-use Rattle.places.specs.Places.{insert_at, remove_at}
+use Rattle.places.specs.Places.{remove_at}
 pub use Rattle.well_formed.specs.Tests.{place}
 
 -- what question 2 says of a bucket's bytes (law: `quiet_if` of proofs/Quiet), and there is no pending
@@ -22,11 +22,6 @@ pub record Quiet (bs : List ℕ) : Type 0 where
 -- the nodes of the bucket but the one at place `skip`; a place past them leaves out none
 unfoldable pub others : List ℕ → ℕ → List Node
 others bs skip = remove_at skip (nodes (bucket_in bs))
-
--- n goes to place `to` of the bucket b, and the first connected place is `first` then
-pub record Goes (n : Node) (to first : ℕ) (b : Bucket) : Type 0 where
-  pub there : nodes (put n b) ≡ insert_at to n (nodes b)
-  pub until : first ≡ length (put n b).disconnected
 
 -- the answer of the step x on the bucket, and the bytes that it leaves
 pub record Does {A : Type 0} (x : A × Bucket) (answer : A) (left : List ℕ) : Type 0 where

@@ -17,7 +17,7 @@ use Rattle.model.specs.Node.{Node}
 use Rattle.model.specs.Sizes.{key_size, value_size, node_size}
 use Rattle.model.specs.Call.{matches, in_net}
 use Rattle.model.specs.Layout.{flag_byte, value_bytes, node_bytes, item_bytes, node_in}
-use Rattle.model.specs.Formed.{node_codes}
+use Rattle.model.specs.Formed.{node_codes, key_in}
 use Rattle.laws.proofs.Lists.{joined_append, joined_map, length_joined}
 use Rattle.laws.proofs.All.{all_any}
 use Rattle.laws.proofs.Parts.{length_splice, splice_next}
@@ -29,7 +29,7 @@ use Rattle.key.proofs.Bytes.{splice_all}
 use Rattle.node.specs.declared.Value.{Value}
 use Rattle.node.specs.Node.{value_of}
 use Rattle.storage.specs.Read.{read_value}
-use Rattle.storage.proofs.Nodes.{value_of_read}
+use Rattle.storage.proofs.Bytes.{value_of_read}
 use Rattle.items.specs.declared.Predicate.{Predicate}
 use Rattle.items.specs.declared.Form.{Form}
 use Rattle.items.specs.declared.Shape.{Shape}
@@ -87,8 +87,8 @@ put_last {t} o a b k n e f l m h =
     ∙ splice_all o (a ++ b) (simp length-append (omega arith))
 
 -- bytes put at the start
-pub length_put : {w : List ℕ} (o a : List ℕ) (k : ℕ) → w ≡ a → length a ≡ k → k ≤ length o → length (put_mid 0 k o w) ≡ length o
-length_put o a k f l h = ap length (put_mid_splice o 0 k f l) ∙ length_splice o 0 a (omega arith)
+pub length_put : (o w : List ℕ) (k : ℕ) → length w ≡ k → k ≤ length o → length (put_mid 0 k o w) ≡ length o
+length_put o w k l h = ap length (put_mid_splice o 0 k {v = w} refl l) ∙ length_splice o 0 w (omega arith)
 
 -- bytes put over all that are there
 pub put_all_of : {w : List ℕ} (o a : List ℕ) (k : ℕ) → w ≡ a → length a ≡ k → length o ≡ k → put_mid 0 k o w ≡ a
@@ -100,6 +100,10 @@ module _ (bs : List ℕ) (h : Bytes bs) (l : length bs ≡ node_size) where
   pub key_bytes : bytes key_size (node_in bs).key ≡ part bs 0 key_size
   unfolding node_in
   key_bytes = number_back bs 0 key_size (omega arith) h
+
+  pub key_put : {v : List ℕ} {k : ℕ} → v ≡ bytes key_size k → k ≡ key_in bs → v ≡ part bs 0 key_size
+  unfolding node_in
+  key_put e f = e ∙ ap (bytes key_size) f ∙ key_bytes
 
   module _ (c : node_codes bs ≡ true) where
     pub value_bytes_lem : value_bytes (node_in bs).value ≡ part bs (key_size + 2) value_size

@@ -1,4 +1,6 @@
-// Every entry point under its C name, on numbers and lent bytes: a library. crates/kbuckets_c exports each by the same name.
+// Every entry point under its C name, on numbers and lent bytes: a library. crates/kbuckets_c exports each by the same name. Here and in
+// the crates below, a call's parameters stand in the order of the C interface. What is one thing there (a value, a status, the hours) is
+// one below; what only stands side by side (storage and key, key and value, a time and the hours or the output) stays apart.
 #![tactic(auto, using(codes::proofs::Few::few_found, codes::proofs::Few::few_read, codes::proofs::Few::few_written, codes::proofs::Few::short), unfolding(codes::specs::Exported::exported))]
 
 ghost use Rattle.std.specs.Prelude.{◌≡◌, []};
@@ -11,8 +13,8 @@ ghost use Rattle.codes.specs.Exported.{Leaves, Writes, exported, exported_with, 
 ghost use Rattle.bucket_calls.specs.Calls.{BucketCall, bucket_step, bucket_new};
 ghost use Rattle.kbuckets.specs.Version.{version};
 
-use codes::answers::{count, kind_code, put_insert, short_node, short_storage};
-use codes::{Answer, put_applied, put_bucket_insert, refused, update_code};
+use codes::answers::{count, insert_reply, kind_code, short_node, short_storage};
+use codes::{Answer, applied_reply, bucket_insert_reply, refused, update_code};
 use node::{NodeStatus, Slot, Value};
 use session::{Hours, Moment};
 
@@ -86,8 +88,8 @@ pub fn kbuckets_update_node(
     update::update_node(storage, key, value, state, time).map_or_else(refused, update_code)
 }
 
-// Of one form with kbuckets_absent_insert: C has a name for each call. What fills `answer` stands in a `match`: of what a closure writes, its
-// caller's contract can say nothing.
+// Of one form with kbuckets_absent_insert: C has a name for each call. What fills `answer` stands in a `match`: of what a closure writes,
+// its caller's contract can say nothing.
 #[tactic(auto, using(codes::proofs::Thin::too_short, codes::proofs::Thin::insert_or_update_asked))]
 pub fn kbuckets_insert_or_update(
     storage: &mut [u8],
@@ -134,7 +136,7 @@ pub fn kbuckets_insert_or_update(
         },
     };
     match update::insert_or_update(storage, key, value, status, time, hours) {
-        Ok(result) => put_insert(answer, result),
+        Ok(result) => insert_reply(result).put(answer),
         Err(refusal) => refused(refusal),
     }
 }
@@ -211,7 +213,7 @@ pub fn kbuckets_absent_insert(
         },
     };
     match entry::absent_insert(storage, key, value, status, time, hours) {
-        Ok(result) => put_bucket_insert(answer, result),
+        Ok(result) => bucket_insert_reply(result).put(answer),
         Err(refusal) => refused(refusal),
     }
 }
@@ -285,7 +287,7 @@ pub fn kbuckets_take_applied_pending(storage: &mut [u8], answer: &mut [u8]) -> u
         return short_storage(storage);
     }
     match table::take_applied_pending(storage) {
-        Ok(applied) => put_applied(answer, applied),
+        Ok(applied) => applied_reply(applied).put(answer),
         Err(refusal) => refused(refusal),
     }
 }

@@ -1,5 +1,5 @@
-// The static library: every function of crates/kbuckets under its C name. include/kbuckets.h declares them. Each calls the library's function
-// of its name: claims and replay use those, and no crate can use a static library.
+// The static library: every function of crates/kbuckets under its C name. include/kbuckets.h declares them. Each calls the library's
+// function of its name: claims and replay use those, and no crate can use a static library.
 #![tactic(auto)]
 
 ghost use Rattle.std.specs.Prelude.{◌≡◌, []};

@@ -2,10 +2,10 @@
 // kbucket.rs).
 #![tactic(auto)]
 
-ghost use Rattle.std.specs.Prelude.{◌≡◌, suc, ◌+◌, ◌-◌, ◌*◌, ◌≤◌, ◌<◌, ltb, length};
+ghost use Rattle.std.specs.Prelude.{◌≡◌, suc, ◌-◌, ◌*◌, ◌≤◌, ◌<◌, ltb, length};
 ghost use Rattle.std.specs.Int.Count.{count_leading_zeros};
 ghost use Rattle.model.specs.Base.{same, first};
-ghost use Rattle.model.specs.Bytes.{number, bytes, part, splice};
+ghost use Rattle.model.specs.Bytes.{number, bytes};
 ghost use Rattle.model.specs.Key.{distance, log2_distance, bucket_index, test_bit};
 ghost use Rattle.model.specs.Sizes.{key_size};
 ghost use Rattle.model.specs.Visit.{sets_down, clears_up, visits};
@@ -45,7 +45,7 @@ impl Key {
         out
     }
 
-    // Internal: the key of a run of 32 bytes.
+    // Internal: the key of a run of 32 bytes. Not of an array: most callers have a run of the host's, whose length they tested.
     pub fn load(s: &[u8]) -> Key
         requires { length s.now ≡ key_size }
         ensures { num result ≡ number s.now }
@@ -221,8 +221,8 @@ impl ClosestBucketsIter {
         }
     }
 
-    // The next set bit of the distance below i, word by word. No `for`: the first step begins inside a word, each later one at a word's edge,
-    // and no bound on i is asked.
+    // The next set bit of the distance below i, word by word. No `for`: the first step begins inside a word, each later one at a word's
+    // edge, and no bound on i is asked.
     fn next_in(self, i: usize) -> Option<usize>
         ensures { option_of result ≡ first (sets_down (num self.distance) i) }
     {

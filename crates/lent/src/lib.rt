@@ -33,7 +33,11 @@ pub fn update_status(
 }
 
 // `insert` on a bucket of the function's own, for callers with plain parameters.
-pub fn insert_by(mut b: KBucket, node: Node, time: u64) -> Step<Result<InsertResult, Refusal>>
+pub fn insert_by(
+    mut b: KBucket,
+    node: Node,
+    time: u64,
+) -> Step<KBucket, Result<InsertResult, Refusal>>
     ensures { insert_call b node time ≡ (reply_of insert_result_of result.result, result.bucket) }
 {
     let result = insert(&mut b, node, time);
@@ -46,7 +50,7 @@ pub fn update_status_by(
     key: Key,
     state: Code,
     direction: Code,
-) -> Step<Result<UpdateResult, Refusal>>
+) -> Step<KBucket, Result<UpdateResult, Refusal>>
     ensures { update_status_call b key state direction ≡ (reply_of update_result_of result.result, result.bucket) }
 {
     let result = update_status(&mut b, key, state, direction);

@@ -54,7 +54,7 @@ fn broken() -> KBucket
 }
 
 // An insert into a malformed bucket is refused, and the bucket keeps its bytes.
-pub(crate) fn refused_insert() -> Step<Result<InsertResult, Refusal>>
+pub(crate) fn refused_insert() -> Step<KBucket, Result<InsertResult, Refusal>>
     ensures answer_value { result.result ≡ Err Refusal.Form }
     ensures bucket_value { result.bucket ≡ malformed emptied }
 {
@@ -62,7 +62,7 @@ pub(crate) fn refused_insert() -> Step<Result<InsertResult, Refusal>>
 }
 
 // So is a status step.
-pub(crate) fn refused_status() -> Step<Result<UpdateResult, Refusal>>
+pub(crate) fn refused_status() -> Step<KBucket, Result<UpdateResult, Refusal>>
     ensures answer_value { result.result ≡ Err Refusal.Form }
     ensures bucket_value { result.bucket ≡ malformed emptied }
 {
@@ -70,7 +70,7 @@ pub(crate) fn refused_status() -> Step<Result<UpdateResult, Refusal>>
 }
 
 // Connected 32 and 33 are inserted.
-pub(crate) fn inserted() -> Step<Result<InsertResult, Refusal>>
+pub(crate) fn inserted() -> Step<KBucket, Result<InsertResult, Refusal>>
     ensures answer_value { reply_of insert_result_of result.result ≡ Reply.Answered results.BucketInsertResult.Inserted }
     ensures bucket_value { result.bucket ≡ two }
 {
@@ -79,7 +79,7 @@ pub(crate) fn inserted() -> Step<Result<InsertResult, Refusal>>
 }
 
 // 32 is set connected: it moves behind 33.
-pub(crate) fn moved() -> Step<Result<UpdateResult, Refusal>>
+pub(crate) fn moved() -> Step<KBucket, Result<UpdateResult, Refusal>>
     ensures answer_value { reply_of update_result_of result.result ≡ Reply.Answered results.UpdateResult.NotModified }
     ensures bucket_value { key_at result.bucket 0 ≡ 33 }
     ensures bucket_value_2 { key_at result.bucket 1 ≡ 32 }

@@ -5,14 +5,18 @@
 ghost use Rattle.std.specs.Prelude.{◌≡◌};
 ghost use Rattle.lent_run.specs.Lends.{emptied, malformed};
 
-use bucket::{InsertResult, Step, UpdateResult};
+use bucket::{InsertResult, KBucket, Step, UpdateResult};
 use node::Refusal;
 use std::io;
 
 mod lends;
 
 // What a call on the malformed bucket answers, and that the bucket is as it was.
-fn refused<T: Copy>(rt: &impl Print, call: &str, step: Step<Result<T, Refusal>>) -> io::Result<()>
+fn refused<T: Copy>(
+    rt: &impl Print,
+    call: &str,
+    step: Step<KBucket, Result<T, Refusal>>,
+) -> io::Result<()>
     requires answer_value { step.result ≡ Err Refusal.Form }
     requires bucket_value { step.bucket ≡ malformed emptied }
 {

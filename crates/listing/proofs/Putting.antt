@@ -11,10 +11,9 @@ use Rattle.model.specs.Base.{joined}
 use Rattle.model.specs.Bytes.{splice}
 use Rattle.model.specs.Node.{Node}
 use Rattle.model.specs.Table.{Table, num_buckets}
-use Rattle.model.specs.Sizes.{storage_size}
 use Rattle.model.specs.Listing.{visited}
 use Rattle.model.specs.Layout.{table_of}
-use Rattle.model.specs.Formed.{header_formed, bucket_formed_at, buckets_formed}
+use Rattle.model.specs.Formed.{bucket_formed_at, buckets_formed}
 use Rattle.model.specs.Fits.{All}
 use Rattle.laws.proofs.Tests.{and_left, and_right}
 use Rattle.laws.proofs.Join.{take_joined}
@@ -22,7 +21,6 @@ use Rattle.laws.proofs.Parts.{splice_nil, length_splice, splice_next}
 use Rattle.items.specs.declared.Shape.{Shape}
 use Rattle.items.specs.Shape.{items_by, size_by, shown_by}
 use Rattle.items.proofs.Items.{length_items, items_append}
-use Rattle.on_key.specs.Answers.{Ready}
 use Rattle.visit.proofs.Visitable.{visited_next}
 use Rattle.listing.specs.Listed.{count_in, first_nodes, Put}
 use Rattle.listing.proofs.Shapes.{length_shown}
@@ -69,8 +67,8 @@ module _ (x : Shape) (s : List ℕ) (n : ℕ) where
         → (bucket_formed_at s i && buckets_formed s (visited (count_in t) (n - k - count_in t i) rest)) ≡ true
     formed_here i l w = ap (buckets_formed s) (sym (visited_next (count_in t) (n - k) i rest (omega arith))) ∙ w.formed
 
-    pub putting_ready : (i : ℕ) → length s ≡ storage_size → header_formed s ≡ true → k < n → Putting x s n ns before after k (i ∷ rest) → Ready s i
-    putting_ready i z f l w = record { size = z; header = f; below = w.below.0; bucket = and_left (bucket_formed_at s i) _ (formed_here i l w) }
+    pub putting_formed : (i : ℕ) → k < n → Putting x s n ns before after k (i ∷ rest) → bucket_formed_at s i ≡ true
+    putting_formed i l w = and_left (bucket_formed_at s i) _ (formed_here i l w)
 
     pub putting_next : (i r : ℕ) (after' : List ℕ) → n * size_by x ≤ length before → k < n → Putting x s n ns before after k (i ∷ rest)
         → r ≡ k + length (take (n - k) (shows i)) → after' ≡ splice after (k * size_by x) (items_by x (take (n - k) (shows i))) → Putting x s n ns before after' r rest

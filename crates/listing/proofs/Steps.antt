@@ -19,7 +19,7 @@ use Rattle.model.specs.Listing.{Item, item, apply_all, applied, visited, applies
 use Rattle.model.specs.Question.{max_count, first_failed, entry_size, keys_fit, codes_in_range, clock_fits, output_fits, kind_fits}
 use Rattle.model.specs.Step.{act, queue_fits}
 use Rattle.model.specs.Layout.{table_of}
-use Rattle.model.specs.Formed.{header_formed, bucket_formed_at, buckets_formed}
+use Rattle.model.specs.Formed.{bucket_formed_at, buckets_formed}
 use Rattle.model.specs.StepBytes.{all_questions, written, restore, step_bytes}
 use Rattle.model.specs.Fits.{All}
 use Rattle.laws.proofs.Tests.{split, and_left, and_right}
@@ -32,7 +32,7 @@ use Rattle.laws.proofs.Questions.{front_fails, front_passes}
 use Rattle.visit.specs.Passes.{held, visited_by, visit_all, applied_in, left_of}
 use Rattle.visit.proofs.Visitable.{visited_agree}
 use Rattle.visit.proofs.Counts.{left_none}
-use Rattle.visit.proofs.Applying.{Appliable, Applying, applying_done, applying_header, applying_table, applying_formed}
+use Rattle.visit.proofs.Applying.{Appliable, Applying, applying_done, applying_table, applying_formed}
 use Rattle.items.specs.declared.Form.{Form}
 use Rattle.items.specs.declared.Shape.{Shape}
 use Rattle.items.specs.Shape.{form_codes, item_by, size_by, shown_by}
@@ -133,9 +133,6 @@ module _ (x : Shape) (n now : ℕ) (is out s : List ℕ) where
           done_all : w.done ≡ js
           done_all = sym (append-nil w.done) ∙ sym w.all
 
-      pub left_header : header_formed s' ≡ true
-      left_header = applying_header s now js p s' [] w
-
       -- they hold what the survey counted
       left_held : All (λ (i : ℕ). count_in (table_of s') i ≡ held now (table_of s) i) js
       unfolding visit_all
@@ -161,10 +158,8 @@ module _ (x : Shape) (n now : ℕ) (is out s : List ℕ) where
             visited_fewer s' (count_in (table_of s')) m n is (omega arith)
             (ap (buckets_formed s') (visited_agree (held now (table_of s)) (count_in (table_of s')) n is left_held) ∙ applying_formed s now js p s' [] w js p.below f)
 
-        pub left_fits : (n ≤ max_count) × (n * size_by x ≤ length out) → (m ≤ max_count) × (m * size_by x ≤ length out)
-        left_fits h =
-            let k : m ≤ n = omega arith in
-            (omega arith, le_trans (mul-le-mul_right (size_by x) k) h.1)
+        pub left_fits : n * size_by x ≤ length out → m * size_by x ≤ length out
+        left_fits h = le_trans (mul-le-mul_right (size_by x) (omega arith)) h
 
         found_all : first_nodes m x (table_of s') is ≡ first_nodes n x (table_of s') is
         unfolding first_nodes
@@ -201,8 +196,8 @@ module _ (x : Shape) (n now : ℕ) (out s : List ℕ) where
   unfolding list_outcome
   list_visited e is f w = let v = rw f at w in record { answer = v.answer ∙ (rw e); storage = v.storage ∙ (rw e); output = v.output ∙ (rw e) }
 
-  pub room_fits : room_by x n (length out) ≡ true → (n ≤ max_count) × (n * size_by x ≤ length out)
-  room_fits r = (leb-true n max_count (and_left _ _ r), leb-true (n * size_by x) (length out) (and_right (leb n max_count) _ r))
+  pub room_fits : room_by x n (length out) ≡ true → n * size_by x ≤ length out
+  room_fits r = leb-true (n * size_by x) (length out) (and_right (leb n max_count) _ r)
 
 -- the last questions of a listing
 abbrev pub last_four : Listing → ℕ → ℕ → List ℕ → List ℕ → List (ℕ × Bool)

@@ -2,17 +2,12 @@
 #![tactic(auto)]
 
 ghost use Rattle.std.specs.Prelude.{◌≡◌, true, ◌*◌, ◌≤◌, length};
-ghost use Rattle.model.specs.Base.{tabulate};
-ghost use Rattle.model.specs.Table.{num_buckets};
 ghost use Rattle.model.specs.Call.{Call, Listing};
-ghost use Rattle.model.specs.Question.{max_count};
 ghost use Rattle.model.specs.Layout.{table_of};
 ghost use Rattle.model.specs.Formed.{header_formed, buckets_formed};
 ghost use Rattle.model.specs.Listing.{visited};
 ghost use Rattle.model.specs.StepBytes.{step_bytes};
-ghost use Rattle.key.specs.Visits.{remaining};
-ghost use Rattle.on_key.specs.Answers.{Timely};
-ghost use Rattle.visit.specs.Passes.{Visitable, order};
+ghost use Rattle.visit.specs.Passes.{buckets_of};
 ghost use Rattle.items.specs.Shape.{size_by};
 ghost use Rattle.items.specs.Lists.{Lists, list_answer};
 ghost use Rattle.listing.specs.Listed.{closest_listing, visit_order_by, count_in, first_nodes, Put, visit_outcome, list_outcome};
@@ -21,31 +16,29 @@ use items::{Form, Predicate, Shape};
 use key::{ClosestBucketsIter, Key};
 use node::{Code, Refusal, Slot};
 use storage::Layout;
-use visit::Visit;
+use visit::{Order, Visit};
 
-// The buckets in the order of the listing.
-fn visit_of(s: &[u8; Layout::STORAGE], shape: Shape) -> Visit
-    ensures { order result ≡ visit_order_by shape (table_of s.now) }
+// The order of the listing.
+fn order_of(s: &[u8; Layout::STORAGE], shape: Shape) -> Order
+    ensures { buckets_of result ≡ visit_order_by shape (table_of s.now) }
 {
     match shape {
-        Shape::Nodes => Visit::InTurn(0),
+        Shape::Nodes => Order::InTurn(0),
         Shape::Closest(target, _) => {
             let distance = header::local_key(s).distance(target);
-            Visit::Nearest(ClosestBucketsIter::new(distance))
+            Order::Nearest(ClosestBucketsIter::new(distance))
         }
     }
 }
 
-// Writes the items of the buckets, up to n, and answers how many. No further bucket is visited after the n-th.
+// Writes the items of the visit's buckets, up to n, and answers how many. No further bucket is visited after the n-th.
 fn put_all(s: &[u8; Layout::STORAGE], visit: Visit, shape: Shape, out: &mut [u8], n: usize) -> usize
-    requires header { header_formed s.now ≡ true }
-    requires visitable { Visitable (order visit) }
-    requires visit_value { buckets_formed s.now (visited (count_in (table_of s.now)) n (order visit)) ≡ true }
-    requires n_le_max_count { (n ≤ max_count) × (n * size_by shape ≤ length out.old) }
-    ensures { Put shape (first_nodes n shape (table_of s.now) (order visit)) result out.old out.new }
+    requires visit_value { buckets_formed s.now (visited (count_in (table_of s.now)) n (buckets_of visit.order)) ≡ true }
+    requires shape_in_bounds { n * size_by shape ≤ length out.old }
+    ensures { Put shape (first_nodes n shape (table_of s.now) (buckets_of visit.order)) result out.old out.new }
 {
     let mut k = 0;
-    for i in visit {
+    for i in visit.order {
         if k == n {
             break;
         }
@@ -60,23 +53,19 @@ fn list_visited(
     s: &mut [u8; Layout::STORAGE],
     visit: Visit,
     shape: Shape,
-    n: usize,
-    time: u64,
     out: &mut [u8],
 ) -> Result<usize, Refusal>
     requires header { header_formed s.old ≡ true }
-    requires timely { Timely s.old time }
-    requires visitable { Visitable (order visit) }
-    requires n_le_max_count { (n ≤ max_count) × (n * size_by shape ≤ length out.old) }
-    ensures { Lists (list_answer result) s.new out.new (visit_outcome shape n time (order visit) out.old s.old) }
+    requires shape_in_bounds { visit.n * size_by shape ≤ length out.old }
+    ensures { Lists (list_answer result) s.new out.new (visit_outcome shape visit.n visit.time (buckets_of visit.order) out.old s.old) }
 {
-    let tally = visit::survey(s, visit, n, time)?;
+    let tally = visit.survey(s)?;
     on_key::asked_queue(s, tally.records)?;
-    visit::apply_all(s, visit, n, time, tally.records);
+    visit.apply_all(s, tally);
     Ok(put_all(s, visit, shape, out, tally.count))
 }
 
-// The listing of a shape, from question 6 on.
+// The listing of a shape, from question 6 on. n and time are the call's own, as in the C interface; from the visit on they are a Visit's.
 fn list(
     s: &mut [u8; Layout::STORAGE],
     shape: Shape,
@@ -84,12 +73,13 @@ fn list(
     time: u64,
     out: &mut [u8],
 ) -> Result<usize, Refusal>
-    requires header { header_formed s.old ≡ true }
-    requires timely { Timely s.old time }
+    requires { header_formed s.old ≡ true }
     ensures { Lists (list_answer result) s.new out.new (list_outcome shape n time out.old s.old) }
 {
     items::asked_output(n, shape.item_size(), out.len())?;
-    list_visited(s, visit_of(s, shape), shape, n, time, out)
+    let order = order_of(s, shape);
+    let visit = Visit { order, n, time };
+    list_visited(s, visit, shape, out)
 }
 
 // The closest listing of a form.

@@ -17,9 +17,8 @@ use Rattle.model.specs.Table.{num_buckets}
 use Rattle.model.specs.Sizes.{key_size, node_size, place_at, pending_size, bucket_size}
 use Rattle.model.specs.Saved.{saved_entry_size, sizes_below, saved_count, saved_node, disconnected_from, loaded_bytes}
 use Rattle.laws.proofs.Lists.{length_tabulate, tabulate_one_more, joined_snoc, length_joined}
-use Rattle.laws.proofs.Parts.{length_part, part_all, part_append, splice_over, get_or_right, set_splice, splice_nil, length_splice, splice_next}
+use Rattle.laws.proofs.Parts.{part_all, get_or_right, set_splice, splice_nil, splice_next}
 use Rattle.laws.proofs.Bytes.{number_back}
-use Rattle.key.proofs.Bytes.{splice_all}
 use Rattle.words.proofs.Words.{set_more, put_mid_splice}
 use Rattle.laws.proofs.All.{all_tabulate}
 use Rattle.laws.proofs.Loaded.{below_more, place_below, length_key, length_saved_node}
@@ -63,26 +62,6 @@ pub key_put : (s : List ℕ) (k : ℕ) → Bytes s → length s ≡ key_size →
 key_put s k b l e =
     let w : part s 0 key_size ≡ s = part_all s key_size (omega arith) in
     ap (bytes key_size) (e ∙ ap number (sym w)) ∙ number_back s 0 key_size (omega arith) b ∙ w
-
--- the first eight bytes of an entry, then the last eight, which share one
-pub entry_put : (s e : List ℕ) (first last : ℕ) → Bytes e → length s ≡ saved_entry_size → length e ≡ saved_entry_size → first ≡ number (part e 0 8)
-    → last ≡ number (part e 7 8) → {v w : List ℕ} → v ≡ bytes 8 first → w ≡ bytes 8 last → put_mid 7 8 (put_mid 0 8 s v) w ≡ e
-entry_put s e first last b ls le ef el {v} {w} ev ew =
-    let E : List ℕ = part e 0 7 in
-    let X : List ℕ = part e 7 1 in
-    let B : List ℕ = part e 7 8 in
-    let lE : length E ≡ 7 = length_part e 0 7 (omega arith) in
-    let lX : length X ≡ 1 = length_part e 7 1 (omega arith) in
-    let lB : length B ≡ 8 = length_part e 7 8 (omega arith) in
-    let lF : length (part e 0 8) ≡ 8 = length_part e 0 8 (omega arith) in
-    let v_is : v ≡ part e 0 8 = ev ∙ ap (bytes 8) ef ∙ number_back e 0 8 (omega arith) b in
-    let w_is : w ≡ B = ew ∙ ap (bytes 8) el ∙ number_back e 7 8 (omega arith) b in
-    let u : List ℕ = splice s 0 E in
-    let lu : length u ≡ length s = length_splice s 0 E (omega (arith, lE)) in
-    let one : put_mid 0 8 s v ≡ splice u 7 X =
-    put_mid_splice s 0 8 v_is lF ∙ ap (splice s 0) (part_append e 0 7 1) ∙ sym (splice_next s 0 7 E X lE (omega (arith, lX))) in
-    put_mid_splice (put_mid 0 8 s v) 7 8 w_is lB ∙ rw one (splice_over u 7 X B (omega (arith, lX, lB)) (omega (arith, lB, lu)))
-    ∙ splice_next s 0 7 E B lE (omega (arith, lB)) ∙ ap (splice s 0) (sym (part_append e 0 7 8) ∙ part_all e 15 (omega arith)) ∙ splice_all s e (ls ∙ sym le)
 
 module _ (bs : List ℕ) (nodes : ℕ) (n : nodes ≡ saved_count bs) (z : length bs ≡ num_buckets + nodes * node_size) where
   sized : length bs ≡ num_buckets + saved_count bs * node_size

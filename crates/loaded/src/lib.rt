@@ -2,12 +2,10 @@
 // anything is written.
 #![tactic(auto, unfolding(model::specs::Bytes::part, model::specs::Bytes::splice))]
 
-ghost use Rattle.std.specs.Prelude.{◌≡◌, true, false, ◌≤◌, ◌<◌, get_or, MatchOption};
+ghost use Rattle.std.specs.Prelude.{◌≡◌, true, false, ◌<◌, MatchOption};
 ghost use Rattle.model.specs.Base.{all_below};
-ghost use Rattle.model.specs.Bucket.{max_nodes_per_bucket};
 ghost use Rattle.model.specs.Table.{num_buckets};
 ghost use Rattle.model.specs.Layout.{nodes_in, table_of};
-ghost use Rattle.model.specs.Formed.{formed};
 ghost use Rattle.model.specs.Saved.{holds_nothing, three_of_aNet, load_fits};
 ghost use Rattle.model.specs.Call.{Call};
 ghost use Rattle.model.specs.StepBytes.{step_bytes};
@@ -25,24 +23,24 @@ use bucket::Settings;
 use key::Key;
 use node::{Refusal, Value};
 use saved::{Saved, SavedBucket};
-use storage::Layout;
+use storage::{Layout, Nodes};
+use well_formed::{FormedTable, Index};
 
-// The value of place j of the bucket.
-fn value_at(bucket: &[u8; Layout::BUCKET], j: usize) -> Value
-    requires { j < max_nodes_per_bucket }
-    ensures { value_of result ≡ (node_at bucket.now j).value }
+// The value of the node at place j.
+fn value_at(nodes: Nodes, j: usize) -> Value
+    requires { j < nodes.count }
+    ensures { value_of result ≡ (node_at nodes.entry.bucket.now j).value }
 {
-    storage::load_value(&storage::place(bucket, j)[Layout::VALUE_AT..Layout::NODE])
+    storage::load_value(nodes.place(j))
 }
 
-// Three nodes of the bucket have the same third octet. Elsewhere no three values are of one /24.
-fn is_crowded(bucket: &[u8; Layout::BUCKET]) -> bool
-    requires { get_or bucket.now 0 0 ≤ max_nodes_per_bucket }
-    ensures { result ≡ false → NoThree (octet_at bucket.now) (get_or bucket.now 0 0) }
+// Three of the nodes have the same third octet. Elsewhere no three values are of one /24.
+fn is_crowded(nodes: Nodes) -> bool
+    ensures { result ≡ false → NoThree (octet_at nodes.entry.bucket.now) nodes.entry.count }
 {
     let mut seen = [0u8; 256];
-    for j in 0..usize::from(bucket[0]) {
-        let octet = usize::from(storage::place(bucket, j)[Layout::VALUE_AT + 3]);
+    for j in 0..nodes.count {
+        let octet = usize::from(nodes.place(j)[Layout::VALUE_AT + 3]);
         if 1 < seen[octet] {
             return true;
         }
@@ -51,37 +49,34 @@ fn is_crowded(bucket: &[u8; Layout::BUCKET]) -> bool
     false
 }
 
-// A node of the bucket holds a value that counts against both.
-fn third(bucket: &[u8; Layout::BUCKET], a: Value, b: Value) -> bool
-    requires { get_or bucket.now 0 0 ≤ max_nodes_per_bucket }
-    ensures { result ≡ third_of (value_of a) (value_of b) (nodes_in bucket.now) }
+// One of the nodes holds a value that counts against both.
+fn third(nodes: Nodes, a: Value, b: Value) -> bool
+    ensures { result ≡ third_of (value_of a) (value_of b) (nodes_in nodes.entry.bucket.now) }
 {
-    (0..usize::from(bucket[0])).any(|j| {
-        let c = value_at(bucket, j);
+    (0..nodes.count).any(|j| {
+        let c = value_at(nodes, j);
         node::filter::counts(a, c) & node::filter::counts(b, c)
     })
 }
 
-// Two nodes of the bucket hold values that count against the value and against each other.
-fn two_beside(bucket: &[u8; Layout::BUCKET], a: Value) -> bool
-    requires { get_or bucket.now 0 0 ≤ max_nodes_per_bucket }
-    ensures { result ≡ two_beside (value_of a) (nodes_in bucket.now) }
+// Two of the nodes hold values that count against the value and against each other.
+fn two_beside(nodes: Nodes, a: Value) -> bool
+    ensures { result ≡ two_beside (value_of a) (nodes_in nodes.entry.bucket.now) }
 {
-    (0..usize::from(bucket[0])).any(|j| {
-        let b = value_at(bucket, j);
-        node::filter::counts(a, b) && third(bucket, a, b)
+    (0..nodes.count).any(|j| {
+        let b = value_at(nodes, j);
+        node::filter::counts(a, b) && third(nodes, a, b)
     })
 }
 
-// The bucket holds three different values of one /24.
-fn three_of_a_net(bucket: &[u8; Layout::BUCKET]) -> bool
-    requires { get_or bucket.now 0 0 ≤ max_nodes_per_bucket }
-    ensures { result ≡ three_of_aNet (nodes_in bucket.now) }
+// The nodes hold three different values of one /24.
+fn three_of_a_net(nodes: Nodes) -> bool
+    ensures { result ≡ three_of_aNet (nodes_in nodes.entry.bucket.now) }
 {
-    if !is_crowded(bucket) {
+    if !is_crowded(nodes) {
         return false;
     }
-    (0..usize::from(bucket[0])).any(|j| two_beside(bucket, value_at(bucket, j)))
+    (0..nodes.count).any(|j| two_beside(nodes, value_at(nodes, j)))
 }
 
 // Question 9 of a bucket of the bytes. One without nodes passes.
@@ -97,13 +92,14 @@ fn bucket_fits(bucket: SavedBucket, local: Key, settings: Settings) -> bool
     }
     let mut built = [0u8; Layout::BUCKET];
     bucket.build(&mut built);
-    if !well_formed::bucket_formed(&built, local, bucket.i, settings.max_incoming) {
+    let index = Index { local, i: bucket.i };
+    if !well_formed::bucket_formed(&built, index, settings.max_incoming) {
         return false;
     }
     if settings.filter != 1 {
         return true;
     }
-    !three_of_a_net(&built)
+    !three_of_a_net(Nodes::of(&built))
 }
 
 // Question 9 of every bucket of the bytes.
@@ -122,10 +118,10 @@ fn buckets_fit(saved: Saved, local: Key, settings: Settings) -> bool
 }
 
 // The table holds no node, pending or record.
-fn holds_nothing(s: &[u8; Layout::STORAGE]) -> bool
-    requires { formed s.now ≡ true }
-    ensures { result ≡ holds_nothing (table_of s.now) }
+fn holds_nothing(table: FormedTable) -> bool
+    ensures { result ≡ holds_nothing (table_of table.entry.s.now) }
 {
+    let s = table.s;
     if s[Layout::RECORD_COUNT_AT] != 0 {
         return false;
     }
@@ -139,15 +135,14 @@ fn holds_nothing(s: &[u8; Layout::STORAGE]) -> bool
 }
 
 // The bytes, where they pass question 9.
-fn fitting<'a>(s: &[u8; Layout::STORAGE], bytes: &'a [u8]) -> Option<Saved<'a>>
-    requires { formed s.now ≡ true }
-    ensures { MatchOption result (load_fits bytes.now (table_of s.now) ≡ false) (λ x. (load_fits bytes.now (table_of s.now) ≡ true) × (x.bytes.now ≡ bytes.now)) }
+fn fitting<'a>(table: FormedTable, bytes: &'a [u8]) -> Option<Saved<'a>>
+    ensures { MatchOption result (load_fits bytes.now (table_of table.entry.s.now) ≡ false) (λ x. (load_fits bytes.now (table_of table.entry.s.now) ≡ true) × (x.bytes.now ≡ bytes.now)) }
 {
-    if !holds_nothing(s) {
+    if !holds_nothing(table) {
         return None;
     }
     let saved = Saved::of(bytes)?;
-    if !buckets_fit(saved, header::local_key(s), header::settings(s)) {
+    if !buckets_fit(saved, header::local_key(table.s), header::settings(table.s)) {
         return None;
     }
     Some(saved)
@@ -174,7 +169,7 @@ pub fn read(s: &mut [u8], bytes: &[u8]) -> Result<usize, Refusal>
 {
     let s = s.as_mut_array().ok_or(Refusal::Size)?;
     on_key::asked_table(s)?;
-    let saved = fitting(s, bytes).ok_or(Refusal::Load)?;
+    let saved = fitting(FormedTable { s }, bytes).ok_or(Refusal::Load)?;
     load_all(saved, s);
     Ok(saved.nodes)
 }

@@ -9,9 +9,6 @@ ghost use Rattle.model.specs.Saved.{saved_entry_size, sizes_below, saved_count, 
 use key::Key;
 use storage::Layout;
 
-// An entry of the bytes: state, direction, value.
-const ENTRY: usize = Layout::NODE - Layout::KEY;
-
 // The bytes, whose length fits their sizes, and how many nodes they have.
 #[derive(Clone, Copy)]
 pub struct Saved<'a> {
@@ -31,19 +28,14 @@ pub struct SavedBucket<'a> {
     pub ghost start: { from ≡ sizes_below saved.bytes.now i },
 }
 
-// The bytes of a node become its key and its entry. By words, of the entry's 15 bytes the eighth twice: `copy_from_slice` tests whether the
-// two overlap, which costs more in the loop that builds a bucket.
+// The bytes of a node become its key and its entry.
 fn copy_node(key: &[u8], entry: &[u8], node: &mut [u8])
     requires { (length key.now ≡ key_size) × (length entry.now ≡ saved_entry_size) × (length node.old ≡ node_size) }
     ensures { node.new ≡ key.now ++ entry.now }
 {
-    let key = Key::load(key);
-    let first = words::get_u64(&entry[0..8]);
-    let last = words::get_u64(&entry[ENTRY - 8..ENTRY]);
     let (front, back) = node.split_at_mut(Layout::KEY);
-    key.store(front);
-    words::put_u64(&mut back[0..8], first);
-    words::put_u64(&mut back[ENTRY - 8..ENTRY], last);
+    Key::load(key).store(front);
+    storage::put_entry(entry, back);
 }
 
 // How many nodes the sizes say.
@@ -89,8 +81,8 @@ impl<'a> Saved<'a> {
         ensures entry { result.now ≡ part self.entry.bytes.now (num_buckets + self.entry.nodes * key_size + j * saved_entry_size) saved_entry_size }
         ensures size { length result.now ≡ saved_entry_size }
     {
-        let at = model::NUM_BUCKETS + self.nodes * Layout::KEY + j * ENTRY;
-        &self.bytes[at..at + ENTRY]
+        let at = model::NUM_BUCKETS + self.nodes * Layout::KEY + j * Layout::ENTRY;
+        &self.bytes[at..at + Layout::ENTRY]
     }
 }
 

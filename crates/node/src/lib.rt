@@ -1,7 +1,7 @@
 // What a bucket holds: values, statuses and nodes (bucket.rs), and the filter's test (filter.rs).
 #![tactic(auto)]
 
-ghost use Rattle.std.specs.Prelude.{◌≡◌};
+ghost use Rattle.std.specs.Prelude.{◌≡◌, true, ◌≤◌};
 ghost use Rattle.model.specs.Value.{same_value};
 ghost use Rattle.model.specs.Node.{connected_incoming};
 ghost use Rattle.model.specs.Call.{is_one};
@@ -106,6 +106,40 @@ pub struct Node {
     pub status: NodeStatus,
 }
 
+// A value that passed question 4.
+#[derive(Clone, Copy)]
+pub struct ValueInRange {
+    pub value: Value,
+    pub ghost codes: { value_codes value ≡ true },
+}
+
+// A node that passed question 4. It and the value are two structs: a generic one could not derive Copy, and would need a trait for the
+// question.
+#[derive(Clone, Copy)]
+pub struct NodeInRange {
+    pub node: Node,
+    pub ghost codes: { node_codes node ≡ true },
+}
+
+// A status to be set that passed question 4.
+#[derive(Clone, Copy)]
+pub struct StatusUpdate {
+    pub state: Code,
+    // 2 is none given: the old one stays.
+    pub direction: Code,
+    pub ghost state_bound: { state ≤ 1 },
+    pub ghost direction_bound: { direction ≤ 2 },
+}
+
+// What update_node sets, where it passed question 4.
+#[derive(Clone, Copy)]
+pub struct NodeUpdate {
+    pub value: ValueInRange,
+    // 2 is none given: the old one stays.
+    pub state: Code,
+    pub ghost state_bound: { state ≤ 2 },
+}
+
 impl ConnectionState {
     // The state of a code; a code over 1 is refused.
     pub fn from_code(code: Code) -> Result<ConnectionState, Refusal>
@@ -146,6 +180,45 @@ impl ConnectionDirection {
         match self {
             ConnectionDirection::Incoming => 1,
             ConnectionDirection::Outgoing => 0,
+        }
+    }
+}
+
+impl NodeInRange {
+    // Internal: its value, which passed question 4 too.
+    pub fn value(self) -> ValueInRange
+        ensures { result.value ≡ self.node.value }
+    {
+        ValueInRange {
+            value: self.node.value,
+        }
+    }
+
+    // Internal: its status, to be set.
+    pub fn status(self) -> StatusUpdate
+        ensures { (result.state ≡ self.node.status.state) × (result.direction ≡ self.node.status.direction) }
+    {
+        StatusUpdate {
+            state: self.node.status.state,
+            direction: self.node.status.direction,
+        }
+    }
+
+    // Internal: the node with another status.
+    pub fn with_status(self, status: StatusUpdate) -> NodeInRange
+        ensures { result.node ≡ restated status.state status.direction self.node }
+    {
+        NodeInRange {
+            node: self.node.with_status(status.state, status.direction),
+        }
+    }
+
+    // Internal: the node with another value.
+    pub fn with_value(self, value: ValueInRange) -> NodeInRange
+        ensures { result.node ≡ revalued value.value self.node }
+    {
+        NodeInRange {
+            node: self.node.with_value(value.value),
         }
     }
 }

@@ -7,7 +7,7 @@ use mathlib.Core.Path.{◌≡◌, refl, sym, ap, ◌∙◌}
 use mathlib.Core.Bool.{Bool, true, ◌&&◌}
 use mathlib.Core.List.{List, [], ◌++◌, append-nil}
 use mathlib.Core.Option.{Option, none, some}
-use lib.ListN.{length, get_or, take, drop}
+use lib.ListN.{length, get_or, take, drop, length-take, length-drop}
 use Rattle.model.specs.Key.{bucket_index}
 use Rattle.model.specs.Bytes.{Bytes, number, splice}
 use Rattle.model.specs.Value.{Value, same_value}
@@ -19,7 +19,7 @@ use Rattle.model.specs.Sizes.{bucket_size, max_incoming_at, bucket_at}
 use Rattle.model.specs.Call.{Call, KeyCall, is_one, optional, value_of}
 use Rattle.model.specs.Question.{key_arguments}
 use Rattle.model.specs.Step.{node_of, effect}
-use Rattle.model.specs.Layout.{header_bytes, bucket_bytes, bucket_in, table_of}
+use Rattle.model.specs.Layout.{header_bytes, bucket_bytes, bucket_in, bucket_part, table_of}
 use Rattle.model.specs.Formed.{bucket_formed, key_in, is_at}
 use Rattle.model.specs.StepBytes.{step_bytes}
 use Rattle.laws.proofs.Tests.{cases}
@@ -98,14 +98,21 @@ none_recorded (KeyCall.absent_insert v st dr now hs) key t i b e = insert_ends_n
 abbrev pub ranged : List ℕ → ℕ → List ℕ
 ranged s i = take (bucket_at i + bucket_size - bucket_at i) (drop (bucket_at i) s)
 
--- these bytes pass question 2, and say whether the bucket has a pending
-module _ {s : List ℕ} {i : ℕ} (y : Ready s i) where
-  pub formed_in : bucket_formed (λ k. is_at (bucket_index (key_in s) k) i) (get_or s max_incoming_at 0) (ranged s i) ≡ true
-  formed_in = rw (sliced s (bucket_at i) bucket_size) y.bucket
+-- the bytes of bucket i as they are lent
+module _ (s : List ℕ) (i : ℕ) {bs : List ℕ} (e : bs ≡ bucket_part s i) where
+  pub ranged_is : bs ≡ ranged s i
+  ranged_is = e ∙ sym (sliced s (bucket_at i) bucket_size)
 
-  pub none_here : (bucket_in (ranged s i)).pending ≡ none → ((table_of s).buckets i).pending ≡ none
+  -- they pass question 2, and say whether the bucket has a pending
+  pub formed_in : Ready s i → bucket_formed (λ k. is_at (bucket_index (key_in s) k) i) (get_or s max_incoming_at 0) bs ≡ true
+  formed_in y = rw e y.bucket
+
+  pub none_here : (bucket_in bs).pending ≡ none → ((table_of s).buckets i).pending ≡ none
   unfolding table_of
-  none_here e = rw (sliced s (bucket_at i) bucket_size) at e
+  none_here p = rw e at p
+
+length_ranged : {s : List ℕ} {i : ℕ} → Ready s i → length (ranged s i) ≡ bucket_size
+length_ranged y = simp (length-take, length-drop) (omega (arith, y.size, y.below))
 
 -- the storage with another bucket i and no further record
 pub rewritten_in_place : (s : List ℕ) → Bytes s → (i : ℕ) → Ready s i → (b : Bucket) → splice s (bucket_at i) (bucket_bytes b) ≡ rewritten s i b []
@@ -122,7 +129,7 @@ pub record Did {A : Type 0} (x : A × Bucket) (i : ℕ) (s : List ℕ) (answer :
 -- what the step F answered and left of bucket i's bytes, with the settings read from the storage and the key as the bytes that were given
 pub did : {A : Type 0} {s key : List ℕ} {codes : Bool} {now : Option ℕ} {k : Key} {i : ℕ} → AtBucket s key codes now k i → (F : BucketSettings → ℕ → Bucket → A × Bucket)
     → {v : BucketSettings} → v ≡ (table_of s).settings.bucket → {a : A} → a ≡ (F v (num k) (bucket_in (ranged s i))).0
-    → {left : List ℕ} → left ≡ bucket_bytes (F v (num k) (bucket_in (ranged s i))).1 → length left ≡ bucket_size
+    → {left : List ℕ} → left ≡ bucket_bytes (F v (num k) (bucket_in (ranged s i))).1 → length left ≡ length (ranged s i)
     → Did (F (table_of s).settings.bucket (number key) ((table_of s).buckets i)) i s a (put_mid (bucket_at i) (bucket_at i + bucket_size - bucket_at i) s left)
 unfolding table_of
 did {A} {s} {key} {k = k} {i = i} y F {v} x {a} p {left} q l =
@@ -130,7 +137,7 @@ did {A} {s} {key} {k = k} {i = i} y F {v} x {a} p {left} q l =
     let w : left ≡ bucket_bytes (F (table_of s).settings.bucket (number key) ((table_of s).buckets i)).1 = q ∙ ap (λ (r : A × Bucket). bucket_bytes r.1) e in
     record {
       answers = p ∙ ap (λ (r : A × Bucket). r.0) e;
-      leaves = put_mid_splice s (bucket_at i) (bucket_at i + bucket_size - bucket_at i) w (ap length (sym w) ∙ l ∙ omega arith);
+      leaves = put_mid_splice s (bucket_at i) (bucket_at i + bucket_size - bucket_at i) w (ap length (sym w) ∙ l ∙ length_ranged y.ready ∙ omega arith);
     }
 
 -- what a call did in place is what it does: F is its own step, f its answer

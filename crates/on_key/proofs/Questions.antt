@@ -1,13 +1,12 @@
 -- The questions, one behind the other.
-use Prim.Native.Nat.{ℕ, ◌+◌}
-use native.Mathlib.Omega.{arith}
+use Prim.Native.Nat.{ℕ}
 use mathlib.Core.Path.{◌≡◌, refl, sym, ap, ◌∙◌}
 use mathlib.Core.Bool.{Bool, true, false, cond}
 use mathlib.Core.List.{List, [], ◌∷◌, ◌++◌}
 use mathlib.Core.Option.{Option, none, some}
 use lib.ListN.{length}
 use lib.Dec.{eqb}
-use borrow.Author.Tests.{eqb-true, leb-true}
+use borrow.Author.Tests.{eqb-true}
 use Rattle.model.specs.Base.{is_some}
 use Rattle.model.specs.Sizes.{key_size, storage_size}
 use Rattle.model.specs.Layout.{table_of}
@@ -15,7 +14,7 @@ use Rattle.model.specs.Formed.{header_formed, formed}
 use Rattle.model.specs.Question.{first_failed, deadline_fits}
 use Rattle.laws.proofs.Tests.{clash, split}
 use Rattle.laws.proofs.Questions.{passed}
-use Rattle.on_key.specs.Answers.{failed_of_two, failed_of_table, failed_of_three, failed_of_five, Timely}
+use Rattle.on_key.specs.Answers.{failed_of_two, failed_of_table, failed_of_three, failed_of_five}
 
 -- what the questions that passed say
 
@@ -48,15 +47,12 @@ module _ (s : List ℕ) where
     pub record PassedThree : Type 0 where
       pub size : length s ≡ storage_size
       pub header : header_formed s ≡ true
-      pub timely : Timely s now
 
     pub passed_three : failed_of_three now s ≡ none → PassedThree
     unfolding failed_of_three
     passed_three e =
         let p = passed 1 (eqb (length s) storage_size) ((2, header_formed s) ∷ (5, in_time) ∷ []) e in
-        let q = passed 2 (header_formed s) ((5, in_time) ∷ []) p.1 in
-        let c = leb-true (now + (table_of s).settings.bucket.pending_timeout) 18446744073709551615 (passed 5 in_time [] q.1).0 in
-        record { size = eqb-true _ _ p.0; header = q.0; timely = omega (arith, c) }
+        record { size = eqb-true _ _ p.0; header = (passed 2 (header_formed s) ((5, in_time) ∷ []) p.1).0 }
 
   module _ (key : List ℕ) (codes : Bool) (now : Option ℕ) where
     abbrev clock : Bool

@@ -24,7 +24,7 @@ use Rattle.node.specs.Refusal.{number_of}
 use Rattle.bucket.specs.declared.KBucket.{KBucket}
 use Rattle.bucket.specs.Bucket.{bucket_of, settings_of, Becomes, Sound}
 use Rattle.bucket.proofs.Steps.{told, then_becomes}
-use Rattle.on_key.specs.Answers.{first_five, failed_of_five, Ready, Timely}
+use Rattle.on_key.specs.Answers.{first_five, failed_of_five, Ready}
 use Rattle.on_key.specs.Start.{key_formed, failed_at_start, Located, Begun}
 use Rattle.on_key.proofs.Questions.{passed_five}
 
@@ -54,12 +54,14 @@ begun_refused s key codes now n e = front_fails (first_five key codes now s) ((2
 pub status_in_range : (st dr : ℕ) → (leb st 1 && leb dr 2) ≡ true → (st ≤ 1) × (dr ≤ 2)
 status_in_range st dr p = (leb-true st 1 (and_left (leb st 1) (leb dr 2) p), leb-true dr 2 (and_right (leb st 1) (leb dr 2) p))
 
-pub timely : (s key : List ℕ) (codes : Bool) (time : ℕ) → failed_of_five key codes (some time) s ≡ none → Timely s time
+pub timely : (s key : List ℕ) (codes : Bool) (time : ℕ) → failed_of_five key codes (some time) s ≡ none
+    → time + (table_of s).settings.bucket.pending_timeout < 2 ^ 64
 timely s key codes time e =
     let p = leb-true (time + (table_of s).settings.bucket.pending_timeout) 18446744073709551615 (passed_five s key codes (some time) e).in_time_lem in omega (arith, p)
 
 -- a new pending's deadline fits in a bucket of the storage's settings
-pub timely_there : (s : List ℕ) (time : ℕ) {m : Bucket} {b : KBucket} → Becomes (table_of s).settings.bucket m b → Timely s time → time + b.pending_timeout < 2 ^ 64
+pub timely_there : (s : List ℕ) (time : ℕ) {m : Bucket} {b : KBucket} → Becomes (table_of s).settings.bucket m b → time + (table_of s).settings.bucket.pending_timeout < 2 ^ 64
+    → time + b.pending_timeout < 2 ^ 64
 timely_there s time x t = omega (arith, ap (λ (c : BucketSettings). c.pending_timeout) x.settings)
 
 -- a step on a bucket by value, as a step on the model's bucket, with the key as the bytes that were given

@@ -1,6 +1,6 @@
 -- What an entry point of the table owes, and the parts in which a call on one key is carried out.
 use Rattle.std.specs.Prelude as prelude
-use Rattle.std.specs.Prelude.{Result, ℕ, ◌+◌, ◌^◌, ◌<◌, ◌≡◌, Bool, true, false, cond, List, [], ◌∷◌, length, eqb, leb}
+use Rattle.std.specs.Prelude.{Result, ℕ, ◌+◌, ◌<◌, ◌≡◌, Bool, true, false, cond, List, [], ◌∷◌, length, eqb, leb}
 use Rattle.std.proofs.Math.Option.{Option, none, some}
 use Rattle.model.specs.Base.{same}
 use Rattle.model.specs.Node.{PendingNode, Ending, EndedPending, ended}
@@ -17,9 +17,9 @@ use Rattle.node.specs.Refusal.{failed_of, answer_of}
 use Rattle.bucket.specs.declared.KBucket.{KBucket}
 use Rattle.bucket.specs.declared.EndedPending as code
 use Rattle.bucket.specs.declared.UpdateResult.{UpdateResult}
-use Rattle.bucket.specs.declared.Step.{Step}
+use Rattle.bucket.specs.declared.PendingNode as pending
 use Rattle.bucket.specs.Bucket.{pending_of, Becomes}
-use Rattle.bucket.specs.Calls.{records_of, applied_codes, update_result_of}
+use Rattle.bucket.specs.Calls.{records_of, update_result_of}
 
 -- the answer and the storage are those of the outcome
 pub record Answers (a : Answer) (s : List ℕ) (o : BytesOutcome) : Type 0 where
@@ -77,10 +77,6 @@ pub record Ready (s : List ℕ) (i : ℕ) : Type 0 where
   pub below : i < num_buckets
   pub bucket : bucket_formed_at s i ≡ true
 
--- a time at which a new pending's deadline fits
-abbrev pub Timely : List ℕ → ℕ → Type 0
-Timely s now = now + (table_of s).settings.bucket.pending_timeout < 2 ^ 64
-
 -- 01, Apply pending: when deadline ≤ now
 abbrev pub is_due : ℕ → Option PendingNode → Bool
 is_due now none = false
@@ -90,7 +86,6 @@ is_due now (some p) = leb p.deadline now
 pub record AppliedAt (s : List ℕ) (i now : ℕ) (b : KBucket) (a : prelude.Option code.EndedPending) : Type 0 where
   pub bucket : Becomes (table_of s).settings.bucket (apply_pending (table_of s).settings.bucket now ((table_of s).buckets i)).0 b
   pub records : records_of a ≡ (apply_pending (table_of s).settings.bucket now ((table_of s).buckets i)).1
-  pub codes : applied_codes a ≡ true
 
 -- what there is of the first, or else of the second
 abbrev pub either_of : {A : Type 0} → List A → List A → List A
@@ -107,9 +102,9 @@ gone k none q = []
 gone k (some p) none = ended p.node (cleared_as k p)
 gone k (some p) (some q) = []
 
--- the record of a call on key k that leaves b: of the pending that was applied, or else of the one that the call's own step ended
-abbrev pub recorded : Step (prelude.Option code.EndedPending) → KBucket → ℕ → List EndedPending
-recorded a b k = either_of (records_of a.result) (gone k (pending_of a.bucket.pending) (pending_of b.pending))
+-- the record of a call on key k: of the pending that was applied, or else of the one that the call's own step found and did not leave
+abbrev pub recorded : prelude.Option code.EndedPending → (before after : prelude.Option pending.PendingNode) → ℕ → List EndedPending
+recorded a p q k = either_of (records_of a) (gone k (pending_of p) (pending_of q))
 
 -- 01, question 8: the queue has room for the records
 unfoldable pub room_for : List ℕ → List EndedPending → Bool

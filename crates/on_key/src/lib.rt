@@ -1,4 +1,6 @@
 // Internal: what the table's calls on one key share. The questions, the key's bucket, and the bucket and its record written back.
+// That bucket i of the storage is ready is a clause and no type: nearly half of the functions that ask it write the storage, and a struct
+// that lends it to the others would be made anew for one call each.
 #![tactic(auto)]
 
 ghost use Rattle.std.specs.Prelude.{◌≡◌, true, cond, ◌+◌, leb, length};
@@ -11,12 +13,12 @@ ghost use Rattle.model.specs.Formed.{header_formed};
 ghost use Rattle.key.specs.Key.{num};
 ghost use Rattle.key.specs.Answers.{option_of};
 ghost use Rattle.node.specs.Refusal.{failed_of};
-ghost use Rattle.bucket.specs.Bucket.{pending_of, bucket_of, Sound};
-ghost use Rattle.bucket.specs.Calls.{records_of, applied_codes};
-ghost use Rattle.on_key.specs.Answers.{failed_of_two, failed_of_table, failed_of_three, failed_of_five, Ready, Timely, is_due, AppliedAt, either_of, gone, recorded, room_for, rewritten, Finished};
+ghost use Rattle.bucket.specs.Bucket.{bucket_of};
+ghost use Rattle.bucket.specs.Calls.{records_of};
+ghost use Rattle.on_key.specs.Answers.{failed_of_two, failed_of_table, failed_of_three, failed_of_five, Ready, is_due, AppliedAt, recorded, room_for, rewritten, Finished};
 ghost use Rattle.on_key.specs.Start.{Located, Begun};
 
-use bucket::{EndedPending, Ending, KBucket, PendingNode, Step};
+use bucket::{EndedPending, Ending, PendingNode, SoundBucket, Step};
 use key::Key;
 use node::Refusal;
 use storage::Layout;
@@ -52,7 +54,7 @@ pub fn asked_time(s: &[u8; Layout::STORAGE], time: u64) -> Result<(), Refusal>
     bucket::asked_time(header::pending_timeout(s), Some(time))
 }
 
-// Internal: questions 2 to 4 and, where a time is given, 5.
+// Internal: questions 2 to 4 and, where a time is given, 5. `codes` is the call's own answer to 4: each call has other arguments.
 #[tactic(auto, unfolding(crate::specs::Answers::failed_of_two, crate::specs::Answers::failed_of_five))]
 pub fn asked(
     s: &[u8; Layout::STORAGE],
@@ -85,18 +87,21 @@ pub fn is_due(bucket: &[u8; Layout::BUCKET], time: u64) -> bool
     ensures { result ≡ is_due time (bucket_in bucket.now).pending }
 {
     bucket[Layout::PENDING_AT] == 1
-        && words::get_u64(&bucket[Layout::BUCKET - Layout::TIME..Layout::BUCKET]) <= time
+        && words::get_u64(&bucket[Layout::DEADLINE_AT..Layout::BUCKET]) <= time
 }
 
 // Internal: bucket i, after its pending was applied if it is due.
-pub fn apply_at(s: &[u8; Layout::STORAGE], i: usize, time: u64) -> Step<Option<EndedPending>>
-    requires ready { Ready s.now i }
-    requires timely { Timely s.now time }
-    ensures { AppliedAt s.now i time result.bucket result.result }
+pub fn apply_at(
+    s: &[u8; Layout::STORAGE],
+    i: usize,
+    time: u64,
+) -> Step<SoundBucket, Option<EndedPending>>
+    requires { Ready s.now i }
+    ensures { AppliedAt s.now i time result.bucket.bucket result.result }
 {
     let bucket = buckets::load_bucket(s, i);
     if is_due(storage::bucket(s, i), time) {
-        return bucket.apply_pending_sound(time);
+        return bucket.apply_pending(time);
     }
     Step {
         bucket,
@@ -112,9 +117,7 @@ pub fn record_of(
     after: Option<PendingNode>,
     key: Key,
 ) -> Option<EndedPending>
-    requires { applied_codes applied ≡ true }
-    ensures result_value { records_of result ≡ either_of (records_of applied) (gone (num key) (pending_of before) (pending_of after)) }
-    ensures result_value_2 { applied_codes result ≡ true }
+    ensures { records_of result ≡ recorded applied before after (num key) }
 {
     match (applied, before, after) {
         (Some(_), ..) => applied,
@@ -142,18 +145,16 @@ pub fn asked_queue(s: &[u8; Layout::STORAGE], records: usize) -> Result<(), Refu
     Ok(())
 }
 
-// Internal: adds the record to the queue and stores bucket i.
+// Internal: adds the record to the queue and stores bucket i. The two are handed on one by one: mostly they come from different steps.
 pub fn write_back(
     s: &mut [u8; Layout::STORAGE],
     i: usize,
     applied: Option<EndedPending>,
-    b: KBucket,
+    b: &SoundBucket,
 )
     requires ready { Ready s.old i }
-    requires applied_value { room_for s.old (records_of applied) ≡ true }
-    requires applied_value_2 { applied_codes applied ≡ true }
-    requires sound { Sound b }
-    ensures { s.new ≡ rewritten s.old i (bucket_of b) (records_of applied) }
+    requires room { room_for s.old (records_of applied) ≡ true }
+    ensures { s.new ≡ rewritten s.old i (bucket_of b.now.bucket) (records_of applied) }
 {
     header::push_record(s, applied);
     buckets::store_bucket(s, i, b);
@@ -194,32 +195,33 @@ pub fn finish(
     s: &mut [u8; Layout::STORAGE],
     i: usize,
     applied: Option<EndedPending>,
-    b: KBucket,
+    b: &SoundBucket,
 ) -> Result<(), Refusal>
-    requires ready { Ready s.old i }
-    requires applied_value { applied_codes applied ≡ true }
-    requires sound { Sound b }
-    ensures { Finished result s.new s.old i (bucket_of b) (records_of applied) }
+    requires { Ready s.old i }
+    ensures { Finished result s.new s.old i (bucket_of b.now.bucket) (records_of applied) }
 {
     asked_queue(s, usize::from(applied.is_some()))?;
     write_back(s, i, applied, b);
     Ok(())
 }
 
-// Internal: how a call ends whose own step may end a pending, after one that was due was applied: `finish` with the call's record. `left` is
-// the bucket as that step left it.
+// Internal: how a call ends whose own step may end a pending, after one that was due was applied: `finish` with the call's record. `before`
+// is the bucket's pending as that step found it, `left` is the bucket as it left it.
 pub fn end(
     s: &mut [u8; Layout::STORAGE],
     i: usize,
-    applied: &Step<Option<EndedPending>>,
-    left: KBucket,
+    applied: Option<EndedPending>,
+    before: Option<PendingNode>,
+    left: &SoundBucket,
     key: Key,
 ) -> Result<(), Refusal>
-    requires ready { Ready s.old i }
-    requires applied_value { applied_codes applied.now.result ≡ true }
-    requires sound { Sound left }
-    ensures { Finished result s.new s.old i (bucket_of left) (recorded applied.now left (num key)) }
+    requires { Ready s.old i }
+    ensures { Finished result s.new s.old i (bucket_of left.now.bucket) (recorded applied before left.now.bucket.pending (num key)) }
 {
-    let record = record_of(applied.result, applied.bucket.pending, left.pending, key);
-    finish(s, i, record, left)
+    finish(
+        s,
+        i,
+        record_of(applied, before, left.bucket.pending, key),
+        left,
+    )
 }

@@ -64,7 +64,12 @@ impl fmt::Display for Shown<Option<EndedPending>> {
         match ending {
             Ending::Placed(None) => write!(f, "{} inserted", Shown(key)),
             Ending::Placed(Some(evicted)) => {
-                write!(f, "{} inserted, {} evicted", Shown(key), Shown(evicted.key))
+                write!(
+                    f,
+                    "{} inserted, {} evicted",
+                    Shown(key),
+                    Shown(evicted.node.key)
+                )
             }
             _ => write!(f, "{} dropped", Shown(key)),
         }

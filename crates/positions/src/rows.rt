@@ -140,7 +140,7 @@ pub(crate) fn row9() -> Inserts
 }
 
 // 10: connected A, B; A set connected.
-pub(crate) fn row10() -> Step<Result<UpdateResult, Refusal>>
+pub(crate) fn row10() -> Step<KBucket, Result<UpdateResult, Refusal>>
     ensures bucket_value { key_at result.bucket 0 ≡ 33 }
     ensures bucket_value_2 { key_at result.bucket 1 ≡ 32 }
     ensures answer_value { reply_of update_result_of result.result ≡ Reply.Answered results.UpdateResult.NotModified }

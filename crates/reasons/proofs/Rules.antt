@@ -21,40 +21,23 @@ use Rattle.bucket.specs.declared.PendingNode.{PendingNode}
 use Rattle.bucket.specs.Bucket.{pending_of}
 use Rattle.explanation.specs.declared.Reason as declared
 use Rattle.explanation.specs.declared.Reason.TheVariants as reason
-use Rattle.explanation.specs.Explanation.{reason_of, Reads}
-use Rattle.reasons.specs.Reasons.{Tells}
-
--- the same reason under another name
-pub tells_as : {r : code.Option declared.Reason} {x : Reason} (y : Reason) → x ≡ y → Tells x r → Tells y r
-tells_as y e t = record { reason = λ bs. t.reason bs ∙ e; reads = t.reads }
+use Rattle.explanation.specs.Explanation.{reason_of}
 
 -- a reason or none, by a test
-pub tells_if : (t : Bool) (r : declared.Reason) (x : Reason) → ((bs : ℕ → Bucket) → reason_of bs (Some r) ≡ x) → Reads ⊥ (Some r) → Tells (cond t x Reason.None) (then_some t r)
-tells_if true r x e h = record { reason = e; reads = h }
-tells_if false r x e h = record { reason = λ bs. refl; reads = tt }
-
--- what a step found in the key's bucket is read where the table is, too
-pub reads_more : (F : Type 0) (r : code.Option declared.Reason) → Reads ⊥ r → Reads F r
-reads_more F None h = tt
-reads_more F (Some (reason.TableFilter k v)) h = absurd h
-reads_more F (Some (reason.BucketFilter b v)) h = h
-reads_more F (Some (reason.IncomingLimit b)) h = h
-reads_more F (Some reason.NewcomerDisconnected) h = tt
-reads_more F (Some reason.AllConnected) h = tt
-reads_more F (Some (reason.Pending k)) h = tt
-reads_more F (Some reason.NoSuchKey) h = tt
-reads_more F (Some reason.LocalKey) h = tt
+pub reason_if : (t : Bool) (r : declared.Reason) {x : Reason} → reason_of (Some r) ≡ x → reason_of (then_some t r) ≡ cond t x Reason.None
+reason_if true r e = e
+reason_if false r e = refl
 
 -- a reason is not none
-pub some_reason : (bs : ℕ → Bucket) (r : declared.Reason) → reason_of bs (Some r) ≡ Reason.None → ⊥
-some_reason bs (reason.TableFilter k v) e = cc e
-some_reason bs (reason.BucketFilter b v) e = cc e
-some_reason bs (reason.IncomingLimit b) e = cc e
-some_reason bs reason.NewcomerDisconnected e = cc e
-some_reason bs reason.AllConnected e = cc e
-some_reason bs (reason.Pending k) e = cc e
-some_reason bs reason.NoSuchKey e = cc e
-some_reason bs reason.LocalKey e = cc e
+pub some_reason : (r : declared.Reason) → reason_of (Some r) ≡ Reason.None → ⊥
+some_reason (reason.TableFilter t k v) e = cc e
+some_reason (reason.BucketFilter b v) e = cc e
+some_reason (reason.IncomingLimit b) e = cc e
+some_reason reason.NewcomerDisconnected e = cc e
+some_reason reason.AllConnected e = cc e
+some_reason (reason.Pending k) e = cc e
+some_reason reason.NoSuchKey e = cc e
+some_reason reason.LocalKey e = cc e
 
 -- the tests of a node that is put into the bucket
 

@@ -5,10 +5,10 @@ pub const BASIS: u64 = 0xcbf2_9ce4_8422_2325;
 // 2^40 + 435.
 const PRIME: u64 = 0x100_0000_01b3;
 
-// Goes on from `sum` with the first n bytes, or all where there are fewer.
-pub(crate) fn checksum(sum: u64, s: &[u8], n: usize) -> u64 {
+// Goes on from `sum` with the bytes.
+pub(crate) fn checksum(sum: u64, s: &[u8]) -> u64 {
     let mut out = sum;
-    for x in s.iter().take(n) {
+    for x in s {
         out = (out ^ u64::from(*x)).wrapping_mul(PRIME);
     }
     out

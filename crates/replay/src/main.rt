@@ -11,6 +11,7 @@ mod names;
 mod record;
 
 use crate::names::{CALLS, NAMES, ON_BUCKET};
+use crate::record::Record;
 use bucket::KBucket;
 use std::io::Read;
 use std::{fmt, io};
@@ -19,6 +20,9 @@ use storage::Layout;
 const MOST: u64 = 100_000;
 
 const OUTPUT: usize = (4096 + 5) * Layout::NODE;
+
+// What the output or the answer holds before a call.
+const FILL: u8 = 165;
 
 // Storage for a table.
 fn storage() -> [u8; Layout::STORAGE] {
@@ -40,7 +44,8 @@ fn no_counts() -> [u64; CALLS] {
     [0; CALLS]
 }
 
-// The code that a call returns, a number as C sees it, or none where the record cannot be read; and the checksum of what the call may write.
+// The code that a call returns, a number as C sees it, or none where the record cannot be read; and the checksum of what the call may
+// write.
 #[derive(Clone, Copy, PartialEq, Eq)]
 struct Answer {
     code: Option<u32>,
@@ -56,27 +61,27 @@ impl fmt::Display for Answer {
     }
 }
 
-fn expected(r: &[u8]) -> Answer {
+fn expected(r: &Record) -> Answer {
     Answer {
-        code: Some(record::number_of_four(r, record::CODE_AT)),
-        sum: record::number_of_eight(r, record::SUM_AT),
+        code: Some(r.code()),
+        sum: r.sum(),
     }
 }
 
 // Makes the call on a table or a bucket.
-fn found(r: &[u8], s: &mut [u8], out: &mut [u8]) -> Answer {
-    let room = record::number_of_four(r, record::ROOM_AT) as usize;
-    calls::fill(out, room);
-    let code = calls::made(r, s, out);
-    let written = checksum::checksum(checksum::BASIS, s, s.len());
-    let sum = checksum::checksum(written, out, room);
+fn found(r: &Record, s: &mut [u8], out: &mut [u8]) -> Answer {
+    let room = r.room().min(out.len());
+    out[..room].fill(FILL);
+    let code = r.made(s, out);
+    let written = checksum::checksum(checksum::BASIS, s);
+    let sum = checksum::checksum(written, &out[..room]);
     Answer { code, sum }
 }
 
 fn agrees_on(
     rt: &impl Print,
     number: u64,
-    r: &[u8],
+    r: &Record,
     s: &mut [u8],
     out: &mut [u8],
 ) -> io::Result<bool> {
@@ -85,10 +90,7 @@ fn agrees_on(
     if wanted == got {
         return Ok(true);
     }
-    let name = NAMES
-        .get(usize::from(record::byte(r, 0)))
-        .copied()
-        .unwrap_or("");
+    let name = NAMES.get(usize::from(r.call())).copied().unwrap_or("");
     println!(rt; "record {number}: {name:24} expected {wanted}, found {got}")?;
     Ok(false)
 }
@@ -97,12 +99,12 @@ fn agrees_on(
 fn agrees(
     rt: &impl Print,
     number: u64,
-    r: &[u8],
+    r: &Record,
     table: &mut [u8],
     bucket: &mut [u8],
     out: &mut [u8],
 ) -> io::Result<bool> {
-    if record::byte(r, 0) < ON_BUCKET {
+    if r.call() < ON_BUCKET {
         return agrees_on(rt, number, r, table, out);
     }
     agrees_on(rt, number, r, bucket, out)
@@ -147,17 +149,16 @@ fn replay(
     let mut input = rt.reader();
     let mut list = checksum::BASIS;
     for number in 0..MOST {
-        let mut space = record::empty();
-        let r: &mut [u8] = &mut space;
-        let got = read_full(&mut input, r)?;
+        let mut r = Record::empty();
+        let got = read_full(&mut input, &mut r.bytes)?;
         if got == 0 {
             return say_counts(rt, counts, number, list);
         }
-        list = checksum::checksum(list, r, got);
-        if !agrees(rt, number + 1, r, table, bucket, out)? {
+        list = checksum::checksum(list, &r.bytes[..got]);
+        if !agrees(rt, number + 1, &r, table, bucket, out)? {
             return Ok(());
         }
-        count(counts, usize::from(record::byte(r, 0)));
+        count(counts, usize::from(r.call()));
     }
     println!(rt; "the list is too long")
 }

@@ -16,37 +16,49 @@
 //   78   the checksum of what the call may write, after the call, 8 bytes
 //   86   five distances of 8 bytes each; the bytes of a write. Of an insert: how many numbers of windows, how many of closed dates,
 //        1 byte each; then 13 numbers of windows and 7 of closed dates, 2 bytes each
-ghost use Rattle.std.specs.Prelude.{◌+◌, ◌*◌, ◌≤◌};
+ghost use Rattle.std.specs.Prelude.{◌≡◌, ◌*◌, length};
 
 use node::{Code, Slot, Value};
 
 // Where the fields stand behind the four octets.
-pub(crate) const SLOT_AT: usize = 42;
+const SLOT_AT: usize = 42;
 
-pub(crate) const TIME_AT: usize = SLOT_AT + Value::SLOT;
+const TIME_AT: usize = SLOT_AT + Value::SLOT;
 
-pub(crate) const SIZE_AT: usize = TIME_AT + 8;
+const SIZE_AT: usize = TIME_AT + 8;
 
-pub(crate) const COUNT_AT: usize = SIZE_AT + 4;
+const COUNT_AT: usize = SIZE_AT + 4;
 
-pub(crate) const ROOM_AT: usize = COUNT_AT + 8;
+const ROOM_AT: usize = COUNT_AT + 8;
 
-pub(crate) const CODE_AT: usize = ROOM_AT + 4;
+const CODE_AT: usize = ROOM_AT + 4;
 
-pub(crate) const SUM_AT: usize = CODE_AT + 4;
+const SUM_AT: usize = CODE_AT + 4;
 
-pub(crate) const REST_AT: usize = SUM_AT + 8;
+const REST_AT: usize = SUM_AT + 8;
 
 // The numbers of windows begin here, then those of closed dates.
-pub(crate) const WINDOWS_AT: usize = REST_AT + 2;
+const WINDOWS_AT: usize = REST_AT + 2;
 
-pub(crate) const CLOSED_AT: usize = WINDOWS_AT + 26;
+const CLOSED_AT: usize = WINDOWS_AT + 2 * WINDOWS;
 
-pub(crate) const BYTES: usize = 128;
+const REST_END: usize = CLOSED_AT + 2 * CLOSED;
 
-// The bytes that a write has room for.
-pub(crate) const WRITTEN: usize = BYTES - REST_AT;
+// Four windows and one number more, two closed dates and one number more.
+const WINDOWS: usize = 13;
 
+const CLOSED: usize = 7;
+
+const DISTANCES: usize = 5;
+
+const BYTES: usize = 128;
+
+#[derive(Clone, Copy)]
+pub struct Record {
+    pub(crate) bytes: [u8; BYTES],
+}
+
+// The arguments of a call, each where the calls have it that take it.
 #[derive(Clone, Copy)]
 pub struct Arguments {
     pub state: Code,
@@ -65,87 +77,110 @@ pub struct Arguments {
     pub minute: u16,
 }
 
-// Those of a record.
-impl From<&[u8]> for Arguments {
-    fn from(r: &[u8]) -> Arguments {
-        Arguments {
-            state: byte(r, 35),
-            direction: byte(r, 36),
-            flag: byte(r, 37),
-            a: byte(r, 38),
-            b: byte(r, 39),
-            c: byte(r, 40),
-            d: byte(r, 41),
-            slot: number_of_eight(r, SLOT_AT),
-            time: number_of_eight(r, TIME_AT),
-            n: number_of_eight(r, COUNT_AT) as usize,
-            year: number_of_two(r, COUNT_AT),
-            month: number_of_two(r, COUNT_AT + 2),
-            day: number_of_two(r, COUNT_AT + 4),
-            minute: number_of_two(r, COUNT_AT + 6),
-        }
-    }
+// The number of four bytes.
+fn number_of_four(s: &[u8]) -> u32
+    requires { length s.now ≡ 4 }
+{
+    u32::from_be_bytes([s[0], s[1], s[2], s[3]])
 }
 
-// A record, empty.
-pub(crate) fn empty() -> [u8; BYTES] {
-    [0; BYTES]
-}
-
-// 0 past the end.
-pub(crate) fn byte(r: &[u8], at: usize) -> u8 {
-    r.get(at).copied().unwrap_or(0)
-}
-
-// The number of the eight bytes at a place.
-pub(crate) fn number_of_eight(r: &[u8], at: usize) -> u64 {
-    if BYTES - 8 < at {
-        return 0;
-    }
-    if r.len() < BYTES {
-        return 0;
-    }
-    words::get_u64(&r[at..at + 8])
-}
-
-// The number of the four bytes at a place that four more follow.
-pub(crate) fn number_of_four(r: &[u8], at: usize) -> u32 {
-    (number_of_eight(r, at) / 0x1_0000_0000) as u32
-}
-
-// The number of the two bytes at a place.
-pub(crate) fn number_of_two(r: &[u8], at: usize) -> u16 {
-    if BYTES - 2 < at {
-        return 0;
-    }
-    u16::from_be_bytes([byte(r, at), byte(r, at + 1)])
-}
-
-// N numbers of two bytes, one behind the other from a place on.
-fn numbers_of_two<const N: usize>(r: &[u8], at: usize) -> [u16; N]
-    requires { at + 2 * N ≤ 128 }
+// The numbers of two bytes each.
+fn numbers_of_two<const N: usize>(s: &[u8]) -> [u16; N]
+    requires { length s.now ≡ 2 * N }
 {
     let mut numbers = [0; N];
     for k in 0..N {
-        numbers[k] = number_of_two(r, at + 2 * k);
+        numbers[k] = u16::from_be_bytes([s[2 * k], s[2 * k + 1]]);
     }
     numbers
 }
 
-pub(crate) fn distances(r: &[u8]) -> [u64; 5] {
-    let mut distances = [0; 5];
-    for (k, x) in distances.iter_mut().enumerate() {
-        *x = number_of_eight(r, REST_AT + 8 * k);
+impl Record {
+    pub(crate) fn empty() -> Record {
+        Record { bytes: [0; BYTES] }
     }
-    distances
-}
 
-// Four windows and one number more.
-pub(crate) fn windows(r: &[u8]) -> [u16; 13] {
-    numbers_of_two(r, WINDOWS_AT)
-}
+    // The call's number.
+    pub(crate) fn call(&self) -> u8 {
+        self.bytes[0]
+    }
 
-// Two closed dates and one number more.
-pub(crate) fn closed(r: &[u8]) -> [u16; 7] {
-    numbers_of_two(r, CLOSED_AT)
+    // The length of the key, how many distances, or how many bytes a write has.
+    pub(crate) fn count(&self) -> usize {
+        usize::from(self.bytes[1])
+    }
+
+    pub(crate) fn key(&self) -> Option<&[u8]> {
+        self.bytes[2..BYTES].get(..self.count())
+    }
+
+    pub(crate) fn arguments(&self) -> Arguments {
+        let r = &self.bytes;
+        let moment: [u16; 4] = numbers_of_two(&r[COUNT_AT..ROOM_AT]);
+        Arguments {
+            state: r[35],
+            direction: r[36],
+            flag: r[37],
+            a: r[38],
+            b: r[39],
+            c: r[40],
+            d: r[41],
+            slot: words::get_u64(&r[SLOT_AT..TIME_AT]),
+            time: words::get_u64(&r[TIME_AT..SIZE_AT]),
+            n: words::get_u64(&r[COUNT_AT..ROOM_AT]) as usize,
+            year: moment[0],
+            month: moment[1],
+            day: moment[2],
+            minute: moment[3],
+        }
+    }
+
+    // How much of the storage or the bucket is handed over, and how much of the output or the answer.
+    pub(crate) fn size(&self) -> usize {
+        number_of_four(&self.bytes[SIZE_AT..COUNT_AT]) as usize
+    }
+
+    pub(crate) fn room(&self) -> usize {
+        number_of_four(&self.bytes[ROOM_AT..CODE_AT]) as usize
+    }
+
+    // What the Rust's answer has.
+    pub(crate) fn code(&self) -> u32 {
+        number_of_four(&self.bytes[CODE_AT..SUM_AT])
+    }
+
+    pub(crate) fn sum(&self) -> u64 {
+        words::get_u64(&self.bytes[SUM_AT..REST_AT])
+    }
+
+    // The bytes of a write.
+    pub(crate) fn written(&self) -> Option<&[u8]> {
+        self.bytes[REST_AT..BYTES].get(..self.count())
+    }
+
+    pub(crate) fn distances(&self) -> [u64; DISTANCES] {
+        let mut distances = [0; DISTANCES];
+        for k in 0..DISTANCES {
+            let at = REST_AT + 8 * k;
+            distances[k] = words::get_u64(&self.bytes[at..at + 8]);
+        }
+        distances
+    }
+
+    pub(crate) fn windows(&self) -> [u16; WINDOWS] {
+        numbers_of_two(&self.bytes[WINDOWS_AT..CLOSED_AT])
+    }
+
+    pub(crate) fn closed(&self) -> [u16; CLOSED] {
+        numbers_of_two(&self.bytes[CLOSED_AT..REST_END])
+    }
+
+    // How many of the numbers of windows, and of those of closed dates, are handed over.
+    pub(crate) fn window_count(&self) -> usize {
+        usize::from(self.bytes[REST_AT])
+    }
+
+    pub(crate) fn closed_count(&self) -> usize {
+        usize::from(self.bytes[REST_AT + 1])
+    }
 }

@@ -5,48 +5,25 @@ use mathlib.Core.List.{List, [], ◌∷◌, ◌++◌, append-nil}
 use Prim.Native.Nat.{ℕ, ◌+◌, ◌*◌, ◌≤◌, ◌<◌}
 use native.Mathlib.Nat.{zero-add}
 use native.Mathlib.Omega.{arith}
-use lib.ListN.{length, get_or}
+use lib.ListN.{length}
 use borrow.Rule.Slice.PartMut.{put_mid}
 use Rattle.model.specs.Base.{joined}
 use Rattle.model.specs.Bytes.{number, bytes, part, splice, Bytes}
 use Rattle.model.specs.Node.{Node}
 use Rattle.model.specs.Sizes.{key_size, node_size}
-use Rattle.model.specs.Layout.{node_bytes, node_in, nodes_in}
+use Rattle.model.specs.Layout.{node_bytes, node_in}
 use Rattle.model.specs.Formed.{node_codes}
 use Rattle.model.specs.Saved.{saved_entry, saved_entry_size}
 use Rattle.laws.proofs.All.{all_any}
 use Rattle.laws.proofs.Lists.{joined_append, length_joined}
-use Rattle.laws.proofs.Parts.{length_part, part_append, part_all, part_end, length_splice, splice_nil, splice_next, splice_over, slot_before}
-use Rattle.laws.proofs.Bytes.{length_bytes, number_back}
+use Rattle.laws.proofs.Parts.{part_end, splice_nil, splice_next, slot_before}
+use Rattle.laws.proofs.Bytes.{length_bytes}
 use Rattle.laws.proofs.NodeBytes.{length_value}
-use Rattle.laws.proofs.BucketBack.{length_nodes_in}
 use Rattle.laws.proofs.NodeFormed.{node_back}
 use Rattle.words.proofs.Words.{put_mid_splice}
 use Rattle.key.proofs.Bytes.{splice_all}
 use Rattle.saved.specs.declared.Field.{Field}
 use Rattle.saved.specs.Fields.{field_bytes, field_size}
-
--- an entry by its first and its last eight bytes
-pub entry_put : {v w : List ℕ} (s o : List ℕ) (front back : ℕ) → Bytes s → length s ≡ saved_entry_size → length o ≡ saved_entry_size
-    → front ≡ number (part s 0 8) → back ≡ number (part s 7 8) → v ≡ bytes 8 front → w ≡ bytes 8 back → put_mid 7 8 (put_mid 0 8 o v) w ≡ s
-entry_put s o front back h l m f b e g =
-    let x : bytes 8 front ≡ part s 0 7 ++ part s 7 1 = ap (bytes 8) f ∙ number_back s 0 8 (omega arith) h ∙ part_append s 0 7 1 in
-    let y : bytes 8 back ≡ part s 7 8 = ap (bytes 8) b ∙ number_back s 7 8 (omega arith) h in
-    let n : length (part s 0 7) ≡ 7 = length_part s 0 7 (omega arith) in
-    let i : length (part s 7 1) ≡ 1 = length_part s 7 1 (omega arith) in
-    let j : length (part s 7 8) ≡ 8 = length_part s 7 8 (omega arith) in
-    let q : length (splice o 0 (part s 0 7)) ≡ length o = length_splice o 0 (part s 0 7) (omega arith) in
-    rw (
-      put_mid_splice _ 7 8 g (length_bytes 8 back),
-      put_mid_splice o 0 8 e (length_bytes 8 front),
-      x,
-      y,
-      ← splice_next o 0 7 (part s 0 7) (part s 7 1) n (omega arith),
-      splice_over (splice o 0 (part s 0 7)) 7 (part s 7 1) (part s 7 8) (omega arith) (omega arith),
-      splice_next o 0 7 (part s 0 7) (part s 7 8) n (omega arith),
-      ← part_append s 0 7 8,
-    )
-    (splice_all o (part s 0 15) (m ∙ sym (length_part s 0 15 (omega arith))) ∙ part_all s 15 (omega arith))
 
 -- by what a field is
 
@@ -89,9 +66,8 @@ module _ (f : Field) where
   written_one n = sym (append-nil (field_bytes f n))
 
   -- node j of n ends within the run of n
-  pub slot_fits : (bs : List ℕ) (j l : ℕ) {size : ℕ} → size ≡ field_size f → j < get_or bs 0 0 → l ≡ length (nodes_in bs) * field_size f → (j + 1) * size ≤ l
-  slot_fits bs j l e h g =
-      rw (e, g, length_nodes_in bs) (omega (arith, slot_before j (get_or bs 0 0) (field_size f) h))
+  pub slot_fits : (count j l : ℕ) {size : ℕ} → size ≡ field_size f → j < count → l ≡ count * field_size f → (j + 1) * size ≤ l
+  slot_fits count j l e h g = rw (e, g) (omega (arith, slot_before j count (field_size f) h))
 
   module _ (o : List ℕ) where
     pub written_none : o ≡ splice o 0 (written [])

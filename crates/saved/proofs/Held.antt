@@ -6,7 +6,7 @@ use Prim.Native.Nat.{ℕ, ◌+◌, ◌*◌, ◌≤◌, ◌<◌}
 use native.Mathlib.Nat.{add-mul, mul-le-mul_right}
 use native.Mathlib.Numerals.{add-one}
 use native.Mathlib.Omega.{arith}
-use lib.ListN.{length, length-append}
+use lib.ListN.{length, get_or, length-append}
 use Rattle.model.specs.Bucket.{Bucket, max_nodes_per_bucket, nodes, num_entries}
 use Rattle.model.specs.Table.{num_buckets, held_nodes}
 use Rattle.model.specs.Layout.{nodes_in, bucket_part, table_of}
@@ -16,18 +16,21 @@ use Rattle.laws.proofs.Lists.{all_gives}
 use Rattle.laws.proofs.BucketBytes.{length_nodes}
 use Rattle.laws.proofs.BucketBack.{count_in, nodes_in_lem}
 use Rattle.laws.proofs.Saved.{held_within}
-use Rattle.items.specs.Run.{HeldIn}
-use Rattle.items.proofs.Shown.{held_in}
+use Rattle.items.proofs.Shown.{few_in}
 
 -- every bucket of formed storage
 module _ (s : List ℕ) (i : ℕ) where
-  pub held_at : formed s ≡ true → i < num_buckets → HeldIn (bucket_part s i)
+  pub formed_at : formed s ≡ true → i < num_buckets → bucket_formed_at s i ≡ true
   unfolding formed
-  held_at f m = held_in _ _ (bucket_part s i) (all_gives num_buckets (bucket_formed_at s) i m (and_right (header_formed s) _ f))
+  formed_at f m = all_gives num_buckets (bucket_formed_at s) i m (and_right (header_formed s) _ f)
 
   pub few_at : formed s ≡ true → i < num_buckets → num_entries ((table_of s).buckets i) ≤ max_nodes_per_bucket
   unfolding table_of
-  few_at f m = rw (count_in (bucket_part s i)) (held_at f m).few
+  few_at f m = rw (count_in (bucket_part s i)) (few_in _ _ (bucket_part s i) (formed_at f m))
+
+  pub count_at : {n : ℕ} {bs : List ℕ} → n ≡ get_or bs 0 0 → bs ≡ bucket_part s i → n ≡ num_entries ((table_of s).buckets i)
+  unfolding table_of
+  count_at e f = e ∙ ap (λ (b : List ℕ). get_or b 0 0) f ∙ sym (count_in (bucket_part s i))
 
   pub nodes_at : nodes ((table_of s).buckets i) ≡ nodes_in (bucket_part s i)
   unfolding table_of

@@ -1,22 +1,22 @@
 // The writer: a table's held nodes put out to be loaded elsewhere (document 02, slip 6). A query: nothing but the lent output is written.
 #![tactic(auto, unfolding(model::specs::Bytes::part, model::specs::Bytes::splice))]
 
-ghost use Rattle.std.specs.Prelude.{◌≡◌, true, ◌*◌, ◌≤◌, ◌<◌, length};
+ghost use Rattle.std.specs.Prelude.{◌≡◌, true, ◌*◌, ◌≤◌, length};
 ghost use Rattle.model.specs.Base.{joined, tabulate};
 ghost use Rattle.model.specs.Bucket.{num_entries, max_nodes_per_bucket};
 ghost use Rattle.model.specs.Table.{num_buckets};
 ghost use Rattle.model.specs.Sizes.{node_size, storage_size};
 ghost use Rattle.model.specs.Layout.{node_in, nodes_in, table_of};
-ghost use Rattle.model.specs.Formed.{node_codes, formed};
+ghost use Rattle.model.specs.Formed.{node_codes};
 ghost use Rattle.model.specs.Saved.{all_nodes, saved_entry_size};
 ghost use Rattle.model.specs.StepBytes.{write_bytes};
 ghost use Rattle.on_key.specs.Answers.{Replies};
-ghost use Rattle.items.specs.Run.{HeldIn};
 ghost use Rattle.saved.specs.Fields.{write_answer_of, field_bytes, field_size};
 
-use key::Key;
+use items::FormedNodes;
 use node::Refusal;
 use storage::Layout;
+use well_formed::FormedTable;
 
 // What is written of a node: its key, or its entry of state, direction and value. An enum and not a closure: the contracts name by it the
 // bytes that are written and their number.
@@ -34,31 +34,31 @@ impl Field {
     {
         match self {
             Field::Key => Layout::KEY,
-            Field::Entry => ENTRY,
+            Field::Entry => Layout::ENTRY,
+        }
+    }
+
+    // What is written of the node of these bytes.
+    fn put(self, node: &[u8; Layout::NODE], out: &mut [u8])
+        requires node_value { node_codes node.now ≡ true }
+        requires out_len { length out.old ≡ field_size self }
+        ensures { out.new ≡ field_bytes self (node_in node.now) }
+    {
+        match self {
+            Field::Key => storage::load_key(node).store(out),
+            Field::Entry => storage::put_entry(&node[Layout::STATE_AT..Layout::NODE], out),
         }
     }
 }
 
-// The bytes of an entry.
-const ENTRY: usize = Layout::NODE - Layout::STATE_AT;
-
-// How many nodes bucket i holds.
-fn size_at(s: &[u8; Layout::STORAGE], i: usize) -> u8
-    requires { i < num_buckets }
-    ensures { result ≡ num_entries ((table_of s.now).buckets i) }
-{
-    s[Layout::HEADER + i * Layout::BUCKET]
-}
-
 // How many nodes the table holds.
-fn total(s: &[u8; Layout::STORAGE]) -> usize
-    requires { formed s.now ≡ true }
-    ensures value { result ≡ length (all_nodes (table_of s.now)) }
+fn total(table: FormedTable) -> usize
+    ensures value { result ≡ length (all_nodes (table_of table.entry.s.now)) }
     ensures upper_bound { result ≤ num_buckets * max_nodes_per_bucket }
 {
     let mut n: usize = 0;
     for i in 0..model::NUM_BUCKETS {
-        n += usize::from(size_at(s, i));
+        n += usize::from(storage::size_at(table.s, i));
     }
     n
 }
@@ -69,60 +69,32 @@ fn put_sizes(s: &[u8; Layout::STORAGE], out: &mut [u8])
     ensures { out.new ≡ tabulate num_buckets (λ i. num_entries ((table_of s.now).buckets i)) }
 {
     for i in 0..model::NUM_BUCKETS {
-        out[i] = size_at(s, i);
+        out[i] = storage::size_at(s, i);
     }
 }
 
-// The entry of these bytes: two words that share one byte.
-fn put_entry(entry: &[u8], out: &mut [u8])
-    requires { (length entry.now ≡ saved_entry_size) × (length out.old ≡ saved_entry_size) }
-    ensures { out.new ≡ entry.now }
-{
-    let front = words::get_u64(&entry[0..8]);
-    let back = words::get_u64(&entry[ENTRY - 8..ENTRY]);
-    words::put_u64(&mut out[0..8], front);
-    words::put_u64(&mut out[ENTRY - 8..ENTRY], back);
-}
-
-// What is written of the node of these bytes.
-fn put_field(node: &[u8; Layout::NODE], field: Field, out: &mut [u8])
-    requires node_value { node_codes node.now ≡ true }
-    requires out_len { length out.old ≡ field_size field }
-    ensures { out.new ≡ field_bytes field (node_in node.now) }
-{
-    match field {
-        Field::Key => Key::load(&node[0..Layout::KEY]).store(out),
-        Field::Entry => put_entry(&node[Layout::STATE_AT..Layout::NODE], out),
-    }
-}
-
-// What is written of the nodes of the bucket.
-fn put_bucket(bucket: &[u8; Layout::BUCKET], field: Field, out: &mut [u8])
-    requires held { HeldIn bucket.now }
-    requires out_len { length out.old ≡ length (nodes_in bucket.now) * field_size field }
-    ensures { out.new ≡ joined (field_bytes field) (nodes_in bucket.now) }
+// What is written of the nodes of a bucket.
+fn put_bucket(formed: FormedNodes, field: Field, out: &mut [u8])
+    requires { length out.old ≡ formed.nodes.count * field_size field }
+    ensures { out.new ≡ joined (field_bytes field) (nodes_in formed.entry.nodes.bucket.now) }
 {
     let size = field.size();
-    for j in 0..usize::from(bucket[0]) {
-        put_field(
-            storage::place(bucket, j),
-            field,
-            &mut out[j * size..(j + 1) * size],
-        );
+    for j in 0..formed.nodes.count {
+        field.put(formed.nodes.place(j), &mut out[j * size..(j + 1) * size]);
     }
 }
 
 // What is written of all nodes, bucket by bucket.
-fn put_all(s: &[u8; Layout::STORAGE], field: Field, out: &mut [u8])
-    requires formed { formed s.now ≡ true }
-    requires out_len { length out.old ≡ length (all_nodes (table_of s.now)) * field_size field }
-    ensures { out.new ≡ joined (field_bytes field) (all_nodes (table_of s.now)) }
+fn put_all(table: FormedTable, field: Field, out: &mut [u8])
+    requires { length out.old ≡ length (all_nodes (table_of table.s.now)) * field_size field }
+    ensures { out.new ≡ joined (field_bytes field) (all_nodes (table_of table.entry.s.now)) }
 {
     let size = field.size();
     let mut at = 0;
     for i in 0..model::NUM_BUCKETS {
-        let end = at + usize::from(size_at(s, i)) * size;
-        put_bucket(storage::bucket(s, i), field, &mut out[at..end]);
+        let formed = FormedNodes::of(table.s, i);
+        let end = at + formed.nodes.count * size;
+        put_bucket(formed, field, &mut out[at..end]);
         at = end;
     }
 }
@@ -133,14 +105,15 @@ pub fn write(s: &[u8], out: &mut [u8]) -> Result<usize, Refusal>
 {
     let s = s.as_array().ok_or(Refusal::Size)?;
     on_key::asked_table(s)?;
-    let n = total(s);
+    let table = FormedTable { s };
+    let n = total(table);
     if out.len() < model::NUM_BUCKETS + n * Layout::NODE {
         return Err(Refusal::Output);
     }
     let (sizes, rest) = out.split_at_mut(model::NUM_BUCKETS);
     let (keys, rest) = rest.split_at_mut(n * Layout::KEY);
     put_sizes(s, sizes);
-    put_all(s, Field::Key, keys);
-    put_all(s, Field::Entry, &mut rest[0..n * ENTRY]);
+    put_all(table, Field::Key, keys);
+    put_all(table, Field::Entry, &mut rest[0..n * Layout::ENTRY]);
     Ok(n)
 }

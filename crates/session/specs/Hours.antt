@@ -26,6 +26,6 @@ date_in e = record { year = get_or e 0 0; month = get_or e 1 0; day = get_or e 2
 abbrev pub session_of : (windows closed : List ℕ) → Moment → model.Session
 session_of ws cs m = record { windows = ws; closed = cs; today = record { year = m.year; month = m.month; day = m.day }; minute = m.minute }
 
--- the same of hours that stand together
+-- the session of a call's hours
 abbrev pub hours_of : Hours → model.Session
 hours_of h = session_of h.windows.now h.closed.now h.moment

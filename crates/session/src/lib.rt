@@ -1,4 +1,5 @@
-// Admission in session hours (document 02, slip 8): questions 10 and 11 of the windows, closed dates and moment that a host gives with a call.
+// Admission in session hours (document 02, slip 8): questions 10 and 11 of the windows, closed dates and moment that a host gives with a
+// call.
 #![tactic(auto)]
 
 ghost use Rattle.std.specs.Prelude.{◌≡◌, true, ◌&&◌, ◌-◌, ◌≤◌, ◌<◌};
@@ -6,7 +7,7 @@ ghost use Rattle.model.specs.Base.{every, any_of};
 ghost use Rattle.model.specs.Question.{first_failed};
 ghost use Rattle.model.specs.Session.{windows_of, dates_of, leap, year_start, month_days, month_start, days_in, is_date, day_number, weekday_of, same_date, max_windows, max_closed, is_window, are_threes, session_fits, covers, is_open, hours_questions};
 ghost use Rattle.node.specs.Refusal.{failed_of};
-ghost use Rattle.session.specs.Hours.{window_of, date_of, entries, window_in, date_in, session_of, hours_of};
+ghost use Rattle.session.specs.Hours.{window_of, date_of, entries, window_in, date_in, hours_of};
 
 mod years;
 
@@ -53,8 +54,8 @@ impl Moment {
     }
 }
 
-// The session hours of a call: its weekly windows (weekday, opening and closing minute), its closed dates (year, month, day), each three numbers,
-// and the moment of the call.
+// The session hours of a call: its weekly windows (weekday, opening and closing minute), its closed dates (year, month, day), each three
+// numbers, and the moment of the call.
 #[derive(Clone, Copy)]
 pub struct Hours<'a> {
     pub windows: &'a [u16],
@@ -89,7 +90,7 @@ impl Date {
                 && (1 <= self.day && self.day <= days_in(self.year, self.month)))
     }
 
-    // The days from 1 January 2000 to the date. No `From`: an u32 is no type of day numbers.
+    // The days from 1 January 2000 to the date. No `From`: a u32 is not only a day number.
     fn day_number(self) -> u32
         requires { is_date (date_of self) ≡ true }
         ensures { result ≡ day_number (date_of self) }
@@ -108,7 +109,8 @@ impl Date {
     }
 }
 
-// A weekly window: a weekday, an opening and a closing minute. Not one struct with Date: the names of its fields are what the three numbers mean.
+// A weekly window: a weekday, an opening and a closing minute. Not one struct with Date: the names of its fields are what the three
+// numbers mean.
 #[derive(Clone, Copy)]
 struct Window {
     weekday: u16,
@@ -262,8 +264,8 @@ impl Hours<'_> {
     }
 }
 
-// Questions 10 and 11. known: the key is the local one, or was held or pending before the call, so that 11 lets it pass. With no windows neither
-// is asked.
+// Questions 10 and 11. known: the key is the local one, or was held or pending before the call, so that 11 lets it pass. With no windows
+// neither is asked.
 pub fn asked(hours: Hours, known: bool) -> Result<(), Refusal>
     ensures { failed_of result ≡ first_failed (hours_questions (hours_of hours.entry) known) }
 {

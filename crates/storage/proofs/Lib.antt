@@ -1,2 +1,2 @@
 -- Laws of the bytes of declared values and nodes.
-pub mod Nodes
+pub mod Bytes

@@ -1,11 +1,16 @@
-// The table's bytes: how many each thing takes, and values and nodes read from lent storage and written to it.
+// The table's bytes: how many each thing takes; values and nodes read from lent storage and written to it; and the bytes of a place, a
+// bucket or a record, lent from those around them.
 #![tactic(auto)]
 
-ghost use Rattle.std.specs.Prelude.{◌≡◌, true, ◌≤◌, ◌<◌, length};
-ghost use Rattle.model.specs.Bucket.{max_nodes_per_bucket};
+ghost use Rattle.std.specs.Prelude.{◌≡◌, true, ◌+◌, ◌≤◌, ◌<◌, length, get_or};
+ghost use Rattle.model.specs.Bytes.{part, Bytes};
+ghost use Rattle.model.specs.Bucket.{max_nodes_per_bucket, num_entries};
 ghost use Rattle.model.specs.Table.{num_buckets, max_records};
-ghost use Rattle.model.specs.Sizes.{value_size, node_size, record_size, bucket_size, header_size, storage_size};
-ghost use Rattle.model.specs.Layout.{value_bytes, node_bytes, place_in, record_part, bucket_part};
+ghost use Rattle.model.specs.Sizes.{key_size, value_size, node_size, bucket_size, pending_at};
+ghost use Rattle.model.specs.Layout.{value_bytes, node_bytes, place_in, record_part, bucket_part, table_of};
+ghost use Rattle.model.specs.Formed.{key_in};
+ghost use Rattle.model.specs.Saved.{saved_entry_size};
+ghost use Rattle.key.specs.Key.{num};
 ghost use Rattle.node.specs.Node.{value_of, node_of, value_codes, node_codes};
 ghost use Rattle.storage.specs.Read.{read_value, read_node};
 
@@ -35,6 +40,9 @@ impl Layout {
 
     pub const NODE: usize = Layout::VALUE_AT + Layout::VALUE;
 
+    // A node's entry in the bytes that the writer puts out: state, direction, value.
+    pub const ENTRY: usize = Layout::NODE - Layout::STATE_AT;
+
     // A record of the queue: key, kind of its ending, evicted node.
     pub const RECORD: usize = Layout::KEY + 1 + Layout::NODE;
     // The kind of a record with an evicted node, and the greatest kind.
@@ -50,6 +58,8 @@ impl Layout {
     pub const PENDING: usize = 1 + Layout::NODE + Layout::TIME;
 
     pub const BUCKET: usize = Layout::PENDING_AT + Layout::PENDING;
+
+    pub const DEADLINE_AT: usize = Layout::BUCKET - Layout::TIME;
 
     // The table: local key, pending timeout, max_incoming, table filter, bucket filter, record count, padding, records, buckets.
     pub const TIMEOUT_AT: usize = Layout::KEY;
@@ -77,32 +87,72 @@ impl Layout {
     pub const STORAGE: usize = Layout::HEADER + model::NUM_BUCKETS * Layout::BUCKET;
 }
 
-// Internal: the value of its bytes.
-pub fn load_value(s: &[u8]) -> Value
-    requires { length s.now ≡ value_size }
-    ensures { result ≡ read_value s.now }
-{
-    Value {
-        flag: s[0],
-        a: s[1],
-        b: s[2],
-        c: s[3],
-        d: s[4],
-        slot: words::get_u64(&s[Layout::SLOT_AT..Layout::VALUE]),
+// The nodes that a stored bucket holds.
+#[derive(Clone, Copy)]
+pub struct Nodes<'a> {
+    pub bucket: &'a [u8; Layout::BUCKET],
+    pub count: usize,
+    pub ghost counts: { count ≡ get_or bucket.now 0 0 },
+    pub ghost few: { count ≤ max_nodes_per_bucket },
+    // The check knows these two of a parameter by its type, but not of a field.
+    pub ghost sized: { length bucket.now ≡ bucket_size },
+    pub ghost bytes: { Bytes bucket.now },
+}
+
+impl<'a> Nodes<'a> {
+    // Internal: the nodes of the bucket.
+    pub fn of(bucket: &'a [u8; Layout::BUCKET]) -> Nodes<'a>
+        requires { get_or bucket.now 0 0 ≤ max_nodes_per_bucket }
+        ensures { result.bucket.now ≡ bucket.now }
+    {
+        Nodes {
+            bucket,
+            count: usize::from(bucket[0]),
+        }
+    }
+
+    // Internal: the bytes of the node at place j.
+    pub fn place(self, j: usize) -> &'a [u8; Layout::NODE]
+        requires { j < self.count }
+        ensures { result.now ≡ place_in self.entry.bucket.now j }
+    {
+        place(self.bucket, j)
     }
 }
 
-// Internal: the node of its bytes.
-pub fn load_node(s: &[u8]) -> Node
-    requires { length s.now ≡ node_size }
-    ensures { result ≡ read_node s.now }
+// Internal: the key of the node of these bytes.
+#[tactic(auto, unfolding(model::specs::Bytes::part))]
+pub fn load_key(node: &[u8; Layout::NODE]) -> Key
+    ensures { num result ≡ key_in node.now }
+{
+    Key::load(&node[0..Layout::KEY])
+}
+
+// Internal: the value of the node of these bytes.
+pub fn load_value(node: &[u8; Layout::NODE]) -> Value
+    ensures { result ≡ read_value (part node.now (key_size + 2) value_size) }
+{
+    let value = &node[Layout::VALUE_AT..Layout::NODE];
+    Value {
+        flag: value[0],
+        a: value[1],
+        b: value[2],
+        c: value[3],
+        d: value[4],
+        slot: words::get_u64(&value[Layout::SLOT_AT..Layout::VALUE]),
+    }
+}
+
+// Internal: the node of these bytes.
+pub fn load_node(node: &[u8; Layout::NODE]) -> Node
+    ensures { result ≡ read_node node.now }
 {
     Node {
-        key: Key::load(&s[0..Layout::KEY]),
-        value: load_value(&s[Layout::VALUE_AT..Layout::NODE]),
+        key: load_key(node),
+        value: load_value(node),
         status: NodeStatus {
-            state: s[Layout::STATE_AT],
-            direction: s[Layout::DIRECTION_AT],
+            state: node[Layout::STATE_AT],
+            direction: node[Layout::DIRECTION_AT],
         },
     }
 }
@@ -131,6 +181,19 @@ pub fn store_node(s: &mut [u8], n: Node)
     store_value(&mut s[Layout::VALUE_AT..Layout::NODE], n.value);
 }
 
+// Internal: the bytes become those of an entry. By words, the eighth byte twice: `copy_from_slice` tests whether the two overlap, which
+// costs more in the loop that builds a bucket.
+#[tactic(auto, unfolding(model::specs::Bytes::part, model::specs::Bytes::splice))]
+pub fn put_entry(entry: &[u8], out: &mut [u8])
+    requires { (length entry.now ≡ saved_entry_size) × (length out.old ≡ saved_entry_size) }
+    ensures { out.new ≡ entry.now }
+{
+    let front = words::get_u64(&entry[0..8]);
+    let back = words::get_u64(&entry[Layout::ENTRY - 8..Layout::ENTRY]);
+    words::put_u64(&mut out[0..8], front);
+    words::put_u64(&mut out[Layout::ENTRY - 8..Layout::ENTRY], back);
+}
+
 // Internal: the bytes of place j of a bucket.
 #[tactic(auto, using(laws::proofs::Parts::sliced))]
 pub fn place(bucket: &[u8; Layout::BUCKET], j: usize) -> &[u8; Layout::NODE]
@@ -141,7 +204,17 @@ pub fn place(bucket: &[u8; Layout::BUCKET], j: usize) -> &[u8; Layout::NODE]
     bucket[at..at + Layout::NODE].as_array().unwrap()
 }
 
-// Internal: the bytes of bucket i of the storage.
+// Internal: the bytes of the pending's node, behind the flag.
+#[tactic(auto, unfolding(model::specs::Bytes::part))]
+pub fn pending(bucket: &[u8; Layout::BUCKET]) -> &[u8; Layout::NODE]
+    ensures { result.now ≡ part bucket.now (pending_at + 1) node_size }
+{
+    let at = Layout::PENDING_AT + 1;
+    bucket[at..at + Layout::NODE].as_array().unwrap()
+}
+
+// Internal: the bytes of bucket i of the storage. That i is below the number of buckets is a clause: a struct for it would be made anew at
+// each call, since most callers count i in a loop.
 #[tactic(auto, using(laws::proofs::Parts::sliced))]
 pub fn bucket(s: &[u8; Layout::STORAGE], i: usize) -> &[u8; Layout::BUCKET]
     requires { i < num_buckets }
@@ -149,6 +222,15 @@ pub fn bucket(s: &[u8; Layout::STORAGE], i: usize) -> &[u8; Layout::BUCKET]
 {
     let at = Layout::HEADER + i * Layout::BUCKET;
     s[at..at + Layout::BUCKET].as_array().unwrap()
+}
+
+// Internal: how many nodes bucket i holds.
+#[tactic(auto, using(laws::proofs::BucketBack::count_in), unfolding(model::specs::Layout::table_of))]
+pub fn size_at(s: &[u8; Layout::STORAGE], i: usize) -> u8
+    requires { i < num_buckets }
+    ensures { result ≡ num_entries ((table_of s.now).buckets i) }
+{
+    bucket(s, i)[0]
 }
 
 // Internal: the bytes of record j of the queue.
@@ -159,4 +241,12 @@ pub fn record(s: &[u8; Layout::STORAGE], j: usize) -> &[u8; Layout::RECORD]
 {
     let at = Layout::RECORDS_AT + j * Layout::RECORD;
     s[at..at + Layout::RECORD].as_array().unwrap()
+}
+
+// Internal: the bytes of the record's evicted node, behind the kind.
+#[tactic(auto, unfolding(model::specs::Bytes::part))]
+pub fn evicted(record: &[u8; Layout::RECORD]) -> &[u8; Layout::NODE]
+    ensures { result.now ≡ part record.now (key_size + 1) node_size }
+{
+    record[Layout::KEY + 1..Layout::RECORD].as_array().unwrap()
 }

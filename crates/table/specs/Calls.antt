@@ -6,17 +6,13 @@ use Rattle.model.specs.Table.{Answer}
 use Rattle.node.specs.declared.Refusal.{Refusal}
 use Rattle.node.specs.Refusal.{answer_of}
 use Rattle.bucket.specs.declared.EndedPending.{EndedPending}
-use Rattle.bucket.specs.Calls.{records_of, apply_codes}
+use Rattle.bucket.specs.Calls.{records_of}
 
 abbrev pub remove_answer : Result Bool Refusal → Answer
 remove_answer = answer_of Answer.Remove
 
 abbrev pub take_answer : Result (code.Option EndedPending) Refusal → Answer
 take_answer = answer_of (λ a. Answer.TakeAppliedPending (first (records_of a)))
-
--- 01, question 4: the codes of the node that was evicted, if one was
-abbrev pub take_codes : Result (code.Option EndedPending) Refusal → Bool
-take_codes = apply_codes
 
 abbrev pub new_answer : Result (Unit {0}) Refusal → Answer
 new_answer = answer_of (λ u. Answer.New)

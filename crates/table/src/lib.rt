@@ -5,11 +5,11 @@ ghost use Rattle.std.specs.Prelude.{◌≡◌, true};
 ghost use Rattle.model.specs.Call.{Call, KeyCall};
 ghost use Rattle.model.specs.StepBytes.{step_bytes};
 ghost use Rattle.on_key.specs.Answers.{Answers, update_answer};
-ghost use Rattle.table.specs.Calls.{remove_answer, take_answer, take_codes, new_answer};
+ghost use Rattle.table.specs.Calls.{remove_answer, take_answer, new_answer};
 
 use bucket::{EndedPending, UpdateResult};
 use key::Key;
-use node::{Code, Refusal};
+use node::{Code, Refusal, StatusUpdate};
 use storage::Layout;
 
 // Takes the node of the key out.
@@ -20,14 +20,13 @@ pub fn remove(s: &mut [u8], key: &[u8], time: u64) -> Result<bool, Refusal>
     let Some((k, i)) = on_key::begin(s, key, true, Some(time))? else {
         return Ok(false);
     };
-    let at = Layout::HEADER + i * Layout::BUCKET;
-    let bucket = &s[at..at + Layout::BUCKET];
-    if held::is_quiet(bucket) {
+    if held::is_quiet(storage::bucket(s, i)) {
+        let at = Layout::HEADER + i * Layout::BUCKET;
         return Ok(held::remove(&mut s[at..at + Layout::BUCKET], k));
     }
     let applied = on_key::apply_at(s, i, time);
-    let step = applied.bucket.remove_sound(k, time);
-    on_key::finish(s, i, applied.result, step.bucket)?;
+    let step = applied.bucket.remove(k, time);
+    on_key::finish(s, i, applied.result, &step.bucket)?;
     Ok(step.result)
 }
 
@@ -46,23 +45,23 @@ pub fn update_node_status(
     let Some((k, i)) = on_key::begin(s, key, codes, Some(time))? else {
         return Ok(UpdateResult::NotModified);
     };
-    let at = Layout::HEADER + i * Layout::BUCKET;
-    let bucket = &s[at..at + Layout::BUCKET];
-    if held::is_quiet(bucket) {
+    let status = StatusUpdate { state, direction };
+    if held::is_quiet(storage::bucket(s, i)) {
         let settings = header::settings(s);
+        let at = Layout::HEADER + i * Layout::BUCKET;
         let bucket = &mut s[at..at + Layout::BUCKET];
-        return Ok(held::update_status(bucket, settings, k, state, direction));
+        return Ok(held::update_status(bucket, settings, k, status));
     }
     let applied = on_key::apply_at(s, i, time);
-    let step = applied.bucket.update_status_sound(k, state, direction);
-    on_key::end(s, i, &applied, step.bucket, k)?;
+    let step = applied.bucket.update_status(k, status);
+    let before = applied.bucket.bucket.pending;
+    on_key::end(s, i, applied.result, before, &step.bucket, k)?;
     Ok(step.result)
 }
 
 // Takes the oldest record of an ended pending out of the queue; none where the queue is empty.
 pub fn take_applied_pending(s: &mut [u8]) -> Result<Option<EndedPending>, Refusal>
-    ensures answers { Answers (take_answer result) s.new (step_bytes Call.take_applied_pending s.old) }
-    ensures result_value { take_codes result ≡ true }
+    ensures { Answers (take_answer result) s.new (step_bytes Call.take_applied_pending s.old) }
 {
     let s = s.as_mut_array().ok_or(Refusal::Size)?;
     on_key::asked_storage(s)?;
@@ -80,9 +79,7 @@ pub fn new(
 ) -> Result<(), Refusal>
     ensures { Answers (new_answer result) s.new (step_bytes (Call.new local_key.now pending_timeout max_incoming table_filter bucket_filter) s.old) }
 {
-    let s = s
-        .as_mut_array::<{ Layout::STORAGE }>()
-        .ok_or(Refusal::Size)?;
+    let s = s.as_mut_array().ok_or(Refusal::Size)?;
     if local_key.len() != Layout::KEY {
         return Err(Refusal::Key);
     }

@@ -32,7 +32,7 @@ use Rattle.node.specs.Node.{value_of}
 use Rattle.node.proofs.Tests.{and_both, counts_is}
 use Rattle.words.proofs.Words.{number_8}
 use Rattle.storage.specs.Read.{read_value}
-use Rattle.storage.proofs.Nodes.{value_of_read}
+use Rattle.storage.proofs.Bytes.{value_of_read}
 use Rattle.well_formed.specs.Tests.{node_at}
 use Rattle.table_filter.specs.Counted.{counts_other, counted_below, net_of}
 

@@ -2,12 +2,11 @@
 // question 2 before it is counted (document 02, slip 7).
 #![tactic(auto)]
 
-ghost use Rattle.std.specs.Prelude.{◌≡◌, true, ◌≤◌, ◌<◌, length, get_or};
+ghost use Rattle.std.specs.Prelude.{◌≡◌, true, ◌≤◌, ◌<◌, length};
 ghost use Rattle.model.specs.Base.{select};
 ghost use Rattle.model.specs.Bucket.{max_nodes_per_bucket, nodes, get};
 ghost use Rattle.model.specs.Table.{num_buckets, is_duplicate};
-ghost use Rattle.model.specs.Sizes.{node_size, bucket_size, storage_size};
-ghost use Rattle.model.specs.Layout.{node_in, bucket_in, table_of};
+ghost use Rattle.model.specs.Layout.{node_in, bucket_in};
 ghost use Rattle.model.specs.Formed.{bucket_formed_at};
 ghost use Rattle.key.specs.Key.{num};
 ghost use Rattle.node.specs.Node.{value_of};
@@ -16,7 +15,7 @@ ghost use Rattle.table_filter.specs.Filtered.{Walked, AskedFilter};
 
 use key::Key;
 use node::{Refusal, Value};
-use storage::Layout;
+use storage::{Layout, Nodes};
 
 // The address flag and the first three octets of the value, with which its bytes begin, as one number.
 fn net(value: Value) -> u64
@@ -33,22 +32,21 @@ fn counts(node: &[u8; Layout::NODE], key: Key, value: Value) -> bool
     if words::get_u64(&node[Layout::VALUE_AT..Layout::VALUE_AT + 8]) / 0x1_0000_0000 != net(value) {
         return false;
     }
-    let other = storage::load_value(&node[Layout::VALUE_AT..Layout::NODE]);
+    let other = storage::load_value(node);
     if !node::filter::counts(value, other) {
         return false;
     }
-    let held = Key::load(&node[0..Layout::KEY]);
+    let held = storage::load_key(node);
     !held.eq(key)
 }
 
-// How many of the held nodes of the bucket count against the value of the key. The pending is not among them.
-fn counted(bucket: &[u8; Layout::BUCKET], key: Key, value: Value) -> usize
-    requires { get_or bucket.now 0 0 ≤ max_nodes_per_bucket }
-    ensures { (result ≡ length (select (counts_other (num key) (value_of value)) (nodes (bucket_in bucket.now)))) × (result ≤ max_nodes_per_bucket) }
+// How many of the nodes count against the value of the key. The pending is not among them.
+fn counted(held: Nodes, key: Key, value: Value) -> usize
+    ensures { (result ≡ length (select (counts_other (num key) (value_of value)) (nodes (bucket_in held.entry.bucket.now)))) × (result ≤ max_nodes_per_bucket) }
 {
     let mut n: usize = 0;
-    for j in 0..usize::from(bucket[0]) {
-        n += usize::from(counts(storage::place(bucket, j), key, value));
+    for j in 0..held.count {
+        n += usize::from(counts(held.place(j), key, value));
     }
     n
 }
@@ -69,31 +67,22 @@ fn walked(s: &[u8; Layout::STORAGE], key: Key, value: Value) -> Result<bool, Ref
         if !well_formed::bucket_formed_at(s, i) {
             return Err(Refusal::Form);
         }
-        n += counted(storage::bucket(s, i), key, value);
+        n += counted(Nodes::of(storage::bucket(s, i)), key, value);
     }
     Ok(node::filter::MAX_NODES_PER_SUBNET_TABLE <= n)
 }
 
-// The bucket holds the key with an equal value.
-fn holds_value(bucket: &[u8; Layout::BUCKET], key: Key, value: Value) -> bool
-    requires { get_or bucket.now 0 0 ≤ max_nodes_per_bucket }
-    ensures { result ≡ is_duplicate (value_of value) (get (num key) (bucket_in bucket.now)) }
+// One of the nodes has the key, with an equal value.
+fn holds_value(held: Nodes, key: Key, value: Value) -> bool
+    ensures { result ≡ is_duplicate (value_of value) (get (num key) (bucket_in held.entry.bucket.now)) }
 {
-    for j in 0..usize::from(bucket[0]) {
-        let node = storage::place(bucket, j);
-        if well_formed::has_key(&node[0..Layout::KEY], key) {
-            return storage::load_value(&node[Layout::VALUE_AT..Layout::NODE]).eq(value);
+    for j in 0..held.count {
+        let node = held.place(j);
+        if well_formed::has_key(node, key) {
+            return storage::load_value(node).eq(value);
         }
     }
     false
-}
-
-// Bucket i holds the key with an equal value.
-fn is_duplicate(s: &[u8; Layout::STORAGE], i: usize, key: Key, value: Value) -> bool
-    requires { (i < num_buckets) × (bucket_formed_at s.now i ≡ true) }
-    ensures { result ≡ is_duplicate (value_of value) (get (num key) ((table_of s.now).buckets i)) }
-{
-    holds_value(storage::bucket(s, i), key, value)
 }
 
 // Internal: does the value of the key, whose bucket is i and has passed question 2, fail the table filter? Where the filter is off, or
@@ -110,7 +99,7 @@ pub fn asked_filter(
     if s[Layout::TABLE_FILTER_AT] != 1 {
         return Ok(false);
     }
-    if is_duplicate(s, i, key, value) {
+    if holds_value(Nodes::of(storage::bucket(s, i)), key, value) {
         return Ok(false);
     }
     walked(s, key, value)

@@ -12,7 +12,8 @@ ghost use Rattle.update.specs.Calls.{insert_or_update_answer};
 
 use bucket::{FailureReason, UpdateResult};
 use bucket_update::InsertResult;
-use node::{Code, Node, NodeStatus, Refusal, Value};
+use held::SettingsAt;
+use node::{Code, Node, NodeInRange, NodeStatus, NodeUpdate, Refusal, Value, ValueInRange};
 use session::Hours;
 use storage::Layout;
 
@@ -31,17 +32,21 @@ pub fn update_node(
     let Some((k, i)) = on_key::begin(s, key, codes, Some(time))? else {
         return Ok(UpdateResult::NotModified);
     };
+    let update = NodeUpdate {
+        value: ValueInRange { value },
+        state,
+    };
     let fails = table_filter::asked_filter(s, i, k, value)?;
-    let at = Layout::HEADER + i * Layout::BUCKET;
-    let bucket = &s[at..at + Layout::BUCKET];
-    if held::is_quiet(bucket) {
+    if held::is_quiet(storage::bucket(s, i)) {
         let settings = header::settings(s);
+        let at = Layout::HEADER + i * Layout::BUCKET;
         let bucket = &mut s[at..at + Layout::BUCKET];
-        return Ok(held_update::update_node(bucket, settings, fails, k, value, state));
+        return Ok(held_update::update_node(bucket, settings, fails, k, update));
     }
     let applied = on_key::apply_at(s, i, time);
-    let step = bucket_update::update_node_in(applied.bucket, fails, k, value, state, time);
-    on_key::end(s, i, &applied, step.bucket, k)?;
+    let step = bucket_update::update_node_in(applied.bucket, fails, k, update, time);
+    let before = applied.bucket.bucket.pending;
+    on_key::end(s, i, applied.result, before, &step.bucket, k)?;
     Ok(step.result)
 }
 
@@ -63,31 +68,35 @@ pub fn insert_or_update(
         session::asked(hours, true)?;
         return Ok(InsertResult::Failed(FailureReason::InvalidSelfUpdate));
     };
-    let node = Node {
-        key: k,
-        value,
-        status,
+    let node = NodeInRange {
+        node: Node {
+            key: k,
+            value,
+            status,
+        },
     };
-    let fails = table_filter::asked_filter(s, i, k, node.value)?;
-    let at = Layout::HEADER + i * Layout::BUCKET;
-    let bucket = &s[at..at + Layout::BUCKET];
+    let fails = table_filter::asked_filter(s, i, k, node.node.value)?;
+    let bucket = storage::bucket(s, i);
     if held::is_quiet(bucket) {
-        let pos = held::position(bucket, k);
-        session::asked(hours, pos < usize::from(bucket[0]))?;
+        let nodes = held::nodes(bucket);
+        let pos = held::position(nodes, k);
+        session::asked(hours, pos < nodes.count)?;
         let settings = header::settings(s);
+        let now = SettingsAt { settings, time };
+        let at = Layout::HEADER + i * Layout::BUCKET;
         let bucket = &mut s[at..at + Layout::BUCKET];
-        return Ok(held_update::insert_or_update(bucket, settings, pos, fails, node, time));
+        return Ok(held_update::insert_or_update(bucket, now, pos, fails, node));
     }
     let applied = on_key::apply_at(s, i, time);
     let step = bucket_update::insert_or_update_in(applied.bucket, fails, node, time);
     let record = on_key::record_of(
         applied.result,
-        applied.bucket.pending,
-        step.bucket.pending,
+        applied.bucket.bucket.pending,
+        step.bucket.bucket.pending,
         k,
     );
     on_key::asked_queue(s, usize::from(record.is_some()))?;
     admission::asked(s, i, k, hours)?;
-    on_key::write_back(s, i, record, step.bucket);
+    on_key::write_back(s, i, record, &step.bucket);
     Ok(step.result)
 }

@@ -32,7 +32,7 @@ use Rattle.laws.proofs.Touched.{Below}
 use Rattle.laws.proofs.Restored.{Restored, Short, restore_restored, restored_is}
 use Rattle.laws.proofs.ReadBack.{FitsHeader, FitsBuckets, fit_short, header_fits, buckets_fit, restored_none, restored_then, header_passes, all_stay, bytes_back, table_back, apply_all_buckets_fit, apply_all_records_fit}
 use Rattle.laws.proofs.DistanceReads.{visited_applied}
-use Rattle.on_key.specs.Answers.{Ready, Timely}
+use Rattle.on_key.specs.Answers.{Ready}
 use Rattle.visit.specs.Passes.{visit_one, applied_in}
 
 -- no record, nothing due
@@ -97,7 +97,6 @@ pub record Appliable (s : List ℕ) (now : ℕ) (is : List ℕ) : Type 0 where
   pub bytes : Bytes s
   pub size : length s ≡ storage_size
   pub header : header_formed s ≡ true
-  pub timely : Timely s now
   pub below : Below is
   pub formed : buckets_formed s is ≡ true
   pub room : length (apply_all now is (table_of s)).0.queue ≤ max_records
@@ -177,9 +176,6 @@ module _ (s₀ : List ℕ) (now : ℕ) (is : List ℕ) (p : Appliable s₀ now i
 
     pub applying_header : header_formed s ≡ true
     applying_header = header_passes s₀ d u s w.restored (fits_header d rest w.all)
-
-    pub applying_timely : Timely s now
-    applying_timely = rw (applying_table, settings_same d rest w.all) p.timely
 
     -- what passed question 2 passes it again
     pub applying_formed : (js : List ℕ) → Below js → buckets_formed s₀ js ≡ true → buckets_formed s js ≡ true

@@ -15,11 +15,11 @@ use Rattle.model.specs.Listing.{visited}
 use Rattle.model.specs.Layout.{bucket_in, bucket_part, table_of}
 use Rattle.model.specs.Formed.{header_formed, buckets_formed}
 use Rattle.laws.proofs.Touched.{all_visited}
-use Rattle.on_key.specs.Answers.{Ready, Timely, is_due, room_for, rewritten}
+use Rattle.on_key.specs.Answers.{Ready, is_due, room_for, rewritten}
 use Rattle.on_key.proofs.Due.{not_due}
 use Rattle.visit.specs.Passes.{held, visit_one, visited_by, visit_all, applied_in, Visitable}
 use Rattle.visit.proofs.Visitable.{visited_none, visited_end, visited_next}
-use Rattle.visit.proofs.Applying.{Appliable, Applying, applying_starts, applying_timely, applying_ready, applying_room, applying_next, applying_held, applying_ends, applying_nothing}
+use Rattle.visit.proofs.Applying.{Appliable, Applying, applying_starts, applying_ready, applying_room, applying_next, applying_held, applying_ends, applying_nothing}
 
 -- one bucket
 
@@ -45,11 +45,11 @@ unfolding rewritten applied_in
 visit_written s now i = refl
 
 -- a bucket whose pending is not due: nothing written
-pub visit_unwritten : (s : List ℕ) (now i : ℕ) → Bytes s → Ready s i → Timely s now → length (visit_one now i (table_of s)).queue ≤ max_records
+pub visit_unwritten : (s : List ℕ) (now i : ℕ) → Bytes s → Ready s i → length (visit_one now i (table_of s)).queue ≤ max_records
     → is_due now ((table_of s).buckets i).pending ≡ false → s ≡ applied_in s now (i ∷ [])
-visit_unwritten s now i h r c q e =
+visit_unwritten s now i h r q e =
     applying_nothing s now (i ∷ [])
-    (record { bytes = h; size = r.size; header = r.header; timely = c; below = (r.below, tt); formed = rw r.bucket; room = q })
+    (record { bytes = h; size = r.size; header = r.header; below = (r.below, tt); formed = rw r.bucket; room = q })
     (ap (λ (a : Bucket × List EndedPending). length (a.1 ++ [])) (not_due (table_of s).settings.bucket now ((table_of s).buckets i) e))
 
 -- the visit
@@ -58,11 +58,11 @@ module _ (now n : ℕ) (is : List ℕ) (s₀ : List ℕ) where
   abbrev t₀ : Table
   t₀ = table_of s₀
 
-  pub visit_appliable : Bytes s₀ → length s₀ ≡ storage_size → header_formed s₀ ≡ true → Timely s₀ now → Visitable is → buckets_formed s₀ (visited_by now n is t₀) ≡ true
+  pub visit_appliable : Bytes s₀ → length s₀ ≡ storage_size → header_formed s₀ ≡ true → Visitable is → buckets_formed s₀ (visited_by now n is t₀) ≡ true
       → length (visit_all now n is t₀).0.queue ≤ max_records → Appliable s₀ now (visited_by now n is t₀)
   unfolding visit_all
-  visit_appliable h l f c v b q =
-      record { bytes = h; size = l; header = f; timely = c; below = all_visited (λ (i : ℕ). i < num_buckets) (held now t₀) n is v.below; formed = b; room = q }
+  visit_appliable h l f v b q =
+      record { bytes = h; size = l; header = f; below = all_visited (λ (i : ℕ). i < num_buckets) (held now t₀) n is v.below; formed = b; room = q }
 
   -- the storage while the buckets are visited
   abbrev pub Visiting : (s : List ℕ) (left : ℕ) (rest : List ℕ) → Type 0
@@ -97,9 +97,6 @@ module _ (now n : ℕ) (is : List ℕ) (s₀ : List ℕ) where
             subst (λ (m : ℕ). Visiting s' m rest) (sym (g ∙ ap (λ (b : Bucket). left - num_entries b) h)) next
 
     module _ (s : List ℕ) (left : ℕ) (rest : List ℕ) (w : Visiting s left rest) where
-      pub visiting_timely : Timely s now
-      visiting_timely = applying_timely s₀ now (visited_by now n is t₀) p s (visited_by now left rest t₀) w
-
       pub visiting_ends : rest ≡ [] → s ≡ applied_in s₀ now (visited_by now n is t₀)
       visiting_ends e =
           applying_ends s₀ now (visited_by now n is t₀) p s (visited_by now left rest t₀) w (ap (visited (held now t₀) left) e ∙ visited_end (held now t₀) left)

@@ -1,5 +1,7 @@
 -- The visit of the buckets: the pendings that are due, the records that the buckets give, and the table that is left.
 use Rattle.std.specs.Prelude.{ℕ, ◌+◌, ◌-◌, ◌≤◌, ◌<◌, ◌≡◌, Bool, true, false, cond, ◌&&◌, ◌||◌, List, [], ◌∷◌, length, drop, eqb, Result, Ok, Err}
+use Rattle.std.specs.Coded.{×_prop, Unit-prop, le_prop}
+use Rattle.std.proofs.Math.Nat.{ℕ_set}
 use Rattle.model.specs.Base.{tabulate}
 use Rattle.model.specs.Node.{EndedPending, placed_of}
 use Rattle.model.specs.Bucket.{num_entries, apply_pending}
@@ -13,8 +15,8 @@ use Rattle.key.specs.Visits.{remaining}
 use Rattle.node.specs.declared.Refusal.{Refusal}
 use Rattle.visit.specs.declared.Counted.{Counted}
 use Rattle.visit.specs.declared.Given.{Given}
+use Rattle.visit.specs.declared.Order.{Order}
 use Rattle.visit.specs.declared.Tally.{Tally}
-use Rattle.visit.specs.declared.Visit.{Visit}
 
 -- the nodes that bucket i holds once its due pending is applied, and the records that it gives then
 abbrev pub held : ℕ → Table → ℕ → ℕ
@@ -82,13 +84,26 @@ abbrev pub Once : List ℕ → Type 0
 Once [] = Unit {0}
 Once (i ∷ is) = All (λ (j : ℕ). j ≡ i → i ≡ 0) is × Once is
 
--- the buckets of a visit, in its order
-abbrev pub order : Visit → List ℕ
-order (Visit.InTurn i) = drop i (tabulate num_buckets (λ j. j))
-order (Visit.Nearest it) = remaining it
+-- the buckets of an order
+abbrev pub buckets_of : Order → List ℕ
+buckets_of (Order.InTurn i) = drop i (tabulate num_buckets (λ j. j))
+buckets_of (Order.Nearest it) = remaining it
 
 -- buckets of the table, in an order in which they may be visited
 pub record Visitable (is : List ℕ) : Type 0 where
   pub below : All (λ (i : ℕ). i < num_buckets) is
   pub once : Once is
   pub short : length is ≤ num_buckets + num_buckets
+
+-- that they are so has one proof at the most
+all_prop : {P : ℕ → Type 0} → ((i : ℕ) → IsProp (P i)) → (is : List ℕ) → IsProp (All P is)
+all_prop h [] = Unit-prop
+all_prop h (i ∷ is) = ×_prop (h i) (all_prop h is)
+
+once_prop : (is : List ℕ) → IsProp (Once is)
+once_prop [] = Unit-prop
+once_prop (i ∷ is) = ×_prop (all_prop (λ j. Prim.hlevel ℕ_set) is) (once_prop is)
+
+pub visitable_prop : (is : List ℕ) → IsProp (Visitable is)
+visitable_prop is x y i =
+    record { below = all_prop (λ j. le_prop) is x.below y.below i; once = once_prop is x.once y.once i; short = le_prop x.short y.short i }

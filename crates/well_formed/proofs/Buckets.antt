@@ -24,7 +24,7 @@ use Rattle.laws.proofs.Keep.{empty_fits}
 use Rattle.node.specs.declared.Node as declared
 use Rattle.node.specs.Node.{node_codes}
 use Rattle.storage.specs.Read.{read_node}
-use Rattle.storage.proofs.Nodes.{codes_read}
+use Rattle.storage.proofs.Bytes.{codes_read}
 use Rattle.well_formed.specs.Tests.{of_index, differs, place_formed, node_at, record_at_formed, bucket_at_formed}
 
 -- tests
@@ -41,7 +41,7 @@ all_and zero f g = refl
 all_and (suc k) f g = rw (all_and k f g) (and_cross (all_below k f) (all_below k g) (f k) (g k))
 
 -- a bucket's tests in the order of question 2, and as the code groups them
-regroup : (d i s f n p c z : Bool) → (d && (i && (s && (f && (n && (p && (c && z))))))) ≡ ((d && (((c && i) && s) && z)) && (f && (n && p)))
+regroup : (d i s f n p c z : Bool) → (d && (i && (s && (f && (n && (p && (c && z))))))) ≡ (((d && ((c && i) && s)) && z) && (f && (n && p)))
 regroup true i s f n p true true = simp (and_assoc, and-true)
 regroup true i s f n p true false = simp and-false
 regroup true i s f n p false z = simp and-false
@@ -62,7 +62,7 @@ module _ (p : ℕ → Bool) (m : ℕ) (bs : List ℕ) where
     bucket_many h = rw (← en, lt-leb n max_nodes_per_bucket h)
 
     pub bucket_held : n ≤ max_nodes_per_bucket → bucket_formed p m bs
-        ≡ ((all_below n (differs bs) && (all_below n (place_formed p f bs) && are_zero bs (place_at n) ((max_nodes_per_bucket - n) * node_size)))
+        ≡ (((all_below n (differs bs) && all_below n (place_formed p f bs)) && are_zero bs (place_at n) ((max_nodes_per_bucket - n) * node_size))
         && (leb f n && (leb (length (incoming_nodes (tabulate n (node_at bs)))) m && pending_formed p bs)))
     unfolding bucket_formed nodes_in differs place_formed node_at
     bucket_held h =

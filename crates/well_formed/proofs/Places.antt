@@ -16,13 +16,13 @@ use Rattle.model.specs.Bytes.{number, part, Bytes}
 use Rattle.model.specs.Key.{distance, less_one}
 use Rattle.model.specs.Node.{Node, connected_incoming}
 use Rattle.model.specs.Bucket.{max_nodes_per_bucket, incoming_nodes}
-use Rattle.model.specs.Sizes.{key_size, time_size, node_size, place_at, pending_at, bucket_size}
+use Rattle.model.specs.Sizes.{time_size, node_size, place_at, pending_at, bucket_size}
 use Rattle.model.specs.Layout.{place_in}
 use Rattle.model.specs.Formed.{are_zero, key_in, state_at, not_held, pending_formed, is_at}
 use Rattle.laws.proofs.Tests.{cases, split, same_of, same_not}
 use Rattle.laws.proofs.Lists.{length_tabulate, tabulate_one_more, all_if}
 use Rattle.laws.proofs.KeepLists.{more, length_select_insert}
-use Rattle.laws.proofs.Parts.{part_all, part_append, get_d_part, length_part}
+use Rattle.laws.proofs.Parts.{part_append, get_d_part, length_part}
 use Rattle.laws.proofs.Bytes.{number_append, number_fits, number_one_more}
 use Rattle.laws.proofs.Index.{bucket_index_lem}
 use Rattle.key.specs.declared.Key.{Key}
@@ -32,20 +32,20 @@ use Rattle.node.specs.declared.Node as declared
 use Rattle.node.specs.Node.{node_codes}
 use Rattle.key.proofs.Words.{lows, num_key_of}
 use Rattle.storage.specs.Read.{read_node}
-use Rattle.storage.proofs.Nodes.{codes_read}
+use Rattle.storage.proofs.Bytes.{codes_read}
 use Rattle.well_formed.specs.Tests.{of_index, differs, place_formed}
 
 -- keys
 
 -- keys that differ in the last word differ
-pub last_differs : (s : List ℕ) (w : ℕ) (key : Key) → length s ≡ key_size → Bytes s → Words key → w ≡ number (part s 24 8) → (w ≡ key.w3 → ⊥)
-    → same (number s) (num key) ≡ false
+pub last_differs : (s : List ℕ) (w : ℕ) (key : Key) → length s ≡ node_size → Bytes s → Words key → w ≡ number (part s 24 8) → (w ≡ key.w3 → ⊥)
+    → same (key_in s) (num key) ≡ false
 unfolding num
 last_differs s w key l b k e h =
-    let n : number s ≡ number (part s 0 24) * 2 ^ 64 + w =
-    ap number (sym (part_all s 32 (omega arith)) ∙ part_append s 0 24 8) ∙ number_append (part s 0 24) (part s 24 8) ∙ rw (length_part s 24 8 (omega arith), e) in
+    let n : key_in s ≡ number (part s 0 24) * 2 ^ 64 + w =
+    ap number (part_append s 0 24 8) ∙ number_append (part s 0 24) (part s 24 8) ∙ rw (length_part s 24 8 (omega arith), e) in
     let f : w < 2 ^ 64 = rw e (number_fits s 24 8 (omega arith) b) in
-    same_not (number s) (num key) (λ q. h (lows (number (part s 0 24)) ((key.w0 * 2 ^ 64 + key.w1) * 2 ^ 64 + key.w2) f k.word3 (sym n ∙ q)))
+    same_not (key_in s) (num key) (λ q. h (lows (number (part s 0 24)) ((key.w0 * 2 ^ 64 + key.w1) * 2 ^ 64 + key.w2) f k.word3 (sym n ∙ q)))
 
 -- the index by the leading zeros of the distance
 pub index_by_zeros : (local key i : ℕ) → distance local key < 2 ^ 256 → of_index local i key ≡ eqb (256 - count_leading_zeros 256 (distance local key)) (i + 1)
@@ -77,10 +77,10 @@ place_formed_lem bs j p first n e = rw (e, codes_read, num_key_of)
 
 -- the last byte of the key of place k
 abbrev pub last_at : List ℕ → ℕ → ℕ
-last_at bs k = get_or (part (place_in bs k) 0 key_size) 31 0
+last_at bs k = get_or (place_in bs k) 31 0
 
 pub last_is : (bs : List ℕ) (k : ℕ) → last_at bs k ≡ get_or bs (place_at k + 31) 0
-last_is bs k = get_d_part (place_in bs k) 0 key_size 31 (omega arith) ∙ get_d_part bs (place_at k) node_size 31 (omega arith)
+last_is bs k = get_d_part bs (place_at k) node_size 31 (omega arith)
 
 -- a place's key differs from those before it where its last byte differs from theirs
 pub last_bytes_differ : (bs : List ℕ) (j : ℕ) → length bs ≡ bucket_size → Bytes bs → j < max_nodes_per_bucket → ((k : ℕ) → k < j → last_at bs k ≡ last_at bs j → ⊥)
@@ -89,9 +89,7 @@ unfolding differs not_held
 last_bytes_differ bs j l b h d = all_if j _ (λ k i. ap not (same_not _ _ (λ q. d k i (lows k i q))))
   where
     key_last : (k : ℕ) → k < max_nodes_per_bucket → key_in (place_in bs k) ≡ number (part (place_in bs k) 0 31) * 256 + last_at bs k
-    key_last k i =
-        number_one_more (place_in bs k) 0 31 (omega (arith, length_part bs (place_at k) node_size (omega arith)))
-        ∙ ap (λ (x : ℕ). number (part (place_in bs k) 0 31) * 256 + x) (sym (get_d_part (place_in bs k) 0 key_size 31 (omega arith)))
+    key_last k i = number_one_more (place_in bs k) 0 31 (omega (arith, length_part bs (place_at k) node_size (omega arith)))
 
     lows : (k : ℕ) → k < j → key_in (place_in bs k) ≡ key_in (place_in bs j) → last_at bs k ≡ last_at bs j
     lows k i q = omega (arith, key_last k (omega arith), key_last j h, q, last_is bs k, last_is bs j, b (place_at k + 31), b (place_at j + 31))

@@ -11,7 +11,7 @@ pub fn get_u64(s: &[u8]) -> u64
     requires { length s.now ≡ 8 }
     ensures { result ≡ number s.now }
 {
-    // Each byte by its index: `try_into` and `first_chunk` test the length, and that test stays in the compiled code.
+    // Each byte by its index: `try_into` and `first_chunk` compile to the same, and have a longer proof.
     u64::from_be_bytes([s[0], s[1], s[2], s[3], s[4], s[5], s[6], s[7]])
 }
 
@@ -30,8 +30,8 @@ pub fn put_zeros(s: &mut [u8])
     s.fill(0);
 }
 
-// Internal: all bytes are zero. The loop has no early end, so that it takes 16 bytes at a time; a run of constant length is compiled without a
-// loop.
+// Internal: all bytes are zero. The loop has no early end, so that it takes 16 bytes at a time; a run of constant length is compiled
+// without a loop.
 pub fn all_zero(s: &[u8]) -> bool
     ensures { result ≡ every (λ b. eqb b 0) s.now }
 {
@@ -63,8 +63,8 @@ pub fn all_zero_long(s: &[u8]) -> bool
     steps_zero::<512>(s) && all_zero(&s[s.len() - rest..])
 }
 
-// Internal: all bytes are zero, of a run of some hundred bytes. 128 bytes at a time, and at the end the last 128, some of them for the second
-// time.
+// Internal: all bytes are zero, of a run of some hundred bytes. 128 bytes at a time, and at the end the last 128, some of them for the
+// second time.
 pub fn all_zero_steps(s: &[u8]) -> bool
     ensures { result ≡ every (λ b. eqb b 0) s.now }
 {
@@ -74,8 +74,8 @@ pub fn all_zero_steps(s: &[u8]) -> bool
     steps_zero::<128>(s) && all_zero(&s[s.len() - 128..])
 }
 
-// Internal: the bytes go up by `by` bytes, the last first; the last `by` go out, and the first `by` stay. Where `by` is constant the loop is one
-// `memmove`, and `copy_within` is not.
+// Internal: the bytes go up by `by` bytes, the last first; the last `by` go out, and the first `by` stay. Where `by` is constant the loop
+// is one `memmove`, and `copy_within` is not.
 pub fn shift_up(s: &mut [u8], by: usize)
     requires { (1 ≤ by) × (by ≤ length s.old) }
     ensures { s.new ≡ splice s.old by (part s.old 0 (length s.old - by)) }
@@ -85,7 +85,8 @@ pub fn shift_up(s: &mut [u8], by: usize)
     }
 }
 
-// Internal: the bytes go down by `by` bytes, the first first; the first `by` go out, and the last `by` stay. It compiles as `shift_up` does.
+// Internal: the bytes go down by `by` bytes, the first first; the first `by` go out, and the last `by` stay. It compiles as `shift_up`
+// does.
 pub fn shift_down(s: &mut [u8], by: usize)
     requires { by ≤ length s.old }
     ensures { s.new ≡ splice s.old 0 (part s.old by (length s.old - by)) }

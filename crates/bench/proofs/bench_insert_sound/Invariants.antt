@@ -5,5 +5,6 @@ use Rattle.bench.proofs.bench_insert_sound.Given as goal
 abbrev pub invariant-loop-i : goal.invariant-loop-i
 invariant-loop-i l = l.seen ≤ l._i
 
+-- the bucket is a value with a fact, which a loop hands on as a pair
 abbrev pub invariant-loop-k : goal.invariant-loop-k
-invariant-loop-k l = (l.b.pending_timeout ≤ 60000) × Sound l.b
+invariant-loop-k l = (l.b.0.pending_timeout ≤ 60000) × Sound l.b.0

@@ -1,17 +1,26 @@
-use Rattle.std.proofs.Common.{ℕ, refl, ap, ◌∙◌}
+use Rattle.std.proofs.Common.{ℕ, [], refl, ap, ◌∙◌}
 use Rattle.model.specs.Bucket as rules
 use Rattle.model.specs.Layout.{flag_byte}
 use Rattle.on_key.proofs.Steps.{stepped}
 use Rattle.bucket_calls.specs.Calls.{BucketCall, bucket_act}
-use Rattle.bucket_calls.proofs.Outcome.{left_by, left_done}
+use Rattle.bucket_calls.proofs.Outcome.{size_asked, left_by, left_done}
 use Rattle.bucket_calls.proofs.remove.Goals as goal
+
+pub returns-in_err-s : goal.returns-in_err-s
+returns-in_err-s c =
+    let a = c.args in
+    left_by (BucketCall.remove a.key.now a.time) a.s.now _ (size_asked a.s.now [] (BucketCall.remove a.key.now a.time) c.in_err-s.ensures.value c.in_err-s.ensures.ok_part (rw c.in_err-s.ensures.ok_part at c.as_mut_array.ensures.cases)) c.from_residual.result c.from_residual.ensures.1
 
 pub returns-in_err-asked : goal.returns-in_err-asked
 returns-in_err-asked c =
-    left_by (BucketCall.remove c.args.key.now c.args.time) c.args.s.now _ c.in_err-asked.ensures.value c.from_residual.result c.from_residual.ensures.1
+    let a = c.args in
+    let w = rw c.in_ok-s.ensures.ok_part at c.as_mut_array.ensures.cases in
+    rw (← w.same) (left_by (BucketCall.remove a.key.now a.time) c.in_ok-s.s.now _ c.in_err-asked.ensures.value c.from_residual-in_err-asked.result c.from_residual-in_err-asked.ensures.1)
 
 pub returns : goal.returns
 unfolding bucket_act
 returns c =
-    let z = stepped c.load.ensures (λ (u : rules.BucketSettings) (k : ℕ) (b : rules.Bucket). rules.remove u c.args.time k b) c.load-k.ensures c.remove_sound-step.ensures.result_value c.remove_sound-step.ensures.becomes in
-    left_done (BucketCall.remove c.args.key.now c.args.time) c.args.s.now c.in_ok-asked.ensures.value (c.from.ensures ∙ ap flag_byte z.answer) z.bucket c.store.ensures refl
+    let a = c.args in
+    let w = rw c.in_ok-s.ensures.ok_part at c.as_mut_array.ensures.cases in
+    let z = stepped c.load.ensures (λ (u : rules.BucketSettings) (k : ℕ) (b : rules.Bucket). rules.remove u a.time k b) c.load-k.ensures c.remove-step.ensures.result_value c.remove-step.ensures.becomes in
+    rw (← w.same) (left_done (BucketCall.remove a.key.now a.time) c.in_ok-s.s.now c.in_ok-asked.ensures.value (c.from.ensures ∙ ap flag_byte z.answer) z.bucket c.store.ensures refl)

@@ -11,6 +11,7 @@ use Rattle.bucket_update.specs.Again.{put_again}
 use Rattle.model.specs.Call.{is_one}
 use Rattle.key.specs.Key.{num}
 use Rattle.node.specs.Node.{value_of, node_of}
+use Rattle.bucket.specs.declared.SoundBucket.{SoundBucket}
 use Rattle.bucket.specs.Bucket.{bucket_of, settings_of, Becomes}
 use Rattle.bucket.specs.Calls.{update_result_of}
 use Rattle.laws.proofs.Tests.{clash}
@@ -20,78 +21,80 @@ use Rattle.bucket.proofs.Held.{get_found}
 use Rattle.bucket_update.proofs.Again.{insert_again}
 use Rattle.bucket_update.proofs.Rules.{is_given, not_failed, stated, insert_absent, insert_failed, insert_both}
 use Rattle.bucket_update.proofs.insert_or_update_in.Goals as goal
-use Rattle.bucket_update.proofs.insert_or_update_in.Goals.{After-update_status_sound-stated, in-Failed, in_default}
+use Rattle.bucket_update.proofs.insert_or_update_in.Goals.{After-update_status-stated, in-Failed, in_default}
 
 pub returns-then-b-pos : goal.returns-then-b-pos
 returns-then-b-pos c =
-    rw (insert_absent (settings_of c.args.b) c.args.fails c.args.time (node_of c.args.node) (bucket_of c.args.b) c.if-fails.false (ap is_some (absent_at c.args.b c.requires.sound (num c.args.node.key) _ (omega arith) c.if-b-pos.true)))
+    rw (insert_absent (settings_of c.args.b.bucket) c.args.fails c.args.time (node_of c.args.node.node) (bucket_of c.args.b.bucket) c.if-fails.false (ap is_some (absent_at c.args.b.bucket c.args.b.sound (num c.args.node.node.key) _ (omega arith) c.if-b-pos.true)))
     (record {
-      result_value = ap Answer.InsertOrUpdate (c.map.ensures.answer ∙ ap inserts c.insert_sound.ensures.result_value);
-      becomes = subst (Becomes (settings_of c.args.b) (rules.insert (settings_of c.args.b) c.args.time (node_of c.args.node) (bucket_of c.args.b)).1) (sym c.map.ensures.bucket) c.insert_sound.ensures.becomes;
+      result_value = ap Answer.InsertOrUpdate (c.map.ensures.answer ∙ ap inserts c.insert.ensures.result_value);
+      becomes = subst (λ (y : SoundBucket). Becomes (settings_of c.args.b.bucket) (rules.insert (settings_of c.args.b.bucket) c.args.time (node_of c.args.node.node) (bucket_of c.args.b.bucket)).1 y.bucket) (sym c.map.ensures.bucket) c.insert.ensures.becomes;
     })
 
 pub put_again-requires-clause-pos_value : goal.put_again-requires-clause-pos_value
 put_again-requires-clause-pos_value c =
-    found_at c.args.b c.requires.sound (num c.args.node.key) c.position-pos.result (omega arith) c.if-b-pos.false
+    found_at c.args.b.bucket c.args.b.sound (num c.args.node.node.key) c.position-pos.result (omega arith) c.if-b-pos.false
 
 pub returns-then-b-ne1 : goal.returns-then-b-ne1
 returns-then-b-ne1 c =
-    let b = c.args.b in
-    let k = num c.args.node.key in
+    let b = c.args.b.bucket in
+    let k = num c.args.node.node.key in
     let e =
-    ap (λ (f : Bool). insert_or_update_in (settings_of b) f c.args.time (node_of c.args.node) (bucket_of b)) c.if-fails.false
-    ∙ insert_again (settings_of b) c.args.time (bucket_of b) _ (node_of c.args.node) (get_found b c.requires.sound c.position-pos.result c.if-b-pos.false k (omega arith))
-    (found_at b c.requires.sound k c.position-pos.result (omega arith) c.if-b-pos.false) (ne_eqb _ _ c.if-b-ne1.true) in
+    ap (λ (f : Bool). insert_or_update_in (settings_of b) f c.args.time (node_of c.args.node.node) (bucket_of b)) c.if-fails.false
+    ∙ insert_again (settings_of b) c.args.time (bucket_of b) _ (node_of c.args.node.node) (get_found b c.args.b.sound c.position-pos.result c.if-b-pos.false k (omega arith))
+    (found_at b c.args.b.sound k c.position-pos.result (omega arith) c.if-b-pos.false) (ne_eqb _ _ c.if-b-ne1.true) in
     let told : table_insert_result_of c.map-then-b-ne1.result.result ≡ insert_updates (update_result_of c.value_result-of_value.result) (update_result_of c.put_again.result.result) = search search_rules in
     rw e
     (record {
       result_value = ap Answer.InsertOrUpdate (told ∙ rw (c.value_result-of_value.ensures, c.put_again.ensures.result_value));
-      becomes = subst (Becomes (settings_of b) (put_again (settings_of b) (node_of c.args.node) (bucket_of b)).1) (sym c.map-then-b-ne1.ensures.bucket) c.put_again.ensures.becomes;
+      becomes = subst (λ (y : SoundBucket). Becomes (settings_of b) (put_again (settings_of b) (node_of c.args.node.node) (bucket_of b)).1 y.bucket) (sym c.map-then-b-ne1.ensures.bucket) c.put_again.ensures.becomes;
     })
 
-module _ (c : After-update_status_sound-stated) where
+module _ (c : After-update_status-stated) where
   abbrev of_status : UpdateResult × rules.Bucket
-  of_status = rules.update_status (settings_of c.args.b) (num c.args.node.key) (node_of c.args.node).connected (some (node_of c.args.node).incoming) (bucket_of c.args.b)
+  of_status = rules.update_status (settings_of c.args.b.bucket) (num c.args.node.node.key) (node_of c.args.node.node).connected (some (node_of c.args.node.node).incoming) (bucket_of c.args.b.bucket)
 
   -- the key is held
-  held : rules.holds (num c.args.node.key) (bucket_of c.args.b) ≡ true
-  held = ap is_some (get_found c.args.b c.requires.sound c.position-pos.result c.if-b-pos.false (num c.args.node.key) (omega arith))
+  held : rules.holds (num c.args.node.node.key) (bucket_of c.args.b.bucket) ≡ true
+  held = ap is_some (get_found c.args.b.bucket c.args.b.sound c.position-pos.result c.if-b-pos.false (num c.args.node.node.key) (omega arith))
 
   -- the status's step, with the direction that is given
-  of_step : (update_result_of c.update_status_sound-stated.result.result ≡ of_status.0) × Becomes (settings_of c.args.b) of_status.1 c.update_status_sound-stated.result.bucket
+  of_step : (update_result_of c.update_status-stated.result.result ≡ of_status.0) × Becomes (settings_of c.args.b.bucket) of_status.1 c.update_status-stated.result.bucket.bucket
   of_step =
-      let low : c.args.node.status.direction ≤ 1 = grind (arith, common_steps) in
-      stated (settings_of c.args.b) (bucket_of c.args.b) (num c.args.node.key) (is_one c.args.node.status.state) (is_given c.args.node.status.direction (λ q. omega arith)) c.update_status_sound-stated.ensures.result_value c.update_status_sound-stated.ensures.becomes
+      let told-status = rw (c.status.ensures.0, c.status.ensures.1) at c.update_status-stated.ensures in
+      let low : c.args.node.node.status.direction ≤ 1 = grind (arith, common_steps) in
+      stated (settings_of c.args.b.bucket) (bucket_of c.args.b.bucket) (num c.args.node.node.key) (is_one c.args.node.node.status.state) (is_given c.args.node.node.status.direction (λ q. omega arith)) told-status.result_value told-status.becomes
 
 pub returns-then-matches : goal.returns-then-matches
 returns-then-matches c =
-    let w = (goal.at.returns-then-matches c).After-update_status_sound-stated in
-    let failed : is_failed (update_result_of c.update_status_sound-stated.result.result) ≡ true =
+    let w = (goal.at.returns-then-matches c).After-update_status-stated in
+    let failed : is_failed (update_result_of c.update_status-stated.result.result) ≡ true =
     elim c.match-matches.branch [
       | in-Failed v ↦ rw v.in-Failed.is refl
       | in_default v ↦ clash c.if-matches.true v.matches-is
     ] in
-    rw (insert_failed (settings_of c.args.b) c.args.fails c.args.time (node_of c.args.node) (bucket_of c.args.b) c.if-fails.false (held w) (ap is_failed (sym (of_step w).0) ∙ failed))
+    rw (insert_failed (settings_of c.args.b.bucket) c.args.fails c.args.time (node_of c.args.node.node) (bucket_of c.args.b.bucket) c.if-fails.false (held w) (ap is_failed (sym (of_step w).0) ∙ failed))
     (record { result_value = refl; becomes = (of_step w).1 })
 
 pub returns : goal.returns
 returns c =
-    let w = (goal.at.returns c).After-update_status_sound-stated in
+    let w = (goal.at.returns c).After-update_status-stated in
     let x = of_step w in
-    let s = settings_of c.args.b in
-    let k = num c.args.node.key in
-    let v = value_of c.args.node.value in
-    let fine : is_failed (update_result_of c.update_status_sound-stated.result.result) ≡ false =
+    let s = settings_of c.args.b.bucket in
+    let k = num c.args.node.node.key in
+    let v = value_of c.args.node.node.value in
+    let fine : is_failed (update_result_of c.update_status-stated.result.result) ≡ false =
     elim c.match-matches.branch [
       | in-Failed u ↦ clash u.matches-is c.if-matches.false
       | in_default u ↦ not_failed _ u.in_default.not-Failed
     ] in
-    let told : table_insert_result_of c.map-2.result.result ≡ insert_updates (update_result_of c.update_value_sound.result.result) (update_result_of c.update_status_sound-stated.result.result) = search search_rules in
-    let of_value = then_becomes x.1 (λ (t : rules.BucketSettings) (m : rules.Bucket). (rules.update_value t k v m).1) c.update_value_sound.ensures.becomes in
-    rw (insert_both s c.args.fails c.args.time (node_of c.args.node) (bucket_of c.args.b) c.if-fails.false (held w) (ap is_failed (sym x.0) ∙ fine))
+    let told : table_insert_result_of c.map-2.result.result ≡ insert_updates (update_result_of c.update_value.result.result) (update_result_of c.update_status-stated.result.result) = search search_rules in
+    let told-value = rw c.value.ensures at c.update_value.ensures in
+    let of_value = then_becomes x.1 (λ (t : rules.BucketSettings) (m : rules.Bucket). (rules.update_value t k v m).1) told-value.becomes in
+    rw (insert_both s c.args.fails c.args.time (node_of c.args.node.node) (bucket_of c.args.b.bucket) c.if-fails.false (held w) (ap is_failed (sym x.0) ∙ fine))
     (record {
       result_value =
           ap Answer.InsertOrUpdate
-          (told ∙ rw (c.update_value_sound.ensures.result_value ∙ steps.told x.1 (λ (t : rules.BucketSettings) (m : rules.Bucket). (rules.update_value t k v m).0), x.0));
-      becomes = subst (Becomes s (rules.update_value s k v (of_status w).1).1) (sym c.map-2.ensures.bucket) of_value;
+          (told ∙ rw (told-value.result_value ∙ steps.told x.1 (λ (t : rules.BucketSettings) (m : rules.Bucket). (rules.update_value t k v m).0), x.0));
+      becomes = subst (λ (y : SoundBucket). Becomes s (rules.update_value s k v (of_status w).1).1 y.bucket) (sym c.map-2.ensures.bucket) of_value;
     })

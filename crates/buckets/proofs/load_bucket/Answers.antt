@@ -7,4 +7,4 @@ load-requires-clause-bucket_value c =
 
 pub returns : goal.returns
 returns c =
-    table_becomes c.args.s.now c.args.i _ c.bucket.ensures c.settings.result c.settings.ensures.settings c.load.result c.load.ensures
+    table_becomes c.args.s.now c.args.i _ c.bucket.ensures c.settings.result c.settings.ensures.settings c.load.result.bucket c.load.ensures

@@ -1,8 +1,8 @@
-use Rattle.std.proofs.Common.{length, sym, arith, rules}
+use Rattle.std.proofs.Common.{length, sym, rules}
 use Rattle.model.specs.Bytes.{Bytes}
 use Rattle.on_key.proofs.Ended.{size_told}
 use Rattle.items.proofs.Asked.{lists_refused}
-use Rattle.distances.proofs.Answers.{passed_early, refused_size, refused_early, refused_malformed, refused_full, queue_room, taken_formed, taken_room, taken_records, holds_left, formed_left, lists_found}
+use Rattle.distances.proofs.Answers.{passed_early, refused_size, refused_early, refused_malformed, refused_full, queue_room, taken_formed, taken_room, taken_records, formed_left, lists_found}
 use Rattle.distances.proofs.nodes_by_distances.Goals as goal
 use Rattle.distances.proofs.nodes_by_distances.Goals.{In_ok-s}
 
@@ -28,7 +28,7 @@ pub survey-requires : goal.survey-requires
 survey-requires c =
     let a = c.args in
     let p = passed_early a.time a.n (length a.out.now) c.in_ok-s.s.now (sym c.in_ok-asked_early.ensures) in
-    record { header = p.header; timely = p.timely; n_le_max_count = p.few }
+    record { header = p.header; n_le_max_count = p.few }
 
 pub returns-in_err-tally : goal.returns-in_err-tally
 returns-in_err-tally c =
@@ -62,7 +62,6 @@ apply_pass-requires c =
     let q = queue_room s ds a.n a.time a.out.now y.pass.given c.in_ok-asked_queue.ensures in
     record {
       header = p.header;
-      timely = p.timely;
       taken_value = taken_formed s ds a.n a.time a.out.now e y.formed q y.pass;
       s_len_bound = taken_room s ds a.n a.time a.out.now e y.formed q y.pass;
       records_value = taken_records s ds a.n a.time a.out.now e y.formed q y.pass;
@@ -79,9 +78,7 @@ put_all-requires c =
     let y = c.in_ok-tally.ensures in
     let q = queue_room s ds a.n a.time a.out.now y.pass.given c.in_ok-asked_queue.ensures in
     record {
-      header = (holds_left s ds a.n a.time a.out.now e y.formed q y.pass b c.apply_pass.ensures).header;
       distances_value = formed_left s ds a.n a.time a.out.now e y.formed q y.pass b c.apply_pass.ensures;
-      n_le_max_count = omega (arith, c.at_least_one.ensures, p.most_few);
       node_size_in_bounds = rw c.at_least_one.ensures p.fit;
     }
 

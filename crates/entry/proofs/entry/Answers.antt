@@ -6,11 +6,10 @@ use Rattle.model.specs.Call.{Call, KeyCall}
 use Rattle.model.specs.Layout.{table_of}
 use Rattle.key.specs.Key.{num}
 use Rattle.on_key.proofs.OneKey.{refused_early, answers_self}
-use Rattle.on_key.proofs.Steps.{timely}
 use Rattle.on_key.proofs.Ended.{refused_exit, refused_size, own_formed, ends_full, ends}
 use Rattle.on_key.proofs.Endings.{no_own}
-use Rattle.on_key.proofs.InPlace.{in_place_at}
-use Rattle.entry.proofs.InPlace.{formed_read, told_here, none_read}
+use Rattle.on_key.proofs.InPlace.{formed_in, none_here, in_place_at}
+use Rattle.entry.proofs.InPlace.{told_here}
 use Rattle.entry.proofs.entry.Goals as goal
 
 pub returns-in_err-s-clause-answers : goal.returns-in_err-s-clause-answers
@@ -33,7 +32,7 @@ returns-in_default-clause-answers c =
 pub kind_here-requires : goal.kind_here-requires
 kind_here-requires c =
     let y = rw c.in-Some.is at c.in_ok-k.ensures in
-    c.is_quiet.ensures _ _ (formed_read y c.bucket-bucket.ensures) c.if-is_quiet.true
+    c.is_quiet.ensures _ _ (formed_in _ _ c.bucket-bucket.ensures y.ready) c.if-is_quiet.true
 
 -- in place: nothing is written
 pub returns-then-is_quiet-clause-answers : goal.returns-then-is_quiet-clause-answers
@@ -43,15 +42,10 @@ returns-then-is_quiet-clause-answers c =
     let y = rw c.in-Some.is at c.in_ok-k.ensures in
     let s = c.in_ok-s.s.now in
     let call = KeyCall.entry c.args.time in
-    let q = c.is_quiet.ensures _ _ (formed_read y c.bucket-bucket.ensures) c.if-is_quiet.true in
+    let q = c.is_quiet.ensures _ _ (formed_in _ _ c.bucket-bucket.ensures y.ready) c.if-is_quiet.true in
     rw (← w.same)
-    (in_place_at s c.args.key.now call y (own_formed s c.args.key.now call y refl) refl (rw (← w.same) at h) (none_read y c.bucket-bucket.ensures q)
+    (in_place_at s c.args.key.now call y (own_formed s c.args.key.now call y refl) refl (rw (← w.same) at h) (none_here _ _ c.bucket-bucket.ensures q.pending)
     (λ (u : rules.BucketSettings) (k : ℕ) (x : rules.Bucket). (kind_of k x, x)) (told_here y c.bucket-bucket.ensures q c.kind_here.ensures.result_value) Answer.Entry c.args.time refl refl)
-
-pub apply_at-applied-requires-clause-timely : goal.apply_at-applied-requires-clause-timely
-apply_at-applied-requires-clause-timely c =
-    let y = rw c.in-Some.is at c.in_ok-k.ensures in
-    timely _ _ _ c.args.time y.passed
 
 pub returns-in_err-finish-clause-answers : goal.returns-in_err-finish-clause-answers
 returns-in_err-finish-clause-answers c =

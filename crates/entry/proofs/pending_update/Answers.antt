@@ -1,4 +1,4 @@
-use Rattle.std.proofs.Common.{leb, ◌≡◌, refl, ap, ◌∙◌, arith}
+use Rattle.std.proofs.Common.{ℕ, ◌≤◌, leb, true, ◌&&◌, ◌≡◌, refl, ap, ◌∙◌, arith}
 use Rattle.std.specs.Prelude.{Some, None}
 use borrow.Author.Tests.{leb-true}
 use Rattle.model.specs.Bucket as rules
@@ -14,6 +14,10 @@ use Rattle.entry.specs.declared.EntryKind as code
 use Rattle.entry.specs.Kind as kind
 use Rattle.entry.proofs.Kind.{kind_self, kind_told, not_pending}
 use Rattle.entry.proofs.pending_update.Goals as goal
+
+-- question 4 of a state and a direction that are both given
+status_given : (st dr : ℕ) → (leb st 1 && leb dr 1) ≡ true → (st ≤ 1) × (dr ≤ 1)
+status_given st dr p = (leb-true st 1 (and_left (leb st 1) (leb dr 1) p), leb-true dr 1 (and_right (leb st 1) (leb dr 1) p))
 
 pub returns-in_err-s : goal.returns-in_err-s
 returns-in_err-s c =
@@ -50,19 +54,20 @@ returns-in_default c =
     let y = rw some at c.in_ok-begin.ensures in
     rw (← w.same)
     (refused_kind s a.key.now call y.passed (own_formed s a.key.now call y refl)
-    (ap is_pending (kind_told y c.load_bucket-b.ensures c.kind_of.ensures.result_value) ∙ not_pending c.kind_of.result c.in_default.not-Pending))
+    (ap is_pending (kind_told y c.load_bucket-stored.ensures c.kind_of.ensures.result_value) ∙ not_pending c.kind_of.result c.in_default.not-Pending))
 
-pub update_pending_sound-requires-clause-state_bound : goal.update_pending_sound-requires-clause-state_bound
-update_pending_sound-requires-clause-state_bound c =
+pub invariant_of-status : goal.invariant_of-status
+invariant_of-status c =
     let some : c.in_ok-begin.field-0 ≡ Some (c.in_ok-k.k, c.in_ok-k.i) = grind arith in
     let y = rw some at c.in_ok-begin.ensures in
-    leb-true _ _ (and_left (leb c.args.status.state 1) (leb c.args.status.direction 1) (passed_five _ _ _ _ y.passed).in_range)
+    let b = status_given _ _ (passed_five _ _ _ _ y.passed).in_range in
+    record { state_bound = b.0; direction_bound = omega (arith, b.1) }
 
-pub update_pending_sound-requires-clause-direction_bound : goal.update_pending_sound-requires-clause-direction_bound
-update_pending_sound-requires-clause-direction_bound c =
+pub update_pending-requires : goal.update_pending-requires
+update_pending-requires c =
     let some : c.in_ok-begin.field-0 ≡ Some (c.in_ok-k.k, c.in_ok-k.i) = grind arith in
     let y = rw some at c.in_ok-begin.ensures in
-    leb-true _ _ (and_right (leb c.args.status.state 1) (leb c.args.status.direction 1) (passed_five _ _ _ _ y.passed).in_range)
+    (status_given _ _ (passed_five _ _ _ _ y.passed).in_range).1
 
 pub returns-in_err-finish : goal.returns-in_err-finish
 returns-in_err-finish c =
@@ -72,7 +77,7 @@ returns-in_err-finish c =
     let call = KeyCall.pending_update a.status.state a.status.direction in
     let some : c.in_ok-begin.field-0 ≡ Some (c.in_ok-k.k, c.in_ok-k.i) = grind arith in
     let y = rw some at c.in_ok-begin.ensures in
-    let t = ap is_pending (kind_told y c.load_bucket-b.ensures c.kind_of.ensures.result_value) ∙ ap (λ (x : code.EntryKind). is_pending (kind.kind_of x)) c.in-Pending.is in
+    let t = ap is_pending (kind_told y c.load_bucket-stored.ensures c.kind_of.ensures.result_value) ∙ ap (λ (x : code.EntryKind). is_pending (kind.kind_of x)) c.in-Pending.is in
     rw (← w.same)
     (refused_exit _ _ _ c.from_residual-in_err-finish.ensures.1 (ends_full s a.key.now call y (own_formed s a.key.now call y refl) t c.in_err-finish.ensures refl))
 
@@ -84,6 +89,6 @@ returns c =
     let call = KeyCall.pending_update a.status.state a.status.direction in
     let some : c.in_ok-begin.field-0 ≡ Some (c.in_ok-k.k, c.in_ok-k.i) = grind arith in
     let y = rw some at c.in_ok-begin.ensures in
-    let t = ap is_pending (kind_told y c.load_bucket-b.ensures c.kind_of.ensures.result_value) ∙ ap (λ (x : code.EntryKind). is_pending (kind.kind_of x)) c.in-Pending.is in
-    let z = then_becomes c.load_bucket-b.ensures (λ (u : rules.BucketSettings) (x : rules.Bucket). rules.update_pending (is_one a.status.state) (is_one a.status.direction) x) c.update_pending_sound.ensures in
+    let t = ap is_pending (kind_told y c.load_bucket-stored.ensures c.kind_of.ensures.result_value) ∙ ap (λ (x : code.EntryKind). is_pending (kind.kind_of x)) c.in-Pending.is in
+    let z = then_becomes c.load_bucket-stored.ensures (λ (u : rules.BucketSettings) (x : rules.Bucket). rules.update_pending (is_one a.status.state) (is_one a.status.direction) x) c.update_pending.ensures in
     rw (← w.same) (ends s a.key.now call y (own_formed s a.key.now call y refl) t c.in_ok-finish.ensures refl refl z.bucket)

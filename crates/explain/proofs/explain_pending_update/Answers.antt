@@ -1,60 +1,42 @@
-use Rattle.std.proofs.Common.{◌≡◌, refl, ap, ◌∙◌, arith}
+use Rattle.std.proofs.Common.{◌≡◌, refl, ap, ◌∙◌, arith, inl}
 use Rattle.std.specs.Prelude.{Some, None}
-use Rattle.model.specs.Call.{KeyCall}
 use Rattle.model.specs.Question.{is_pending}
 use Rattle.node.specs.declared.Refusal.{Refusal}
-use Rattle.on_key.proofs.OneKey.{reads_none}
-use Rattle.on_key.proofs.Ended.{own_formed}
 use Rattle.entry.specs.declared.EntryKind as code
 use Rattle.entry.specs.Kind as kind
-use Rattle.entry.proofs.Kind.{kind_self, kind_told, not_pending}
-use Rattle.explain.proofs.Ends.{refused_exit, refused_size, refused_early, refused_kind, ends_at}
+use Rattle.entry.proofs.Kind.{kind_told, not_pending}
+use Rattle.explain.proofs.Ends.{refused_exit, refused_size, refused_opening, refused_self, refused_kind, ends_at}
 use Rattle.explain.proofs.explain_pending_update.Goals as goal
 
 pub returns-in_err-s : goal.returns-in_err-s
 returns-in_err-s c =
-    let a = c.args in
     let e = c.in_err-s.ensures in
-    refused_size a.s.now a.key.now (KeyCall.pending_update a.status.state a.status.direction) a.out.now c.from_residual.result e.value e.ok_part (rw e.ok_part at c.as_array.ensures.cases) c.from_residual.ensures.1
+    refused_size _ _ _ _ c.from_residual.result e.value e.ok_part (rw e.ok_part at c.as_array.ensures.cases) c.from_residual.ensures.1
 
 pub returns-in_err-begin : goal.returns-in_err-begin
 returns-in_err-begin c =
-    let a = c.args in
-    let call = KeyCall.pending_update a.status.state a.status.direction in
     let same = rw c.in_ok-s.ensures.ok_part at c.as_array.ensures.cases in
-    rw (← same.same)
-    (refused_exit _ _ c.from_residual-in_err-begin.ensures.1 (refused_early c.in_ok-s.s.now a.key.now call a.out.now _ (c.in_err-begin.ensures)))
+    rw (← same.same) (refused_opening _ _ _ _ _ _ c.from_residual-in_err-begin.ensures.1 c.in_err-begin.ensures)
 
 pub returns-in_err-k : goal.returns-in_err-k
 returns-in_err-k c =
-    let a = c.args in
-    let call = KeyCall.pending_update a.status.state a.status.direction in
     let none : c.in_ok-begin.field-0 ≡ None = grind arith in
-    let y = rw (none) at c.in_ok-begin.ensures in
     let kind : c.in_err-k.field-0.0 ≡ Refusal.Kind = grind arith in
     let same = rw c.in_ok-s.ensures.ok_part at c.as_array.ensures.cases in
-    rw (← same.same)
-    (refused_exit _ _ c.from_residual-in_err-k.ensures.1
-    (rw kind (refused_kind c.in_ok-s.s.now a.key.now call a.out.now y.0 y.1.0 (reads_none c.in_ok-s.s.now a.key.now call y.1.1) (ap is_pending (kind_self c.in_ok-s.s.now a.key.now y.1.1)))))
+    rw (← same.same) (refused_exit _ _ c.from_residual-in_err-k.ensures.1 (rw kind (refused_self _ _ _ _ (rw (none) at c.in_ok-begin.ensures) refl)))
 
 pub returns-in_default : goal.returns-in_default
 returns-in_default c =
-    let a = c.args in
-    let call = KeyCall.pending_update a.status.state a.status.direction in
     let some : c.in_ok-begin.field-0 ≡ Some (c.in_ok-k.k, c.in_ok-k.i) = grind arith in
     let y = rw (some) at c.in_ok-begin.ensures in
     let same = rw c.in_ok-s.ensures.ok_part at c.as_array.ensures.cases in
     rw (← same.same)
-    (refused_kind c.in_ok-s.s.now a.key.now call a.out.now y.0 y.1.passed (own_formed c.in_ok-s.s.now a.key.now call y.1 refl)
-    (ap is_pending (kind_told y.1 c.load_bucket-stored.ensures c.kind_of.ensures.result_value) ∙ not_pending c.kind_of.result c.in_default.not-Pending))
+    (refused_kind _ _ _ _ y refl (ap is_pending (kind_told y.1 c.load_bucket-stored.ensures c.kind_of.ensures.result_value) ∙ not_pending c.kind_of.result c.in_default.not-Pending))
 
 pub returns : goal.returns
 returns c =
-    let a = c.args in
-    let call = KeyCall.pending_update a.status.state a.status.direction in
     let some : c.in_ok-begin.field-0 ≡ Some (c.in_ok-k.k, c.in_ok-k.i) = grind arith in
     let y = rw some at c.in_ok-begin.ensures in
-    let kind = ap is_pending (kind_told y.1 c.load_bucket-stored.ensures c.kind_of.ensures.result_value) ∙ ap (λ (x : code.EntryKind). is_pending (kind.kind_of x)) c.in-Pending.is in
+    let kind = ap is_pending (kind_told y.1 c.load_bucket-stored.ensures c.kind_of.ensures.result_value) ∙ ap (λ (q : code.EntryKind). is_pending (kind.kind_of q)) c.in-Pending.is in
     let same = rw c.in_ok-s.ensures.ok_part at c.as_array.ensures.cases in
-    rw (← same.same)
-    (ends_at c.in_ok-s.s.now a.key.now call a.out.now y.0 y.1.passed kind refl y.1.index (own_formed c.in_ok-s.s.now a.key.now call y.1 refl) refl refl refl c.ended.ensures)
+    rw (← same.same) (ends_at _ _ _ _ y (inl refl) kind refl refl refl refl c.ended.ensures)

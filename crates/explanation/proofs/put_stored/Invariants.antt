@@ -5,4 +5,4 @@ use Rattle.explanation.specs.Put.{PutKeys, passes}
 use Rattle.explanation.proofs.put_stored.Given as goal
 
 abbrev pub invariant-loop-j : goal.invariant-loop-j
-invariant-loop-j l = PutKeys (keys_of (select (passes l.test) (tabulate l.j (node_at l.bucket)))) l.fn.out l.out l.n
+invariant-loop-j l = PutKeys (keys_of (select (passes l.test) (tabulate l.j (node_at l.held.bucket.now)))) l.fn.out l.out l.n

@@ -10,12 +10,12 @@ pub loop-i-init : goal.loop-i-init
 unfolding held_nodes
 loop-i-init c = keys_none _
 
-pub put_stored-n-requires : goal.put_stored-n-requires
-put_stored-n-requires c =
-    let s = c.args.s.now in
+pub of-requires : goal.of-requires
+of-requires c =
+    let s = c.args.table.s.now in
     let i = c.loop-i.i in
-    rw c.bucket.ensures (own_count s i (bucket_passes s c.requires i c.loop-i-test.true))
+    rw c.bucket.ensures (own_count s i (bucket_passes s c.args.table.formed i c.loop-i-test.true))
 
 pub loop-i-preserved : goal.loop-i-preserved
 loop-i-preserved c =
-    bucket_next (passes c.args.test) (table_of c.args.s.now).buckets c.loop-i.i c.loop-i.invariant (rw (table_bucket, ← c.bucket.ensures) c.put_stored-n.ensures)
+    bucket_next (passes c.args.test) (table_of c.args.table.s.now).buckets c.loop-i.i c.loop-i.invariant (rw (table_bucket, ← c.bucket.ensures, ← c.of.ensures) c.put_stored-n.ensures)

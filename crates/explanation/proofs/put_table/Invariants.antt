@@ -6,4 +6,4 @@ use Rattle.explanation.specs.Put.{PutKeys, passes}
 use Rattle.explanation.proofs.put_table.Given as goal
 
 abbrev pub invariant-loop-i : goal.invariant-loop-i
-invariant-loop-i l = PutKeys (keys_of (select (passes l.test) (held_nodes l.i (table_of l.s).buckets))) l.fn.out l.out l.n
+invariant-loop-i l = PutKeys (keys_of (select (passes l.test) (held_nodes l.i (table_of l.table.s.now).buckets))) l.fn.out l.out l.n

@@ -1,19 +1,21 @@
-use Rattle.std.proofs.Common.{◌∙◌}
+use Rattle.std.proofs.Common.{ap, ◌∙◌}
 use Rattle.model.specs.Bytes.{part}
-use Rattle.header.proofs.Queue.{loaded, loaded_plain, loaded_evicted}
+use Rattle.storage.specs.Read.{read_node}
+use Rattle.header.proofs.Queue.{loaded, loaded_plain, loaded_evicted, evicted_codes}
 use Rattle.header.proofs.load_record.Goals as goal
 use Rattle.header.proofs.load_record.Goals.{then-kind-eq-EVICTING_KIND, else-kind-eq-EVICTING_KIND}
+
+pub invariant_of-ending : goal.invariant_of-ending
+invariant_of-ending c =
+    record { codes = evicted_codes c.args.bytes.now c.load_node.result (c.load_node.ensures ∙ ap read_node c.evicted.ensures) c.if-kind-eq-EVICTING_KIND.true c.requires }
 
 pub returns : goal.returns
 unfolding part
 returns c =
-    let s = c.args.s.now in
+    let s = c.args.bytes.now in
     let e = c.load.ensures in
     elim c.if-kind-eq-EVICTING_KIND.branch [
       | then-kind-eq-EVICTING_KIND w ↦
-          let p = loaded_evicted s w.load_node.result w.load_node.ensures w.if-kind-eq-EVICTING_KIND.true c.requires.1 in
-          rw w.ending-is (record { result_value = loaded s c.load.result e _ p.0; result_value_2 = p.1 })
-      | else-kind-eq-EVICTING_KIND w ↦
-          let p = w.ending_of-ending.ensures in
-          rw w.ending-is (record { result_value = loaded s c.load.result e _ (p.value ∙ loaded_plain s w.if-kind-eq-EVICTING_KIND.false); result_value_2 = p.codes })
+          rw w.ending-is (loaded s c.load.result e _ (loaded_evicted s w.load_node.result (w.load_node.ensures ∙ ap read_node w.evicted.ensures) w.if-kind-eq-EVICTING_KIND.true))
+      | else-kind-eq-EVICTING_KIND w ↦ rw w.ending-is (loaded s c.load.result e _ (w.ending_of-ending.ensures ∙ loaded_plain s w.if-kind-eq-EVICTING_KIND.false))
     ]

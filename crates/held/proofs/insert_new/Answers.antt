@@ -5,19 +5,19 @@ use Rattle.held.proofs.Steps.{inserts_filter, inserts_many, inserts_placed, inse
 use Rattle.held.proofs.insert_new.Goals as goal
 
 pub returns-then-fails_filter : goal.returns-then-fails_filter
-returns-then-fails_filter c = inserts_filter c.requires.quiet (settings_of c.args.settings) (node_of c.args.node) c.args.time c.requires.absent c.from-count.ensures c.fails_filter.ensures c.if-fails_filter.true
+returns-then-fails_filter c = inserts_filter c.requires.quiet (settings_of c.args.now.settings) (node_of c.args.node.node) c.args.now.time c.requires.absent (rw c.nodes-held.ensures at c.nodes-held.result.counts) (rw c.nodes-held.ensures at c.fails_filter.ensures) c.if-fails_filter.true
 
 pub returns-then-is_max_incoming : goal.returns-then-is_max_incoming
 returns-then-is_max_incoming c =
-    inserts_many c.requires.quiet (settings_of c.args.settings) (node_of c.args.node) c.args.time c.requires.absent c.from-count.ensures c.fails_filter.ensures c.if-fails_filter.false
-    c.is_max_incoming.ensures c.if-is_max_incoming.true
+    inserts_many c.requires.quiet (settings_of c.args.now.settings) (node_of c.args.node.node) c.args.now.time c.requires.absent (rw c.nodes-held.ensures at c.nodes-held.result.counts) (rw c.nodes-held.ensures at c.fails_filter.ensures) c.if-fails_filter.false
+    (rw c.nodes-held.ensures at c.is_max_incoming.ensures) c.if-is_max_incoming.true
 
-pub returns-then-count-lt-MAX_NODES_PER_BUCKET : goal.returns-then-count-lt-MAX_NODES_PER_BUCKET
-returns-then-count-lt-MAX_NODES_PER_BUCKET c =
-    inserts_placed c.requires.quiet (settings_of c.args.settings) (node_of c.args.node) c.args.time c.requires.absent c.from-count.ensures c.fails_filter.ensures c.if-fails_filter.false
-    c.is_max_incoming.ensures c.if-is_max_incoming.false (omega arith) c.place.ensures
+pub returns-then-held-lt-MAX_NODES_PER_BUCKET : goal.returns-then-held-lt-MAX_NODES_PER_BUCKET
+returns-then-held-lt-MAX_NODES_PER_BUCKET c =
+    inserts_placed c.requires.quiet (settings_of c.args.now.settings) (node_of c.args.node.node) c.args.now.time c.requires.absent (rw c.nodes-held.ensures at c.nodes-held.result.counts) (rw c.nodes-held.ensures at c.fails_filter.ensures) c.if-fails_filter.false
+    (rw c.nodes-held.ensures at c.is_max_incoming.ensures) c.if-is_max_incoming.false (omega arith) c.place.ensures
 
 pub returns : goal.returns
 returns c =
-    inserts_full c.requires.quiet (settings_of c.args.settings) (node_of c.args.node) c.args.time c.requires.absent c.from-count.ensures c.fails_filter.ensures c.if-fails_filter.false
-    c.is_max_incoming.ensures c.if-is_max_incoming.false (omega arith) c.insert_full.ensures
+    inserts_full c.requires.quiet (settings_of c.args.now.settings) (node_of c.args.node.node) c.args.now.time c.requires.absent (rw c.nodes-held.ensures at c.nodes-held.result.counts) (rw c.nodes-held.ensures at c.fails_filter.ensures) c.if-fails_filter.false
+    (rw c.nodes-held.ensures at c.is_max_incoming.ensures) c.if-is_max_incoming.false (omega arith) c.insert_full.ensures

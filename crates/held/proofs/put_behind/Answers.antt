@@ -4,4 +4,4 @@ use Rattle.held.proofs.Moves.{behind_is}
 use Rattle.held.proofs.put_behind.Goals as goal
 
 pub returns : goal.returns
-returns c = behind_is c.args.run.now c.requires.0 _ c.store_node.ensures (length_node _) c.shift_down.ensures refl refl
+returns c = behind_is c.args.run.now c.requires _ c.store_node.ensures (length_node _) c.shift_down.ensures refl refl

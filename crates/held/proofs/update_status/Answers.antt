@@ -6,4 +6,6 @@ use Rattle.held.proofs.Steps.{status_none}
 use Rattle.held.proofs.update_status.Goals as goal
 
 pub returns : goal.returns
-returns c = status_none c.requires.quiet (num c.args.key) (settings_of c.args.settings) (is_one c.args.state) (optional c.args.direction) (omega (arith, c.position-pos.ensures))
+returns c =
+    status_none c.requires (num c.args.key) (settings_of c.args.settings) (is_one c.args.status.state) (optional c.args.status.direction)
+    (omega (arith, rw c.nodes.ensures at c.position-pos.ensures))

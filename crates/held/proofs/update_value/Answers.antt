@@ -6,4 +6,6 @@ use Rattle.held.proofs.Steps.{value_none}
 use Rattle.held.proofs.update_value.Goals as goal
 
 pub returns : goal.returns
-returns c = value_none c.requires.quiet (num c.args.key) (settings_of c.args.settings) (value_of c.args.value) (omega (arith, c.position-pos.ensures))
+returns c =
+    value_none c.requires (num c.args.key) (settings_of c.args.settings) (value_of c.args.value.value)
+    (omega (arith, rw c.nodes.ensures at c.position-pos.ensures))

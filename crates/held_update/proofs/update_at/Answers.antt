@@ -1,49 +1,39 @@
-use Rattle.std.proofs.Common.{◌≡◌, ◌∙◌, ap, subst, arith}
+use Rattle.std.proofs.Common.{◌≡◌, ◌∙◌, ap, subst}
 use Rattle.model.specs.Bucket.{nodes}
 use Rattle.model.specs.Table.{both_updates}
 use Rattle.model.specs.Call.{is_one, optional}
 use Rattle.model.specs.Layout.{bucket_in}
-use Rattle.laws.proofs.Parts.{sliced}
 use Rattle.key.specs.Key.{num}
 use Rattle.node.specs.declared.Node.{Node}
-use Rattle.node.specs.Node.{value_of, node_of, node_codes, restated, revalued}
-use Rattle.node.proofs.Stored.{codes_stored}
-use Rattle.storage.specs.Read.{read_node}
+use Rattle.node.specs.Node.{value_of, node_of, restated, revalued}
 use Rattle.bucket.specs.Settings.{settings_of}
 use Rattle.bucket.specs.Calls.{update_result_of}
-use Rattle.bucket_update.proofs.Rules.{is_given, codes_again}
+use Rattle.bucket_update.proofs.Rules.{is_given}
 use Rattle.held.specs.Held.{Does, place}
 use Rattle.held.specs.Held as held
-use Rattle.held.proofs.Steps.{own_key, own_stored, get_old, key_old}
+use Rattle.held.proofs.Steps.{own_key, get_old, key_old}
 use Rattle.held_update.proofs.Laws.{both_do}
 use Rattle.held_update.proofs.update_at.Goals as goal
 use Rattle.held_update.proofs.update_at.Goals.{After-with_status-node}
 
 -- the node that is put again
-made : (c : After-with_status-node) → c.with_status-node.result ≡ restated c.args.state 2 (revalued c.args.value c.load_node-old.result)
-made c = c.with_status-node.ensures ∙ ap (restated c.args.state 2) c.with_value.ensures
+made : (c : After-with_status-node) → c.with_status-node.result.node ≡ restated c.args.update.state 2 (revalued c.args.update.value.value c.node_at-old.result.node)
+made c = c.with_status-node.ensures ∙ ap (restated c.args.update.state 2) c.with_value.ensures
 
 pub step-of_status-requires-clause-node : goal.step-of_status-requires-clause-node
 step-of_status-requires-clause-node c =
-    let q = c.requires.quiet in
-    let old = c.load_node-old.result in
-    let eo = c.load_node-old.ensures ∙ ap read_node (sliced c.args.bucket.now _ 47) in
-    let new = made (goal.at.step-of_status-requires-clause-node c).After-with_status-node in
-    let own = own_key q c.args.pos c.requires.held eo in
-    let stored = own_stored q c.args.pos c.requires.held eo in (
-      ap node_codes new ∙ codes_again c.args.value c.args.state old (ap node_codes stored ∙ codes_stored (node_of old)) c.requires.codes.0 (omega arith),
-      ap (λ (n : Node). place (num n.key) (nodes (bucket_in c.args.bucket.now))) new ∙ own,
-    )
+    ap (λ (n : Node). place (num n.key) (nodes (bucket_in c.args.bucket.now))) (made (goal.at.step-of_status-requires-clause-node c).After-with_status-node)
+    ∙ own_key c.requires.quiet c.args.pos c.requires.held c.node_at-old.ensures
 
 pub returns : goal.returns
 returns c =
     λ time k e.
     let q = c.requires.quiet in
     let b = bucket_in c.args.bucket.now in
-    let old = c.load_node-old.result in
-    let eo = c.load_node-old.ensures ∙ ap read_node (sliced c.args.bucket.now _ 47) in
+    let old = c.node_at-old.result.node in
+    let eo = c.node_at-old.ensures in
     let new = made (goal.at.returns c).After-with_status-node in
     both_do (settings_of c.args.settings) b q.pending time (node_of old) k (get_old q c.args.pos c.requires.held eo k e) (key_old q c.args.pos c.requires.held eo k e)
-    (optional c.args.state) (is_one c.args.state) (is_given c.args.state c.if-state-eq2.false) (value_of c.args.value)
+    (optional c.args.update.state) (is_one c.args.update.state) (is_given c.args.update.state c.if-update-eq2.false) (value_of c.args.update.value.value)
     (subst (λ (n : Node). Does (held.restated (settings_of c.args.settings) (node_of old) (node_of n) b) (update_result_of c.step-of_status.result) c.step-of_status.new.bucket) new c.step-of_status.ensures)
     (c.both_updates.ensures ∙ ap (λ r. both_updates r (update_result_of c.step-of_status.result)) c.value_result-of_value.ensures)

@@ -7,7 +7,6 @@ use Rattle.items.specs.Shape.{form_codes}
 use Rattle.items.proofs.Asked.{lists_refused}
 use Rattle.on_key.specs.Answers.{first_five}
 use Rattle.on_key.proofs.Questions.{passed_five}
-use Rattle.on_key.proofs.Steps.{timely}
 use Rattle.on_key.proofs.Ended.{size_told}
 use Rattle.listing.specs.Listed.{closest_listing}
 use Rattle.listing.proofs.Shapes.{closest_gives}
@@ -45,10 +44,7 @@ load-requires c =
 pub list-requires : goal.list-requires
 list-requires c =
     let a = c.args in
-    let s = c.in_ok-s.s.now in
-    let q = sym c.in_ok-asked.ensures in
-    let p = passed_five s a.target.now _ (some a.time) q in
-    record { header = p.header; timely = timely s a.target.now _ a.time q }
+    (passed_five c.in_ok-s.s.now a.target.now _ (some a.time) (sym c.in_ok-asked.ensures)).header
 
 pub returns : goal.returns
 returns c =

@@ -31,9 +31,7 @@ returns-in_err-asked_time c =
     (first_three_lem a.time s (sym c.in_err-asked_time.ensures))))
 
 pub list-requires : goal.list-requires
-list-requires c =
-    let p = passed_three c.in_ok-s.s.now c.args.time (sym c.in_ok-asked_time.ensures) in
-    record { header = p.header; timely = p.timely }
+list-requires c = (passed_three c.in_ok-s.s.now c.args.time (sym c.in_ok-asked_time.ensures)).header
 
 pub returns : goal.returns
 returns c =

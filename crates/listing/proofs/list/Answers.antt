@@ -12,18 +12,19 @@ returns-in_err-asked_output c =
     let a = c.args in
     lists_refused _ _ c.from_residual.ensures.1 (list_refused a.shape a.n a.time a.out.now a.s.now c.item_size.ensures _ c.in_err-asked_output.ensures)
 
+pub invariant_of-visit : goal.invariant_of-visit
+invariant_of-visit c = record { visitable = rw c.order_of-order.ensures (visitable_by c.args.shape (table_of c.args.s.now)) }
+
 pub list_visited-requires : goal.list_visited-requires
 list_visited-requires c =
     let a = c.args in
     record {
-      header = c.requires.header;
-      timely = c.requires.timely;
-      visitable = rw c.visit_of.ensures (visitable_by a.shape (table_of a.s.now));
-      n_le_max_count = room_fits a.shape a.n a.time a.out.now a.s.now (room_passes a.shape a.n a.time a.out.now a.s.now c.item_size.ensures c.in_ok-asked_output.ensures);
+      header = c.requires;
+      shape_in_bounds = room_fits a.shape a.n a.time a.out.now a.s.now (room_passes a.shape a.n a.time a.out.now a.s.now c.item_size.ensures c.in_ok-asked_output.ensures);
     }
 
 pub returns : goal.returns
 returns c =
     let a = c.args in
     list_visited a.shape a.n a.time a.out.now a.s.now (room_passes a.shape a.n a.time a.out.now a.s.now c.item_size.ensures c.in_ok-asked_output.ensures)
-    _ c.visit_of.ensures c.list_visited.ensures
+    _ c.order_of-order.ensures c.list_visited.ensures

@@ -27,8 +27,8 @@ returns-then-settings-ne1 c =
     let e = sym c.bucket_formed.ensures ∙ c.if-not-bucket_formed.false in
     fits_off (num a.local) (settings_of a.settings) a.bucket.saved.bytes.now a.bucket.i (rw c.build.ensures at e) (ne_eqb _ _ c.if-settings-ne1.true)
 
-pub three_of_a_net-requires : goal.three_of_a_net-requires
-three_of_a_net-requires c =
+pub of-requires : goal.of-requires
+of-requires c =
     let a = c.args in
     let b = a.bucket in
     rw c.build.ensures (omega (arith, size_loaded b.saved.bytes.now b.i, c.count-count.ensures.count, c.if-count-gt-MAX_NODES_PER_BUCKET.false))
@@ -37,5 +37,5 @@ pub returns : goal.returns
 returns c =
     let a = c.args in
     let e = sym c.bucket_formed.ensures ∙ c.if-not-bucket_formed.false in
-    ap not (rw c.build.ensures at c.three_of_a_net.ensures)
+    ap not (rw (c.of.ensures, c.build.ensures) at c.three_of_a_net.ensures)
     ∙ fits_on (num a.local) (settings_of a.settings) a.bucket.saved.bytes.now a.bucket.i (rw c.build.ensures at e) (eq-eqb _ _ c.if-settings-ne1.false)

@@ -4,4 +4,4 @@ use Rattle.loaded.proofs.Asked.{empty_at}
 use Rattle.loaded.proofs.holds_nothing.Given as goal
 
 abbrev pub invariant-loop-i : goal.invariant-loop-i
-invariant-loop-i l = all_below l.i (empty_at l.s) ≡ true
+invariant-loop-i l = all_below l.i (empty_at l.table.s.now) ≡ true

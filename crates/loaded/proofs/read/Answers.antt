@@ -22,8 +22,8 @@ returns-in_err-asked_table c =
     rw (← w.same)
     (refused_exit _ _ _ c.from_residual-in_err-asked_table.ensures.1 (read_refused c.in_ok-s.s.now c.args.bytes.now _ (sym c.in_err-asked_table.ensures)))
 
-pub fitting-requires : goal.fitting-requires
-fitting-requires c = (passed_table c.in_ok-s.s.now (sym c.in_ok-asked_table.ensures)).formed
+pub invariant_of-fitting : goal.invariant_of-fitting
+invariant_of-fitting c = record { formed = (passed_table c.in_ok-s.s.now (sym c.in_ok-asked_table.ensures)).formed }
 
 pub returns-in_err-saved : goal.returns-in_err-saved
 returns-in_err-saved c =

@@ -14,7 +14,7 @@ pub returns : goal.returns
 unfolding two_beside
 returns c =
     let a = c.args in
-    let bs = a.bucket.now in
+    let bs = a.nodes.bucket.now in
     let passes : Node → Bool = λ n. counts (value_of a.a) n.value && third_of (value_of a.a) n.value (nodes_in bs) in
-    any_from_yields_List (λ j. passes (node_at bs j)) _ _ _ c.any.ensures.ran (YieldsList-from_range 0 c.from.result _ refl (omega arith)) (λ x b q k. search rules)
-    ∙ any_listed passes bs c.from.ensures
+    any_from_yields_List (λ j. passes (node_at bs j)) _ _ _ c.any.ensures.ran (YieldsList-from_range 0 c.args.nodes.count _ refl (omega arith)) (λ x b q k. search rules)
+    ∙ any_listed passes bs c.args.nodes.counts

@@ -14,11 +14,11 @@ returns-in_err-asked_queue c =
     let p = err_from_is_err_and c.from_residual.result c.from_residual.ensures.1 in
     record {
       asked = rw (p.1, p.2) e;
-      left = sym (ap (λ (t : Bool). cond t (rewritten a.s.now a.i (bucket_of a.b) (records_of a.applied)) a.s.now) (no_room _ e).0);
+      left = sym (ap (λ (t : Bool). cond t (rewritten a.s.now a.i (bucket_of a.b.now.bucket) (records_of a.applied)) a.s.now) (no_room _ e).0);
     }
 
-pub write_back-requires-clause-applied_value : goal.write_back-requires-clause-applied_value
-write_back-requires-clause-applied_value c =
+pub write_back-requires-clause-room : goal.write_back-requires-clause-room
+write_back-requires-clause-room c =
     has_room _ (room_asked c.args.s.now c.args.applied (c.from.ensures ∙ ap bool_byte c.is_some.ensures) c.in_ok-asked_queue.ensures)
 
 pub returns : goal.returns
@@ -27,5 +27,5 @@ returns c =
     let e = room_asked a.s.now a.applied (c.from.ensures ∙ ap bool_byte c.is_some.ensures) c.in_ok-asked_queue.ensures in
     record {
       asked = e;
-      left = c.write_back.ensures ∙ sym (ap (λ (t : Bool). cond t (rewritten a.s.now a.i (bucket_of a.b) (records_of a.applied)) a.s.now) (has_room _ e));
+      left = c.write_back.ensures ∙ sym (ap (λ (t : Bool). cond t (rewritten a.s.now a.i (bucket_of a.b.now.bucket) (records_of a.applied)) a.s.now) (has_room _ e));
     }

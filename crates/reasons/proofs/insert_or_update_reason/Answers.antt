@@ -1,4 +1,4 @@
-use Rattle.std.proofs.Common.{◌≡◌, Bool, true, ◌&&◌, sym, ap, ◌∙◌}
+use Rattle.std.proofs.Common.{◌≡◌, ◌≤◌, Bool, ◌&&◌, sym, ap, ◌∙◌}
 use Rattle.std.proofs.Math.Option.{Option, some}
 use lib.Dec.{leb}
 use borrow.Author.Tests.{leb-true}
@@ -8,55 +8,53 @@ use Rattle.model.specs.Call.{is_one, optional}
 use Rattle.model.specs.Explain.{status_reason, value_reason}
 use Rattle.laws.proofs.Tests.{and_left, and_right}
 use Rattle.key.specs.Key.{num}
-use Rattle.node.specs.declared.Node.{Node}
-use Rattle.node.specs.Node.{value_of, node_of, value_codes, node_codes}
+use Rattle.node.specs.declared.NodeInRange.{NodeInRange}
+use Rattle.node.specs.declared.StatusUpdate.{StatusUpdate}
+use Rattle.node.specs.Node.{value_of, node_of, value_codes}
 use Rattle.bucket.specs.declared.UpdateResult.{UpdateResult}
 use Rattle.bucket.specs.Bucket.{bucket_of, settings_of}
 use Rattle.bucket.specs.Calls.{update_result_of}
 use Rattle.bucket.proofs.Steps.{told}
 use Rattle.bucket.proofs.Answers.{given_direction}
 use Rattle.bucket_update.proofs.Rules.{not_failed}
-use Rattle.reasons.proofs.Rules.{tells_as, inserts, updates_failed, updates}
+use Rattle.reasons.proofs.Rules.{inserts, updates_failed, updates}
 use Rattle.reasons.proofs.insert_or_update_reason.Goals as goal
 
--- the direction of a node whose codes are in range is given
-given : (n : Node) → node_codes n ≡ true → optional n.status.direction ≡ some (is_one n.status.direction)
-given n e =
-    let d = n.status.direction in
-    given_direction d (leb-true d 1 (and_left (leb d 1) (value_codes n.value) (and_right (leb n.status.state 1) (leb d 1 && value_codes n.value) e)))
+-- the status of a node in range is given, and so is its direction
+module _ (n : NodeInRange) (x : StatusUpdate) (e : (x.state ≡ n.node.status.state) × (x.direction ≡ n.node.status.direction)) where
+  given : {A : Type 0} (F : Bool → Option Bool → A) → F (is_one x.state) (optional x.direction) ≡ F (node_of n.node).connected (some (node_of n.node).incoming)
+  given F =
+      let d = n.node.status.direction in
+      let low : d ≤ 1 = leb-true d 1 (and_left (leb d 1) (value_codes n.node.value) (and_right (leb n.node.status.state 1) (leb d 1 && value_codes n.node.value) n.codes)) in
+      rw (e.0, e.1, given_direction d low)
 
 pub returns-then-not-holds : goal.returns-then-not-holds
 returns-then-not-holds c =
-    let b = c.args.b in
-    tells_as _ (inserts (settings_of b) (node_of c.args.node) (bucket_of b) (sym c.holds.ensures ∙ c.if-not-holds.true)) c.insert_reason.ensures
+    let b = c.args.b.now.bucket in
+    c.insert_reason.ensures ∙ inserts (settings_of b) (node_of c.args.node.node) (bucket_of b) (sym c.holds.ensures ∙ c.if-not-holds.true)
 
 pub returns-in-Failed : goal.returns-in-Failed
 returns-in-Failed c =
-    let b = c.args.b in
+    let b = c.args.b.now.bucket in
     let n = c.args.node in
-    let u = is_one n.status.state in
-    let d = given n c.requires.node_value in
+    let k = num n.node.key in
     let failed =
-    ap (λ (x : Option Bool). is_failed (rules.update_status (settings_of b) (num n.key) u x (bucket_of b)).0) (sym d)
-    ∙ ap is_failed (sym c.update_status_sound-stated.ensures.result_value) ∙ ap (λ (r : UpdateResult). is_failed (update_result_of r)) c.in-Failed.is in
-    tells_as _
-    (ap (λ (x : Option Bool). status_reason (settings_of b) (num n.key) u x (bucket_of b)) d
-    ∙ updates_failed (settings_of b) (node_of n) (bucket_of b) (sym c.holds.ensures ∙ c.if-not-holds.false) failed)
+    sym (given n c.status.result c.status.ensures (λ (u : Bool) (d : Option Bool). is_failed (rules.update_status (settings_of b) k u d (bucket_of b)).0))
+    ∙ ap is_failed (sym c.update_status-stated.ensures.result_value) ∙ ap (λ (r : UpdateResult). is_failed (update_result_of r)) c.in-Failed.is in
     c.status_reason.ensures
+    ∙ given n c.status-in-Failed.result c.status-in-Failed.ensures (λ (u : Bool) (d : Option Bool). status_reason (settings_of b) k u d (bucket_of b))
+    ∙ updates_failed (settings_of b) (node_of n.node) (bucket_of b) (sym c.holds.ensures ∙ c.if-not-holds.false) failed
 
 pub returns-in_default : goal.returns-in_default
 returns-in_default c =
-    let b = c.args.b in
+    let b = c.args.b.now.bucket in
     let n = c.args.node in
-    let k = num n.key in
-    let v = value_of n.value in
-    let u = is_one n.status.state in
-    let d = given n c.requires.node_value in
+    let k = num n.node.key in
+    let v = value_of n.node.value in
     let failed =
-    ap (λ (x : Option Bool). is_failed (rules.update_status (settings_of b) k u x (bucket_of b)).0) (sym d)
-    ∙ ap is_failed (sym c.update_status_sound-stated.ensures.result_value) ∙ not_failed _ c.in_default.not-Failed in
-    tells_as _
-    (told c.update_status_sound-stated.ensures.becomes (λ (s : rules.BucketSettings) (m : rules.Bucket). value_reason s k v m)
-    ∙ ap (λ (x : Option Bool). value_reason (settings_of b) k v (rules.update_status (settings_of b) k u x (bucket_of b)).1) d
-    ∙ updates (settings_of b) (node_of n) (bucket_of b) (sym c.holds.ensures ∙ c.if-not-holds.false) failed)
+    sym (given n c.status.result c.status.ensures (λ (u : Bool) (d : Option Bool). is_failed (rules.update_status (settings_of b) k u d (bucket_of b)).0))
+    ∙ ap is_failed (sym c.update_status-stated.ensures.result_value) ∙ not_failed _ c.in_default.not-Failed in
     c.value_reason.ensures
+    ∙ told c.update_status-stated.ensures.becomes (λ (s : rules.BucketSettings) (m : rules.Bucket). value_reason s k v m)
+    ∙ given n c.status.result c.status.ensures (λ (u : Bool) (d : Option Bool). value_reason (settings_of b) k v (rules.update_status (settings_of b) k u d (bucket_of b)).1)
+    ∙ updates (settings_of b) (node_of n.node) (bucket_of b) (sym c.holds.ensures ∙ c.if-not-holds.false) failed

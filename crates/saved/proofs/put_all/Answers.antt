@@ -7,64 +7,64 @@ use Rattle.model.specs.Layout.{nodes_in, table_of}
 use Rattle.laws.proofs.Parts.{sliced, length_part}
 use Rattle.saved.specs.Fields.{field_size}
 use Rattle.saved.proofs.Fields.{written, written_none, written_more, written_all}
-use Rattle.saved.proofs.Held.{held_at, nodes_at, held_none, held_next, next_at, bucket_size_is, bucket_fits}
+use Rattle.saved.proofs.Held.{formed_at, count_at, nodes_at, held_none, held_next, next_at, bucket_size_is, bucket_fits}
 use Rattle.saved.proofs.put_all.Goals as goal
 
 pub loop-i-init : goal.loop-i-init
-loop-i-init c = rw (held_none (table_of c.args.s.now).buckets) (omega arith, written_none c.args.field c.args.out.now)
+loop-i-init c = rw (held_none (table_of c.args.table.s.now).buckets) (omega arith, written_none c.args.field c.args.out.now)
 
 pub overflow_mul-end : goal.overflow_mul-end
 overflow_mul-end c =
     let a = c.args in
     let l = c.loop-i in
-    let bs = (table_of a.s.now).buckets in
-    let size = bucket_size_is bs l.i (field_size a.field) (c.from.ensures ∙ c.size_at.ensures) c.size-size.ensures in
-    let fits = bucket_fits bs l.i (field_size a.field) (length a.out.now) c.loop-i-test.true l.invariant.0 size c.requires.out_len in
+    let bs = (table_of a.table.s.now).buckets in
+    let size = bucket_size_is bs l.i (field_size a.field) (count_at a.table.s.now l.i c.of-formed.result.nodes.counts c.of-formed.ensures) c.size-size.ensures in
+    let fits = bucket_fits bs l.i (field_size a.field) (length a.out.now) c.loop-i-test.true l.invariant.0 size c.requires in
     record { fits = omega (arith, fits) }
 
 pub overflow_add-end : goal.overflow_add-end
 overflow_add-end c =
     let a = c.args in
     let l = c.loop-i in
-    let bs = (table_of a.s.now).buckets in
-    let size = bucket_size_is bs l.i (field_size a.field) (c.from.ensures ∙ c.size_at.ensures) c.size-size.ensures in
-    let fits = bucket_fits bs l.i (field_size a.field) (length a.out.now) c.loop-i-test.true l.invariant.0 size c.requires.out_len in
+    let bs = (table_of a.table.s.now).buckets in
+    let size = bucket_size_is bs l.i (field_size a.field) (count_at a.table.s.now l.i c.of-formed.result.nodes.counts c.of-formed.ensures) c.size-size.ensures in
+    let fits = bucket_fits bs l.i (field_size a.field) (length a.out.now) c.loop-i-test.true l.invariant.0 size c.requires in
     record { fits = omega (arith, fits) }
 
 pub slice_bounds-put_bucket-end : goal.slice_bounds-put_bucket-end
 slice_bounds-put_bucket-end c =
     let a = c.args in
     let l = c.loop-i in
-    let bs = (table_of a.s.now).buckets in
-    let size = bucket_size_is bs l.i (field_size a.field) (c.from.ensures ∙ c.size_at.ensures) c.size-size.ensures in
-    let fits = bucket_fits bs l.i (field_size a.field) (length a.out.now) c.loop-i-test.true l.invariant.0 size c.requires.out_len in
-    let h : l.at + c.from.result * c.size-size.result ≤ length l.out = omega (arith, fits, l.auto.out) in
+    let bs = (table_of a.table.s.now).buckets in
+    let size = bucket_size_is bs l.i (field_size a.field) (count_at a.table.s.now l.i c.of-formed.result.nodes.counts c.of-formed.ensures) c.size-size.ensures in
+    let fits = bucket_fits bs l.i (field_size a.field) (length a.out.now) c.loop-i-test.true l.invariant.0 size c.requires in
+    let h : l.at + c.of-formed.result.nodes.count * c.size-size.result ≤ length l.out = omega (arith, fits, l.auto.out) in
     h
 
-pub put_bucket-requires-clause-held : goal.put_bucket-requires-clause-held
-put_bucket-requires-clause-held c = rw c.bucket.ensures (held_at c.args.s.now c.loop-i.i c.requires.formed c.loop-i-test.true)
+pub of-formed-requires-clause-formed : goal.of-formed-requires-clause-formed
+of-formed-requires-clause-formed c = formed_at c.args.table.s.now c.loop-i.i c.args.table.formed c.loop-i-test.true
 
-pub put_bucket-requires-clause-out_len : goal.put_bucket-requires-clause-out_len
-put_bucket-requires-clause-out_len c =
+pub put_bucket-requires : goal.put_bucket-requires
+put_bucket-requires c =
     let a = c.args in
     let l = c.loop-i in
-    let bs = (table_of a.s.now).buckets in
-    let size = bucket_size_is bs l.i (field_size a.field) (c.from.ensures ∙ c.size_at.ensures) c.size-size.ensures in
-    let fits = bucket_fits bs l.i (field_size a.field) (length a.out.now) c.loop-i-test.true l.invariant.0 size c.requires.out_len in
-    let k = c.from.result * c.size-size.result in
-    ap length (sliced l.out l.at k) ∙ length_part l.out l.at k (omega (arith, fits, l.auto.out)) ∙ size
-    ∙ ap (λ (ns : List Node). length ns * field_size a.field) (nodes_at a.s.now l.i ∙ ap nodes_in (sym c.bucket.ensures))
+    let bs = (table_of a.table.s.now).buckets in
+    let count = c.of-formed.result.nodes.count in
+    let size = bucket_size_is bs l.i (field_size a.field) (count_at a.table.s.now l.i c.of-formed.result.nodes.counts c.of-formed.ensures) c.size-size.ensures in
+    let fits = bucket_fits bs l.i (field_size a.field) (length a.out.now) c.loop-i-test.true l.invariant.0 size c.requires in
+    let k = count * c.size-size.result in
+    ap length (sliced l.out l.at k) ∙ length_part l.out l.at k (omega (arith, fits, l.auto.out)) ∙ ap (λ (n : ℕ). count * n) c.size-size.ensures
 
 pub loop-i-preserved : goal.loop-i-preserved
 loop-i-preserved c =
     let a = c.args in
     let l = c.loop-i in
-    let bs = (table_of a.s.now).buckets in
-    let size = bucket_size_is bs l.i (field_size a.field) (c.from.ensures ∙ c.size_at.ensures) c.size-size.ensures in
-    let fits = bucket_fits bs l.i (field_size a.field) (length a.out.now) c.loop-i-test.true l.invariant.0 size c.requires.out_len in
-    let k = c.from.result * c.size-size.result in
+    let bs = (table_of a.table.s.now).buckets in
+    let size = bucket_size_is bs l.i (field_size a.field) (count_at a.table.s.now l.i c.of-formed.result.nodes.counts c.of-formed.ensures) c.size-size.ensures in
+    let fits = bucket_fits bs l.i (field_size a.field) (length a.out.now) c.loop-i-test.true l.invariant.0 size c.requires in
+    let k = c.of-formed.result.nodes.count * c.size-size.result in
     let ns : List Node = nodes (bs l.i) in
-    let put = c.put_bucket.ensures ∙ ap (λ (b : List ℕ). written a.field (nodes_in b)) c.bucket.ensures ∙ ap (written a.field) (sym (nodes_at a.s.now l.i)) in
+    let put = c.put_bucket.ensures ∙ ap (λ (b : List ℕ). written a.field (nodes_in b)) c.of-formed.ensures ∙ ap (written a.field) (sym (nodes_at a.table.s.now l.i)) in
     let same : l.at + k - l.at ≡ length ns * field_size a.field = omega (arith, size) in (
       next_at bs l.i (field_size a.field) l.invariant.0 size,
       rw (held_next bs l.i) (written_more a.field a.out.now (held_nodes l.i bs) ns l.at (l.at + k - l.at) l.invariant.0 same (omega (arith, fits)) l.invariant.1 put),
@@ -74,6 +74,6 @@ pub returns : goal.returns
 returns c =
     let a = c.args in
     let l = c.loop-i in
-    let bs = (table_of a.s.now).buckets in
+    let bs = (table_of a.table.s.now).buckets in
     let end : l.i ≡ num_buckets = omega arith in
-    written_all a.field a.out.now (held_nodes num_buckets bs) c.requires.out_len (l.invariant.1 ∙ ap (λ (i : ℕ). splice a.out.now 0 (written a.field (held_nodes i bs))) end)
+    written_all a.field a.out.now (held_nodes num_buckets bs) c.requires (l.invariant.1 ∙ ap (λ (i : ℕ). splice a.out.now 0 (written a.field (held_nodes i bs))) end)

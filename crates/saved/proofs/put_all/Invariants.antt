@@ -8,5 +8,5 @@ use Rattle.saved.proofs.put_all.Given as goal
 
 abbrev pub invariant-loop-i : goal.invariant-loop-i
 invariant-loop-i l =
-    (l.at ≡ length (held_nodes l.i (table_of l.s).buckets) * field_size l.field)
-    × (l.out ≡ splice l.fn.out 0 (written l.field (held_nodes l.i (table_of l.s).buckets)))
+    (l.at ≡ length (held_nodes l.i (table_of l.table.s.now).buckets) * field_size l.field)
+    × (l.out ≡ splice l.fn.out 0 (written l.field (held_nodes l.i (table_of l.table.s.now).buckets)))

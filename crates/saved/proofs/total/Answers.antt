@@ -10,6 +10,6 @@ loop-i-init c = (omega arith, sym (ap length (held_none _)))
 pub loop-i-preserved : goal.loop-i-preserved
 loop-i-preserved c =
     let l = c.loop-i in
-    let bs = (table_of c.args.s.now).buckets in
-    let few = few_at c.args.s.now l.i c.requires (omega arith) in
+    let bs = (table_of c.args.table.s.now).buckets in
+    let few = few_at c.args.table.s.now l.i c.args.table.formed (omega arith) in
     (omega (arith, few, l.invariant.0, c.from-n.ensures, c.size_at.ensures), omega (arith, l.invariant.1, c.from-n.ensures, c.size_at.ensures, length_nodes (bs l.i), length_next bs l.i))

@@ -17,8 +17,8 @@ returns-in_err-asked_table c =
     let p = err_from_is_err_and c.from_residual-in_err-asked_table.result c.from_residual-in_err-asked_table.ensures.1 in
     rw (← w.same, p.1, p.2) (refused_early c.args.out.now c.in_ok-s.s.now _ (sym c.in_err-asked_table.ensures))
 
-pub total-n-requires : goal.total-n-requires
-total-n-requires c = (passed_table _ (sym c.in_ok-asked_table.ensures)).formed
+pub invariant_of-table : goal.invariant_of-table
+invariant_of-table c = record { formed = (passed_table _ (sym c.in_ok-asked_table.ensures)).formed }
 
 pub returns-then-out-n : goal.returns-then-out-n
 returns-then-out-n c =
@@ -32,18 +32,12 @@ returns-in_err-s c =
     let p = err_from_is_err_and c.from_residual.result c.from_residual.ensures.1 in
     rw (p.1, p.2, size_told v.value v.ok_part) (refused_size c.args.out.now c.args.s.now n)
 
-pub put_all-requires-clause-formed : goal.put_all-requires-clause-formed
-put_all-requires-clause-formed c = (passed_table _ (sym c.in_ok-asked_table.ensures)).formed
+pub put_all-requires : goal.put_all-requires
+put_all-requires c = keys_fit (table_of c.in_ok-s.s.now) c.total-n.ensures.value c.split_at_mut-keys.ensures.front_len
 
-pub put_all-requires-clause-out_len : goal.put_all-requires-clause-out_len
-put_all-requires-clause-out_len c = keys_fit (table_of c.in_ok-s.s.now) c.total-n.ensures.value c.split_at_mut-keys.ensures.front_len
-
-pub put_all-requires-2-clause-formed : goal.put_all-requires-2-clause-formed
-put_all-requires-2-clause-formed c = (passed_table _ (sym c.in_ok-asked_table.ensures)).formed
-
-pub put_all-requires-2-clause-out_len : goal.put_all-requires-2-clause-out_len
+pub put_all-requires-2 : goal.put_all-requires-2
 unfolding part
-put_all-requires-2-clause-out_len c =
+put_all-requires-2 c =
     let rest = c.split_at_mut-keys.result.1.now in
     entries_fit (table_of c.in_ok-s.s.now) c.total-n.ensures.value
     (length_part rest 0 (c.total-n.result * 15 - 0) (omega (arith, c.if-out-n.false, c.split_at_mut-keys.ensures.back_len, c.split_at_mut-sizes.ensures.back_len)) ∙ omega arith)

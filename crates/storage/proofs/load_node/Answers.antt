@@ -8,7 +8,7 @@ use Rattle.storage.proofs.load_node.Goals as goal
 pub returns : goal.returns
 unfolding read_node part
 returns c =
-    let l = c.load in
+    let l = c.load_key in
     let w : Words l.result = omega arith in
     let k = sym (key_of_num l.result w) ∙ ap key_of l.ensures in
     rw (k, c.load_value.ensures) refl

@@ -1,4 +1,4 @@
-use Rattle.storage.proofs.Nodes.{node_put}
+use Rattle.storage.proofs.Bytes.{node_put}
 use Rattle.storage.proofs.store_node.Goals as goal
 
 pub returns : goal.returns

@@ -1,4 +1,4 @@
-use Rattle.storage.proofs.Nodes.{value_put}
+use Rattle.storage.proofs.Bytes.{value_put}
 use Rattle.storage.proofs.store_value.Goals as goal
 
 pub returns : goal.returns

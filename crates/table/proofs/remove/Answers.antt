@@ -1,14 +1,15 @@
-use Rattle.std.proofs.Common.{ℕ, true, refl, ap, arith}
+use Rattle.std.proofs.Common.{ℕ, refl, ap, subst}
 use Rattle.model.specs.Bytes.{Bytes}
 use Rattle.model.specs.Bucket as rules
 use Rattle.model.specs.Table.{Answer}
 use Rattle.model.specs.Call.{Call, KeyCall}
 use Rattle.model.specs.Layout.{table_of}
 use Rattle.on_key.proofs.OneKey.{refused_early, answers_self}
-use Rattle.on_key.proofs.Steps.{timely, stepped}
+use Rattle.on_key.proofs.Steps.{stepped}
 use Rattle.on_key.proofs.Ended.{refused_exit, refused_size, own_formed, ends_full, ends}
 use Rattle.on_key.proofs.Endings.{no_own}
-use Rattle.on_key.proofs.InPlace.{formed_in, none_here, did, in_place_at}
+use Rattle.on_key.proofs.InPlace.{ranged_is, formed_in, none_here, did, in_place_at}
+use Rattle.held.specs.Held.{Quiet}
 use Rattle.table.proofs.remove.Goals as goal
 
 pub returns-in_err-s : goal.returns-in_err-s
@@ -31,7 +32,7 @@ returns-in_default c =
 pub remove-requires : goal.remove-requires
 remove-requires c =
     let y = rw c.in-Some.is at c.in_ok-k.ensures in
-    c.is_quiet.ensures _ _ (formed_in y.ready) c.if-is_quiet.true
+    subst Quiet (ranged_is _ _ c.bucket.ensures) (c.is_quiet.ensures _ _ (formed_in _ _ c.bucket.ensures y.ready) c.if-is_quiet.true)
 
 -- in place
 pub returns-then-is_quiet : goal.returns-then-is_quiet
@@ -42,23 +43,11 @@ returns-then-is_quiet c =
     let s = c.in_ok-s.s.now in
     let call = KeyCall.remove c.args.time in
     let F = λ (u : rules.BucketSettings) (n : ℕ) (b : rules.Bucket). rules.remove u c.args.time n b in
-    let q = c.is_quiet.ensures _ _ (formed_in y.ready) c.if-is_quiet.true in
+    let q = c.is_quiet.ensures _ _ (formed_in _ _ c.bucket.ensures y.ready) c.if-is_quiet.true in
     let x = c.remove.ensures (table_of s).settings.bucket c.args.time in
     rw (← w.same)
-    (in_place_at s c.args.key.now call y (own_formed s c.args.key.now call y refl) refl (rw (← w.same) at h) (none_here y.ready q.pending) F
-    (did y F refl x.answers x.leaves (omega (arith, q.size, c.remove.auto.bucket))) Answer.Remove c.args.time refl refl)
-
-pub apply_at-applied-requires-clause-timely : goal.apply_at-applied-requires-clause-timely
-apply_at-applied-requires-clause-timely c =
-    let y = rw c.in-Some.is at c.in_ok-k.ensures in
-    timely c.in_ok-s.s.now c.args.key.now true c.args.time y.passed
-
-pub remove_sound-step-requires-clause-pending_timeout_bound :
-    goal.remove_sound-step-requires-clause-pending_timeout_bound
-remove_sound-step-requires-clause-pending_timeout_bound c =
-    let y = rw c.in-Some.is at c.in_ok-k.ensures in
-    let t = timely c.in_ok-s.s.now c.args.key.now true c.args.time y.passed in
-    omega (arith, ap (λ (u : rules.BucketSettings). u.pending_timeout) c.apply_at-applied.ensures.bucket.settings)
+    (in_place_at s c.args.key.now call y (own_formed s c.args.key.now call y refl) refl (rw (← w.same) at h) (none_here _ _ c.bucket.ensures q.pending) F
+    (did y F refl x.answers x.leaves c.remove.auto.bucket) Answer.Remove c.args.time refl refl)
 
 pub returns-in_err-finish : goal.returns-in_err-finish
 returns-in_err-finish c =
@@ -77,6 +66,6 @@ returns c =
     let s = c.in_ok-s.s.now in
     let call = KeyCall.remove c.args.time in
     let F = λ (u : rules.BucketSettings) (n : ℕ) (b : rules.Bucket). rules.remove u c.args.time n b in
-    let z = stepped c.apply_at-applied.ensures.bucket F y.key_is c.remove_sound-step.ensures.result_value c.remove_sound-step.ensures.becomes in
+    let z = stepped c.apply_at-applied.ensures.bucket F y.key_is c.remove-step.ensures.result_value c.remove-step.ensures.becomes in
     rw (← w.same)
     (ends s c.args.key.now call y (own_formed s c.args.key.now call y refl) refl c.in_ok-finish.ensures (no_own c.apply_at-applied.ensures.records) (ap Answer.Remove z.answer) z.bucket)

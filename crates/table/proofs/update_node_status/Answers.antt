@@ -1,14 +1,15 @@
-use Rattle.std.proofs.Common.{ℕ, refl, ap, arith}
+use Rattle.std.proofs.Common.{ℕ, refl, ap, subst}
 use Rattle.model.specs.Bytes.{Bytes}
 use Rattle.model.specs.Bucket as rules
 use Rattle.model.specs.Table.{Answer}
 use Rattle.model.specs.Call.{Call, KeyCall, is_one, optional}
 use Rattle.on_key.proofs.Questions.{passed_five}
 use Rattle.on_key.proofs.OneKey.{refused_early, answers_self}
-use Rattle.on_key.proofs.Steps.{timely, status_in_range, stepped}
+use Rattle.on_key.proofs.Steps.{status_in_range, stepped}
 use Rattle.on_key.proofs.Ended.{refused_exit, refused_size, own_formed, ends_full, ends}
 use Rattle.on_key.proofs.Endings.{status_records}
-use Rattle.on_key.proofs.InPlace.{formed_in, none_here, did, in_place_at}
+use Rattle.on_key.proofs.InPlace.{ranged_is, formed_in, none_here, did, in_place_at}
+use Rattle.held.specs.Held.{Quiet}
 use Rattle.table.proofs.update_node_status.Goals as goal
 
 pub returns-in_err-s : goal.returns-in_err-s
@@ -32,15 +33,22 @@ returns-in_default c =
     let y = rw c.in_default.is at c.in_ok-k.ensures in
     rw (← w.same) (answers_self c.in_ok-s.s.now a.key.now (KeyCall.update_node_status a.state a.direction a.time) y.0 refl (rw (← w.same) at h) y.1)
 
-pub update_status-requires-clause-quiet : goal.update_status-requires-clause-quiet
-update_status-requires-clause-quiet c =
+pub invariant_of-status : goal.invariant_of-status
+invariant_of-status c =
     let y = rw c.in-Some.is at c.in_ok-k.ensures in
-    c.is_quiet.ensures _ _ (formed_in y.ready) c.if-is_quiet.true
+    let b = status_in_range _ _ (passed_five _ _ _ _ y.passed).in_range in
+    record { state_bound = b.0; direction_bound = b.1 }
 
-pub update_status-requires-clause-codes : goal.update_status-requires-clause-codes
-update_status-requires-clause-codes c =
+pub invariant_of-status-2 : goal.invariant_of-status-2
+invariant_of-status-2 c =
     let y = rw c.in-Some.is at c.in_ok-k.ensures in
-    status_in_range _ _ (passed_five _ _ _ _ y.passed).in_range
+    let b = status_in_range _ _ (passed_five _ _ _ _ y.passed).in_range in
+    record { state_bound = b.0; direction_bound = b.1 }
+
+pub update_status-requires : goal.update_status-requires
+update_status-requires c =
+    let y = rw c.in-Some.is at c.in_ok-k.ensures in
+    subst Quiet (ranged_is _ _ c.bucket.ensures) (c.is_quiet.ensures _ _ (formed_in _ _ c.bucket.ensures y.ready) c.if-is_quiet.true)
 
 -- in place
 pub returns-then-is_quiet : goal.returns-then-is_quiet
@@ -52,28 +60,11 @@ returns-then-is_quiet c =
     let s = c.in_ok-s.s.now in
     let call = KeyCall.update_node_status a.state a.direction a.time in
     let F = λ (u : rules.BucketSettings) (n : ℕ) (b : rules.Bucket). rules.update_status u n (is_one a.state) (optional a.direction) b in
-    let q = c.is_quiet.ensures _ _ (formed_in y.ready) c.if-is_quiet.true in
+    let q = c.is_quiet.ensures _ _ (formed_in _ _ c.bucket.ensures y.ready) c.if-is_quiet.true in
     let x = c.update_status.ensures in
     rw (← w.same)
-    (in_place_at s a.key.now call y (own_formed s a.key.now call y refl) refl (rw (← w.same) at h) (none_here y.ready q.pending) F
-    (did y F c.settings-settings.ensures.settings x.answers x.leaves (omega (arith, q.size, c.update_status.auto.bucket))) Answer.Update a.time refl refl)
-
-pub apply_at-applied-requires-clause-timely : goal.apply_at-applied-requires-clause-timely
-apply_at-applied-requires-clause-timely c =
-    let y = rw c.in-Some.is at c.in_ok-k.ensures in
-    timely _ _ _ c.args.time y.passed
-
-pub update_status_sound-step-requires-clause-state_bound :
-    goal.update_status_sound-step-requires-clause-state_bound
-update_status_sound-step-requires-clause-state_bound c =
-    let y = rw c.in-Some.is at c.in_ok-k.ensures in
-    (status_in_range _ _ (passed_five _ _ _ _ y.passed).in_range).0
-
-pub update_status_sound-step-requires-clause-direction_bound :
-    goal.update_status_sound-step-requires-clause-direction_bound
-update_status_sound-step-requires-clause-direction_bound c =
-    let y = rw c.in-Some.is at c.in_ok-k.ensures in
-    (status_in_range _ _ (passed_five _ _ _ _ y.passed).in_range).1
+    (in_place_at s a.key.now call y (own_formed s a.key.now call y refl) refl (rw (← w.same) at h) (none_here _ _ c.bucket.ensures q.pending) F
+    (did y F c.settings-settings.ensures.settings x.answers x.leaves c.update_status.auto.bucket) Answer.Update a.time refl refl)
 
 pub returns-in_err-end : goal.returns-in_err-end
 returns-in_err-end c =
@@ -84,8 +75,8 @@ returns-in_err-end c =
     let call = KeyCall.update_node_status a.state a.direction a.time in
     let x = c.apply_at-applied.ensures in
     let F = λ (u : rules.BucketSettings) (n : ℕ) (b : rules.Bucket). rules.update_status u n (is_one a.state) (optional a.direction) b in
-    let z = stepped x.bucket F y.key_is c.update_status_sound-step.ensures.result_value c.update_status_sound-step.ensures.becomes in
-    let r = status_records _ a.time _ _ c.update_status_sound-step.result.bucket x.bucket x.records y.key_is refl (is_one a.state) (optional a.direction) z.bucket in
+    let z = stepped x.bucket F y.key_is c.update_status-step.ensures.result_value c.update_status-step.ensures.becomes in
+    let r = status_records _ a.time _ _ c.update_status-step.result.bucket.bucket x.bucket x.records y.key_is refl (is_one a.state) (optional a.direction) z.bucket in
     rw (← w.same) (refused_exit _ _ _ c.from_residual-in_err-end.ensures.1 (ends_full s a.key.now call y (own_formed s a.key.now call y refl) refl c.in_err-end.ensures r))
 
 pub returns : goal.returns
@@ -97,6 +88,6 @@ returns c =
     let call = KeyCall.update_node_status a.state a.direction a.time in
     let x = c.apply_at-applied.ensures in
     let F = λ (u : rules.BucketSettings) (n : ℕ) (b : rules.Bucket). rules.update_status u n (is_one a.state) (optional a.direction) b in
-    let z = stepped x.bucket F y.key_is c.update_status_sound-step.ensures.result_value c.update_status_sound-step.ensures.becomes in
-    let r = status_records _ a.time _ _ c.update_status_sound-step.result.bucket x.bucket x.records y.key_is refl (is_one a.state) (optional a.direction) z.bucket in
+    let z = stepped x.bucket F y.key_is c.update_status-step.ensures.result_value c.update_status-step.ensures.becomes in
+    let r = status_records _ a.time _ _ c.update_status-step.result.bucket.bucket x.bucket x.records y.key_is refl (is_one a.state) (optional a.direction) z.bucket in
     rw (← w.same) (ends s a.key.now call y (own_formed s a.key.now call y refl) refl c.in_ok-end.ensures r (ap Answer.Update z.answer) z.bucket)

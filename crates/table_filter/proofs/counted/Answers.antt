@@ -19,5 +19,5 @@ loop-j-preserved c =
 
 pub returns : goal.returns
 returns c =
-    let e : c.loop-j.j ≡ get_or c.args.bucket.now 0 0 = omega arith in
+    let e : c.loop-j.j ≡ get_or c.args.held.bucket.now 0 0 = omega (arith, c.args.held.counts) in
     (rw counted_at (c.loop-j.invariant.counted ∙ rw e), omega arith)

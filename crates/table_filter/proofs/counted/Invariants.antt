@@ -5,4 +5,4 @@ use Rattle.table_filter.specs.Counted.{counted_below}
 use Rattle.table_filter.proofs.counted.Given as goal
 
 abbrev pub invariant-loop-j : goal.invariant-loop-j
-invariant-loop-j l = record { few : l.n ≤ l.j; counted : l.n ≡ counted_below (num l.key) (value_of l.value) l.bucket l.j }
+invariant-loop-j l = record { few : l.n ≤ l.j; counted : l.n ≡ counted_below (num l.key) (value_of l.value) l.held.bucket.now l.j }

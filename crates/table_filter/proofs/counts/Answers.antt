@@ -28,6 +28,6 @@ returns-then-not-counts c =
 pub returns : goal.returns
 unfolding part
 returns c =
-    ap not (c.eq.ensures ∙ ap (λ (m : ℕ). same m (num c.args.key)) c.load-held.ensures)
+    ap not (c.eq.ensures ∙ ap (λ (m : ℕ). same m (num c.args.key)) c.load_key-held.ensures)
     ∙ place_by_key (num c.args.key) (value_of c.args.value) c.args.node.now
     (ap (λ w. counts (value_of c.args.value) (value_of w)) (sym c.load_value-other.ensures) ∙ sym c.counts.ensures ∙ c.if-not-counts.false)

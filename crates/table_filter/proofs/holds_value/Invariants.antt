@@ -7,4 +7,4 @@ use Rattle.well_formed.specs.Tests.{node_at}
 use Rattle.table_filter.proofs.holds_value.Given as goal
 
 abbrev pub invariant-loop-j : goal.invariant-loop-j
-invariant-loop-j l = find (num l.key) (tabulate l.j (node_at l.bucket)) ≡ none
+invariant-loop-j l = find (num l.key) (tabulate l.j (node_at l.held.bucket.now)) ≡ none

@@ -32,8 +32,8 @@ pub returns-then-not-bucket_formed_at : goal.returns-then-not-bucket_formed_at
 returns-then-not-bucket_formed_at c =
     (every_formed c.args.s.now ∙ all_fails num_buckets (bucket_formed_at c.args.s.now) c.loop-i.i (omega arith) (sym c.bucket_formed_at.ensures ∙ c.if-not-bucket_formed_at.true), refl)
 
-pub counted-n-requires : goal.counted-n-requires
-counted-n-requires c =
+pub of-requires : goal.of-requires
+of-requires c =
     let f = own_count c.args.s.now c.loop-i.i (sym c.bucket_formed_at.ensures ∙ c.if-not-bucket_formed_at.false) in
     rw c.bucket.ensures f
 
@@ -42,7 +42,7 @@ loop-i-preserved c =
     let p = counts_other (num c.args.key) (value_of c.args.value) in
     let bs = (table_of c.args.s.now).buckets in
     let more = counted_bucket p bs c.loop-i.i in
-    let here : c.counted-n.result ≡ length (select p (nodes (bs c.loop-i.i))) = rw (table_bucket, ← c.bucket.ensures) c.counted-n.ensures.0 in
+    let here : c.counted-n.result ≡ length (select p (nodes (bs c.loop-i.i))) = rw (table_bucket, ← c.bucket.ensures, ← c.of.ensures) c.counted-n.ensures.0 in
     let passed : bucket_formed_at c.args.s.now c.loop-i.i ≡ true = sym c.bucket_formed_at.ensures ∙ c.if-not-bucket_formed_at.false in
     record { few = omega arith; asked = rw (all_more, c.loop-i.invariant.asked, passed); counted = omega arith }
 

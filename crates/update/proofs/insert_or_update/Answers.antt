@@ -1,23 +1,23 @@
-use Rattle.std.proofs.Common.{ℕ, Bool, not, refl, sym, ap, ◌∙◌, arith}
+use Rattle.std.proofs.Common.{ℕ, Bool, not, refl, sym, ap, ◌∙◌, arith, subst}
 use mir.Val.{bool_byte}
 use Rattle.model.specs.Bytes.{Bytes, number}
 use Rattle.model.specs.Bucket as rules
-use Rattle.model.specs.Table.{EntryKind, Answer, fails_table_filter, insert_or_update_in, kind_of}
+use Rattle.model.specs.Table.{EntryKind, Answer, fails_table_filter, insert_or_update_in}
 use Rattle.model.specs.Session.{hours_questions}
-use Rattle.model.specs.Step.{node_of}
 use Rattle.model.specs.Layout.{table_of}
 use Rattle.model.specs.Call.{Call, KeyCall, value_of, is_one}
 use Rattle.model.specs.Question.{first_failed, is_absent}
 use Rattle.node.specs.Node.{argument_of}
 use Rattle.session.specs.Hours.{hours_of}
 use Rattle.on_key.proofs.OneKey.{suits_all, reads_are, refused_early, refused_read, refused_self, answers_self}
-use Rattle.on_key.proofs.Steps.{timely, stepped}
+use Rattle.on_key.proofs.Steps.{timely, timely_there}
 use Rattle.on_key.proofs.Stored.{room_asked, has_room}
 use Rattle.on_key.proofs.Ended.{refused_exit, refused_size, hours_full, hours_refused, hours_ended, unrecorded_refused, hours_suit}
-use Rattle.on_key.proofs.Endings.{insert_or_update_records}
-use Rattle.on_key.proofs.InPlace.{formed_in, none_here, none_recorded, did, in_place_at}
-use Rattle.entry.proofs.Kind.{kind_self, kind_at, node_codes_lem}
-use Rattle.entry.proofs.InPlace.{known_here}
+use Rattle.on_key.proofs.InPlace.{ranged_is, formed_in, none_here, none_recorded, did, in_place_at}
+use Rattle.held.specs.Held.{Quiet}
+use Rattle.entry.proofs.Kind.{kind_self, node_codes_lem}
+use Rattle.entry.proofs.InPlace.{place_there, known_here}
+use Rattle.update.proofs.Told.{inserted, hours_at}
 use Rattle.update.proofs.insert_or_update.Goals as goal
 
 pub returns-in_err-s : goal.returns-in_err-s
@@ -67,10 +67,10 @@ returns-in_err-fails c =
     let d = rw y.key_is at c.in_err-fails.ensures in
     rw (← w.same) (refused_exit _ _ _ c.from_residual-in_err-fails.ensures.1 (rw d.1 (refused_read s a.key.now call y.passed (reads_are s a.key.now call y.index d.0))))
 
-pub position-pos-requires : goal.position-pos-requires
-position-pos-requires c =
+pub nodes-nodes-requires : goal.nodes-nodes-requires
+nodes-nodes-requires c =
     let y = rw (c.in-Some.is, c.in_range.ensures) at c.in_ok-k.ensures in
-    c.is_quiet.ensures _ _ (formed_in y.ready) c.if-is_quiet.true
+    c.is_quiet.ensures _ _ (formed_in _ _ c.bucket-bucket.ensures y.ready) c.if-is_quiet.true
 
 pub returns-in_err-asked-2 : goal.returns-in_err-asked-2
 returns-in_err-asked-2 c =
@@ -82,29 +82,39 @@ returns-in_err-asked-2 c =
     let y = rw (c.in-Some.is, c.in_range.ensures) at c.in_ok-k.ensures in
     let d = rw y.key_is at c.in_ok-fails.ensures in
     let read = reads_are s a.key.now call y.index d.0 in
-    let q = c.is_quiet.ensures _ _ (formed_in y.ready) c.if-is_quiet.true in
-    let hours = rw c.from.ensures at c.in_err-asked-2.ensures in
-    let known = ap (λ (x : Bool). first_failed (hours_questions (hours_of a.hours) x)) (known_here y q c.position-pos.ensures) in
-    let p = none_recorded call a.key.now (table_of s) c.in-Some.i ((table_of s).buckets c.in-Some.i) (none_here y.ready q.pending) in
-    rw (← w.same) (refused_exit _ _ _ c.from_residual-in_err-asked-2.ensures.1 (unrecorded_refused s a.key.now call y read refl (rw (← w.same) at h) (sym p) (hours ∙ sym known)))
+    let q = c.is_quiet.ensures _ _ (formed_in _ _ c.bucket-bucket.ensures y.ready) c.if-is_quiet.true in
+    let known = ap (λ (x : Bool). first_failed (hours_questions (hours_of a.hours) x)) (known_here y c.bucket-bucket.ensures q c.nodes-nodes.ensures c.nodes-nodes.result.counts c.position-pos.ensures) in
+    let p = none_recorded call a.key.now (table_of s) c.in-Some.i ((table_of s).buckets c.in-Some.i) (none_here _ _ c.bucket-bucket.ensures q.pending) in
+    rw (← w.same)
+    (refused_exit _ _ _ c.from_residual-in_err-asked-2.ensures.1 (unrecorded_refused s a.key.now call y read refl (rw (← w.same) at h) (sym p) (c.in_err-asked-2.ensures ∙ sym known)))
+
+pub invariant_of-now : goal.invariant_of-now
+invariant_of-now c =
+    let y = rw (c.in-Some.is, c.in_range.ensures) at c.in_ok-k.ensures in
+    let t = timely _ _ _ c.args.time y.passed in
+    record { deadline = omega (arith, t, ap (λ (u : rules.BucketSettings). u.pending_timeout) c.settings-settings.ensures.settings) }
+
+pub invariant_of-node : goal.invariant_of-node
+invariant_of-node c =
+    let a = c.args in
+    let y = rw (c.in-Some.is, c.in_range.ensures) at c.in_ok-k.ensures in
+    record { codes = node_codes_lem _ a.key.now (argument_of a.value) a.status.state a.status.direction a.time y.passed }
+
+pub invariant_of-node-2 : goal.invariant_of-node-2
+invariant_of-node-2 c =
+    let a = c.args in
+    let y = rw (c.in-Some.is, c.in_range.ensures) at c.in_ok-k.ensures in
+    record { codes = node_codes_lem _ a.key.now (argument_of a.value) a.status.state a.status.direction a.time y.passed }
 
 pub insert_or_update-requires-clause-quiet : goal.insert_or_update-requires-clause-quiet
 insert_or_update-requires-clause-quiet c =
     let y = rw (c.in-Some.is, c.in_range.ensures) at c.in_ok-k.ensures in
-    c.is_quiet.ensures _ _ (formed_in y.ready) c.if-is_quiet.true
+    subst Quiet (ranged_is _ _ c.bucket-bucket.ensures) (c.is_quiet.ensures _ _ (formed_in _ _ c.bucket-bucket.ensures y.ready) c.if-is_quiet.true)
 
-pub insert_or_update-requires-clause-codes : goal.insert_or_update-requires-clause-codes
-insert_or_update-requires-clause-codes c =
-    let a = c.args in
-    let y = rw (c.in-Some.is, c.in_range.ensures) at c.in_ok-k.ensures in
-    node_codes_lem _ a.key.now (argument_of a.value) a.status.state a.status.direction a.time y.passed
+pub insert_or_update-requires-clause-position : goal.insert_or_update-requires-clause-position
+insert_or_update-requires-clause-position c = sym (place_there _ _ c.bucket-bucket.ensures c.nodes-nodes.ensures c.nodes-nodes.result.counts _ c.position-pos.ensures)
 
-pub insert_or_update-requires-clause-deadline : goal.insert_or_update-requires-clause-deadline
-insert_or_update-requires-clause-deadline c =
-    let y = rw (c.in-Some.is, c.in_range.ensures) at c.in_ok-k.ensures in
-    let t = timely _ _ _ c.args.time y.passed in
-    omega (arith, ap (λ (u : rules.BucketSettings). u.pending_timeout) c.settings-settings.ensures.settings)
-
+-- in place
 pub returns-then-is_quiet : goal.returns-then-is_quiet
 returns-then-is_quiet c =
     let a = c.args in
@@ -115,84 +125,64 @@ returns-then-is_quiet c =
     let y = rw (c.in-Some.is, c.in_range.ensures) at c.in_ok-k.ensures in
     let d = rw y.key_is at c.in_ok-fails.ensures in
     let read = reads_are s a.key.now call y.index d.0 in
-    let q = c.is_quiet.ensures _ _ (formed_in y.ready) c.if-is_quiet.true in
-    let hours = rw c.from.ensures at c.in_ok-asked-2.ensures in
-    let known = ap (λ (x : Bool). first_failed (hours_questions (hours_of a.hours) x)) (known_here y q c.position-pos.ensures) in
+    let q = c.is_quiet.ensures _ _ (formed_in _ _ c.bucket-bucket.ensures y.ready) c.if-is_quiet.true in
+    let known = ap (λ (x : Bool). first_failed (hours_questions (hours_of a.hours) x)) (known_here y c.bucket-bucket.ensures q c.nodes-nodes.ensures c.nodes-nodes.result.counts c.position-pos.ensures) in
     let F = λ (u : rules.BucketSettings) (n : ℕ) (x : rules.Bucket). insert_or_update_in u (fails_table_filter (table_of s) c.in-Some.i (number a.key.now) (value_of (argument_of a.value))) a.time (record { key = n; value = value_of (argument_of a.value); connected = is_one a.status.state; incoming = is_one a.status.direction }) x in
     let x = rw d.1 at c.insert_or_update.ensures in
     rw (← w.same)
-    (in_place_at s a.key.now call y read (hours_suit s a.key.now call y read refl (hours ∙ sym known)) (rw (← w.same) at h) (none_here y.ready q.pending) F
-    (did y F c.settings-settings.ensures.settings x.answers x.leaves (omega (arith, q.size, c.insert_or_update.auto.bucket))) (λ (b : Answer). b) a.time refl refl)
+    (in_place_at s a.key.now call y read (hours_suit s a.key.now call y read refl (c.in_ok-asked-2.ensures ∙ sym known)) (rw (← w.same) at h) (none_here _ _ c.bucket-bucket.ensures q.pending) F
+    (did y F c.settings-settings.ensures.settings x.answers x.leaves c.insert_or_update.auto.bucket) (λ (b : Answer). b) a.time refl refl)
 
-pub apply_at-applied-requires-clause-timely : goal.apply_at-applied-requires-clause-timely
-apply_at-applied-requires-clause-timely c =
+pub insert_or_update_in-step-requires : goal.insert_or_update_in-step-requires
+insert_or_update_in-step-requires c =
     let y = rw (c.in-Some.is, c.in_range.ensures) at c.in_ok-k.ensures in
-    timely _ _ _ c.args.time y.passed
-
-pub insert_or_update_in-step-requires-clause-node_value : goal.insert_or_update_in-step-requires-clause-node_value
-insert_or_update_in-step-requires-clause-node_value c =
-    let a = c.args in
-    let y = rw (c.in-Some.is, c.in_range.ensures) at c.in_ok-k.ensures in
-    node_codes_lem _ a.key.now (argument_of a.value) a.status.state a.status.direction a.time y.passed
-
-pub insert_or_update_in-step-requires-clause-pending_timeout_bound : goal.insert_or_update_in-step-requires-clause-pending_timeout_bound
-insert_or_update_in-step-requires-clause-pending_timeout_bound c =
-    let y = rw (c.in-Some.is, c.in_range.ensures) at c.in_ok-k.ensures in
-    let t = timely _ _ _ c.args.time y.passed in
-    omega (arith, ap (λ (u : rules.BucketSettings). u.pending_timeout) c.apply_at-applied.ensures.bucket.settings)
+    timely_there _ c.args.time c.apply_at-applied.ensures.bucket (timely _ _ _ c.args.time y.passed)
 
 pub returns-in_err-asked_queue : goal.returns-in_err-asked_queue
 returns-in_err-asked_queue c =
     let a = c.args in
     let w = rw c.in_ok-s.ensures.ok_part at c.as_mut_array.ensures.cases in
     let s = c.in_ok-s.s.now in
-    let hs = hours_of a.hours in
-    let call = KeyCall.insert_or_update (argument_of a.value) a.status.state a.status.direction a.time hs in
+    let call = KeyCall.insert_or_update (argument_of a.value) a.status.state a.status.direction a.time (hours_of a.hours) in
     let y = rw (c.in-Some.is, c.in_range.ensures) at c.in_ok-k.ensures in
     let d = rw y.key_is at c.in_ok-fails.ensures in
     let read = reads_are s a.key.now call y.index d.0 in
-    let x = c.apply_at-applied.ensures in
-    let F = λ (u : rules.BucketSettings) (n : ℕ) (x : rules.Bucket). insert_or_update_in u (fails_table_filter (table_of s) c.in-Some.i (number a.key.now) (value_of (argument_of a.value))) a.time (record { key = n; value = value_of (argument_of a.value); connected = is_one a.status.state; incoming = is_one a.status.direction }) x in
-    let z = stepped x.bucket F y.key_is (rw d.1 at c.insert_or_update_in-step.ensures.result_value) (rw d.1 at c.insert_or_update_in-step.ensures.becomes) in
-    let r = insert_or_update_records _ a.time _ _ c.insert_or_update_in-step.result.bucket x.bucket x.records y.key_is c.record_of-record.ensures.result_value (fails_table_filter (table_of s) c.in-Some.i (number a.key.now) (value_of (argument_of a.value))) (node_of a.key.now (argument_of a.value) a.status.state a.status.direction) refl z.bucket in
-    let room = room_asked s c.record_of-record.result (c.from-2.ensures ∙ ap bool_byte c.is_some.ensures) c.in_err-asked_queue.ensures in
-    rw (← w.same) (refused_exit _ _ _ c.from_residual-in_err-asked_queue.ensures.1 (hours_full s a.key.now call y read refl r room))
+    let t =
+    inserted y a.value a.time c.apply_at-applied.ensures d.1 c.record_of-record.ensures a.status.state a.status.direction (hours_of a.hours) c.insert_or_update_in-step.ensures.result_value
+    c.insert_or_update_in-step.ensures.becomes in
+    let room = room_asked s c.record_of-record.result (c.from.ensures ∙ ap bool_byte c.is_some.ensures) c.in_err-asked_queue.ensures in
+    rw (← w.same) (refused_exit _ _ _ c.from_residual-in_err-asked_queue.ensures.1 (hours_full s a.key.now call y read refl t.records room))
 
-pub write_back-requires-clause-applied_value : goal.write_back-requires-clause-applied_value
-write_back-requires-clause-applied_value c = has_room _ (room_asked c.in_ok-s.s.now c.record_of-record.result (c.from-2.ensures ∙ ap bool_byte c.is_some.ensures) c.in_ok-asked_queue.ensures)
+pub write_back-requires-clause-room : goal.write_back-requires-clause-room
+write_back-requires-clause-room c = has_room _ (room_asked c.in_ok-s.s.now c.record_of-record.result (c.from.ensures ∙ ap bool_byte c.is_some.ensures) c.in_ok-asked_queue.ensures)
 
 pub returns-in_err-asked-3 : goal.returns-in_err-asked-3
 returns-in_err-asked-3 c =
     let a = c.args in
     let w = rw c.in_ok-s.ensures.ok_part at c.as_mut_array.ensures.cases in
     let s = c.in_ok-s.s.now in
-    let hs = hours_of a.hours in
-    let call = KeyCall.insert_or_update (argument_of a.value) a.status.state a.status.direction a.time hs in
+    let call = KeyCall.insert_or_update (argument_of a.value) a.status.state a.status.direction a.time (hours_of a.hours) in
     let y = rw (c.in-Some.is, c.in_range.ensures) at c.in_ok-k.ensures in
     let d = rw y.key_is at c.in_ok-fails.ensures in
     let read = reads_are s a.key.now call y.index d.0 in
-    let x = c.apply_at-applied.ensures in
-    let F = λ (u : rules.BucketSettings) (n : ℕ) (x : rules.Bucket). insert_or_update_in u (fails_table_filter (table_of s) c.in-Some.i (number a.key.now) (value_of (argument_of a.value))) a.time (record { key = n; value = value_of (argument_of a.value); connected = is_one a.status.state; incoming = is_one a.status.direction }) x in
-    let z = stepped x.bucket F y.key_is (rw d.1 at c.insert_or_update_in-step.ensures.result_value) (rw d.1 at c.insert_or_update_in-step.ensures.becomes) in
-    let r = insert_or_update_records _ a.time _ _ c.insert_or_update_in-step.result.bucket x.bucket x.records y.key_is c.record_of-record.ensures.result_value (fails_table_filter (table_of s) c.in-Some.i (number a.key.now) (value_of (argument_of a.value))) (node_of a.key.now (argument_of a.value) a.status.state a.status.direction) refl z.bucket in
-    let room = room_asked s c.record_of-record.result (c.from-2.ensures ∙ ap bool_byte c.is_some.ensures) c.in_ok-asked_queue.ensures in
-    let hours = ap (λ (x : EntryKind). first_failed (hours_questions hs (not (is_absent x)))) (kind_at s a.key.now c.in-Some.i y.index ∙ ap (λ (n : ℕ). kind_of n ((table_of s).buckets c.in-Some.i)) (sym y.key_is)) in
-    rw (← w.same) (refused_exit _ _ _ c.from_residual-in_err-asked-3.ensures.1 (hours_refused s a.key.now call y read refl r room (c.in_err-asked-3.ensures ∙ sym hours)))
+    let t =
+    inserted y a.value a.time c.apply_at-applied.ensures d.1 c.record_of-record.ensures a.status.state a.status.direction (hours_of a.hours) c.insert_or_update_in-step.ensures.result_value
+    c.insert_or_update_in-step.ensures.becomes in
+    let room = room_asked s c.record_of-record.result (c.from.ensures ∙ ap bool_byte c.is_some.ensures) c.in_ok-asked_queue.ensures in
+    rw (← w.same)
+    (refused_exit _ _ _ c.from_residual-in_err-asked-3.ensures.1 (hours_refused s a.key.now call y read refl t.records room (c.in_err-asked-3.ensures ∙ sym (hours_at y (hours_of a.hours)))))
 
 pub returns : goal.returns
 returns c =
     let a = c.args in
     let w = rw c.in_ok-s.ensures.ok_part at c.as_mut_array.ensures.cases in
     let s = c.in_ok-s.s.now in
-    let hs = hours_of a.hours in
-    let call = KeyCall.insert_or_update (argument_of a.value) a.status.state a.status.direction a.time hs in
+    let call = KeyCall.insert_or_update (argument_of a.value) a.status.state a.status.direction a.time (hours_of a.hours) in
     let y = rw (c.in-Some.is, c.in_range.ensures) at c.in_ok-k.ensures in
     let d = rw y.key_is at c.in_ok-fails.ensures in
     let read = reads_are s a.key.now call y.index d.0 in
-    let x = c.apply_at-applied.ensures in
-    let F = λ (u : rules.BucketSettings) (n : ℕ) (x : rules.Bucket). insert_or_update_in u (fails_table_filter (table_of s) c.in-Some.i (number a.key.now) (value_of (argument_of a.value))) a.time (record { key = n; value = value_of (argument_of a.value); connected = is_one a.status.state; incoming = is_one a.status.direction }) x in
-    let z = stepped x.bucket F y.key_is (rw d.1 at c.insert_or_update_in-step.ensures.result_value) (rw d.1 at c.insert_or_update_in-step.ensures.becomes) in
-    let r = insert_or_update_records _ a.time _ _ c.insert_or_update_in-step.result.bucket x.bucket x.records y.key_is c.record_of-record.ensures.result_value (fails_table_filter (table_of s) c.in-Some.i (number a.key.now) (value_of (argument_of a.value))) (node_of a.key.now (argument_of a.value) a.status.state a.status.direction) refl z.bucket in
-    let room = room_asked s c.record_of-record.result (c.from-2.ensures ∙ ap bool_byte c.is_some.ensures) c.in_ok-asked_queue.ensures in
-    let hours = ap (λ (x : EntryKind). first_failed (hours_questions hs (not (is_absent x)))) (kind_at s a.key.now c.in-Some.i y.index ∙ ap (λ (n : ℕ). kind_of n ((table_of s).buckets c.in-Some.i)) (sym y.key_is)) in
-    rw (← w.same) (hours_ended s a.key.now call y read refl r room (c.in_ok-asked-3.ensures ∙ sym hours) c.write_back.ensures z.answer z.bucket)
+    let t =
+    inserted y a.value a.time c.apply_at-applied.ensures d.1 c.record_of-record.ensures a.status.state a.status.direction (hours_of a.hours) c.insert_or_update_in-step.ensures.result_value
+    c.insert_or_update_in-step.ensures.becomes in
+    let room = room_asked s c.record_of-record.result (c.from.ensures ∙ ap bool_byte c.is_some.ensures) c.in_ok-asked_queue.ensures in
+    rw (← w.same) (hours_ended s a.key.now call y read refl t.records room (c.in_ok-asked-3.ensures ∙ sym (hours_at y (hours_of a.hours))) c.write_back.ensures t.answer t.bucket)

@@ -1,4 +1,4 @@
-use Rattle.std.proofs.Common.{ℕ, leb, refl, ap, arith}
+use Rattle.std.proofs.Common.{ℕ, leb, refl, subst}
 use borrow.Author.Tests.{leb-true}
 use Rattle.model.specs.Bytes.{Bytes, number}
 use Rattle.model.specs.Bucket as rules
@@ -10,10 +10,10 @@ use Rattle.laws.proofs.Tests.{and_left, and_right}
 use Rattle.node.specs.Node.{argument_of}
 use Rattle.on_key.proofs.Questions.{passed_five}
 use Rattle.on_key.proofs.OneKey.{reads_are, refused_early, refused_read, answers_self}
-use Rattle.on_key.proofs.Steps.{timely, stepped}
 use Rattle.on_key.proofs.Ended.{refused_exit, refused_size, ends_full, ends}
-use Rattle.on_key.proofs.Endings.{update_records}
-use Rattle.on_key.proofs.InPlace.{formed_in, none_here, did, in_place_at}
+use Rattle.on_key.proofs.InPlace.{ranged_is, formed_in, none_here, did, in_place_at}
+use Rattle.held.specs.Held.{Quiet}
+use Rattle.update.proofs.Told.{updated}
 use Rattle.update.proofs.update_node.Goals as goal
 
 pub returns-in_err-s : goal.returns-in_err-s
@@ -48,16 +48,25 @@ returns-in_err-fails c =
     let d = rw y.key_is at c.in_err-fails.ensures in
     rw (← w.same) (refused_exit _ _ _ c.from_residual-in_err-fails.ensures.1 (rw d.1 (refused_read s a.key.now call y.passed (reads_are s a.key.now call y.index d.0))))
 
-pub update_node-requires-clause-quiet : goal.update_node-requires-clause-quiet
-update_node-requires-clause-quiet c =
+pub invariant_of-update : goal.invariant_of-update
+invariant_of-update c =
     let y = rw (c.in-Some.is, c.in_range.ensures) at c.in_ok-k.ensures in
-    c.is_quiet.ensures _ _ (formed_in y.ready) c.if-is_quiet.true
+    record { codes = and_left (value_in_range (argument_of c.args.value)) (leb c.args.state 2) (passed_five _ _ _ _ y.passed).in_range }
 
-pub update_node-requires-clause-codes : goal.update_node-requires-clause-codes
-update_node-requires-clause-codes c =
+pub invariant_of-update-then-is_quiet : goal.invariant_of-update-then-is_quiet
+invariant_of-update-then-is_quiet c =
     let y = rw (c.in-Some.is, c.in_range.ensures) at c.in_ok-k.ensures in
-    let e = (passed_five _ _ _ _ y.passed).in_range in
-    (and_left (value_in_range (argument_of c.args.value)) (leb c.args.state 2) e, leb-true _ _ (and_right (value_in_range (argument_of c.args.value)) (leb c.args.state 2) e))
+    record { state_bound = leb-true _ _ (and_right (value_in_range (argument_of c.args.value)) (leb c.args.state 2) (passed_five _ _ _ _ y.passed).in_range) }
+
+pub invariant_of-update-2 : goal.invariant_of-update-2
+invariant_of-update-2 c =
+    let y = rw (c.in-Some.is, c.in_range.ensures) at c.in_ok-k.ensures in
+    record { state_bound = leb-true _ _ (and_right (value_in_range (argument_of c.args.value)) (leb c.args.state 2) (passed_five _ _ _ _ y.passed).in_range) }
+
+pub update_node-requires : goal.update_node-requires
+update_node-requires c =
+    let y = rw (c.in-Some.is, c.in_range.ensures) at c.in_ok-k.ensures in
+    subst Quiet (ranged_is _ _ c.bucket.ensures) (c.is_quiet.ensures _ _ (formed_in _ _ c.bucket.ensures y.ready) c.if-is_quiet.true)
 
 -- in place
 pub returns-then-is_quiet : goal.returns-then-is_quiet
@@ -70,35 +79,12 @@ returns-then-is_quiet c =
     let y = rw (c.in-Some.is, c.in_range.ensures) at c.in_ok-k.ensures in
     let d = rw y.key_is at c.in_ok-fails.ensures in
     let read = reads_are s a.key.now call y.index d.0 in
-    let q = c.is_quiet.ensures _ _ (formed_in y.ready) c.if-is_quiet.true in
+    let q = c.is_quiet.ensures _ _ (formed_in _ _ c.bucket.ensures y.ready) c.if-is_quiet.true in
     let F = λ (u : rules.BucketSettings) (n : ℕ) (x : rules.Bucket). update_node_in u (fails_table_filter (table_of s) c.in-Some.i (number a.key.now) (value_of (argument_of a.value))) a.time n (value_of (argument_of a.value)) (optional a.state) x in
     let x = rw d.1 at c.update_node.ensures a.time in
     rw (← w.same)
-    (in_place_at s a.key.now call y read refl (rw (← w.same) at h) (none_here y.ready q.pending) F
-    (did y F c.settings-settings.ensures.settings x.answers x.leaves (omega (arith, q.size, c.update_node.auto.bucket))) (λ (b : Answer). b) a.time refl refl)
-
-pub apply_at-applied-requires-clause-timely : goal.apply_at-applied-requires-clause-timely
-apply_at-applied-requires-clause-timely c =
-    let y = rw (c.in-Some.is, c.in_range.ensures) at c.in_ok-k.ensures in
-    timely _ _ _ c.args.time y.passed
-
-pub update_node_in-step-requires-clause-value_value : goal.update_node_in-step-requires-clause-value_value
-update_node_in-step-requires-clause-value_value c =
-    let y = rw (c.in-Some.is, c.in_range.ensures) at c.in_ok-k.ensures in
-    let e = (passed_five _ _ _ _ y.passed).in_range in
-    and_left (value_in_range (argument_of c.args.value)) (leb c.args.state 2) e
-
-pub update_node_in-step-requires-clause-state_bound : goal.update_node_in-step-requires-clause-state_bound
-update_node_in-step-requires-clause-state_bound c =
-    let y = rw (c.in-Some.is, c.in_range.ensures) at c.in_ok-k.ensures in
-    let e = (passed_five _ _ _ _ y.passed).in_range in
-    leb-true _ _ (and_right (value_in_range (argument_of c.args.value)) (leb c.args.state 2) e)
-
-pub update_node_in-step-requires-clause-pending_timeout_bound : goal.update_node_in-step-requires-clause-pending_timeout_bound
-update_node_in-step-requires-clause-pending_timeout_bound c =
-    let y = rw (c.in-Some.is, c.in_range.ensures) at c.in_ok-k.ensures in
-    let t = timely _ _ _ c.args.time y.passed in
-    omega (arith, ap (λ (u : rules.BucketSettings). u.pending_timeout) c.apply_at-applied.ensures.bucket.settings)
+    (in_place_at s a.key.now call y read refl (rw (← w.same) at h) (none_here _ _ c.bucket.ensures q.pending) F
+    (did y F c.settings-settings.ensures.settings x.answers x.leaves c.update_node.auto.bucket) (λ (b : Answer). b) a.time refl refl)
 
 pub returns-in_err-end : goal.returns-in_err-end
 returns-in_err-end c =
@@ -109,11 +95,8 @@ returns-in_err-end c =
     let y = rw (c.in-Some.is, c.in_range.ensures) at c.in_ok-k.ensures in
     let d = rw y.key_is at c.in_ok-fails.ensures in
     let read = reads_are s a.key.now call y.index d.0 in
-    let x = c.apply_at-applied.ensures in
-    let F = λ (u : rules.BucketSettings) (n : ℕ) (x : rules.Bucket). update_node_in u (fails_table_filter (table_of s) c.in-Some.i (number a.key.now) (value_of (argument_of a.value))) a.time n (value_of (argument_of a.value)) (optional a.state) x in
-    let z = stepped x.bucket F y.key_is (rw d.1 at c.update_node_in-step.ensures.result_value) (rw d.1 at c.update_node_in-step.ensures.becomes) in
-    let r = update_records _ a.time _ _ c.update_node_in-step.result.bucket x.bucket x.records y.key_is refl (fails_table_filter (table_of s) c.in-Some.i (number a.key.now) (value_of (argument_of a.value))) (value_of (argument_of a.value)) (optional a.state) z.bucket in
-    rw (← w.same) (refused_exit _ _ _ c.from_residual-in_err-end.ensures.1 (ends_full s a.key.now call y read refl c.in_err-end.ensures r))
+    let t = updated y a.value a.time c.apply_at-applied.ensures d.1 refl a.state c.update_node_in-step.ensures.result_value c.update_node_in-step.ensures.becomes in
+    rw (← w.same) (refused_exit _ _ _ c.from_residual-in_err-end.ensures.1 (ends_full s a.key.now call y read refl c.in_err-end.ensures t.records))
 
 pub returns : goal.returns
 returns c =
@@ -124,8 +107,5 @@ returns c =
     let y = rw (c.in-Some.is, c.in_range.ensures) at c.in_ok-k.ensures in
     let d = rw y.key_is at c.in_ok-fails.ensures in
     let read = reads_are s a.key.now call y.index d.0 in
-    let x = c.apply_at-applied.ensures in
-    let F = λ (u : rules.BucketSettings) (n : ℕ) (x : rules.Bucket). update_node_in u (fails_table_filter (table_of s) c.in-Some.i (number a.key.now) (value_of (argument_of a.value))) a.time n (value_of (argument_of a.value)) (optional a.state) x in
-    let z = stepped x.bucket F y.key_is (rw d.1 at c.update_node_in-step.ensures.result_value) (rw d.1 at c.update_node_in-step.ensures.becomes) in
-    let r = update_records _ a.time _ _ c.update_node_in-step.result.bucket x.bucket x.records y.key_is refl (fails_table_filter (table_of s) c.in-Some.i (number a.key.now) (value_of (argument_of a.value))) (value_of (argument_of a.value)) (optional a.state) z.bucket in
-    rw (← w.same) (ends s a.key.now call y read refl c.in_ok-end.ensures r z.answer z.bucket)
+    let t = updated y a.value a.time c.apply_at-applied.ensures d.1 refl a.state c.update_node_in-step.ensures.result_value c.update_node_in-step.ensures.becomes in
+    rw (← w.same) (ends s a.key.now call y read refl c.in_ok-end.ensures t.records t.answer t.bucket)

@@ -12,7 +12,7 @@ returns-then-not-is_due c =
     let t = table_of a.s.now in
     let e : apply_pending t.settings.bucket a.time (t.buckets a.i) ≡ (t.buckets a.i, []) = not_due t.settings.bucket a.time (t.buckets a.i) (due_here a.s.now a.time a.i c.bucket.ensures c.is_due.ensures c.if-not-is_due.true) in
     record {
-      count = c.held_at.ensures ∙ ap (λ (r : Bucket × List EndedPending). num_entries r.0) (sym e);
+      count = c.from.ensures ∙ c.size_at.ensures ∙ ap (λ (r : Bucket × List EndedPending). num_entries r.0) (sym e);
       records = search rules;
       placed = search rules;
       one = search rules;

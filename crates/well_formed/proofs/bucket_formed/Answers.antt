@@ -7,4 +7,4 @@ use Rattle.well_formed.proofs.bucket_formed.Goals as goal
 pub returns-then-is_empty : goal.returns-then-is_empty
 returns-then-is_empty c =
     let a = c.args in
-    c.if-is_empty.true ∙ sym (bucket_zero (of_index (num a.local) a.i) a.max_incoming a.bucket.now c.told-bucket (c.is_empty.ensures c.if-is_empty.true))
+    c.if-is_empty.true ∙ sym (bucket_zero (of_index (num a.index.local) a.index.i) a.max_incoming a.bucket.now c.told-bucket (c.is_empty.ensures c.if-is_empty.true))

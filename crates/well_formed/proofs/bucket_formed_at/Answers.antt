@@ -17,5 +17,5 @@ returns-then-is_empty c =
 pub returns : goal.returns
 unfolding part
 returns c =
-    c.parts_formed.ensures ∙ ap (bucket_formed (of_index (num c.load-local.result) c.args.i) c.from-max_incoming.result) c.bucket-bucket.ensures
-    ∙ formed_at c.args.s.now c.args.i c.load-local.ensures c.from-max_incoming.ensures
+    c.parts_formed.ensures ∙ ap (bucket_formed (of_index (num c.load.result) c.args.i) c.from.result) c.bucket-bucket.ensures
+    ∙ formed_at c.args.s.now c.args.i c.load.ensures c.from.ensures

@@ -5,4 +5,4 @@ use Rattle.well_formed.specs.Tests.{node_at}
 use Rattle.well_formed.proofs.incoming_within.Given as goal
 
 abbrev pub invariant-loop-j : goal.invariant-loop-j
-invariant-loop-j l = l.n ≡ length (incoming_nodes (tabulate l.j (node_at l.bucket)))
+invariant-loop-j l = l.n ≡ length (incoming_nodes (tabulate l.j (node_at l.nodes.bucket.now)))

@@ -7,4 +7,4 @@ use Rattle.well_formed.proofs.keys_differ.Given as goal
 -- the last byte of each key before j is marked
 abbrev pub invariant-loop-j : goal.invariant-loop-j
 invariant-loop-j l =
-    (length l.seen ≡ 256) × (l.ok ≡ all_below l.j (differs l.bucket)) × ((k : ℕ) → k < l.j → get_or l.seen (last_at l.bucket k) false ≡ true)
+    (length l.seen ≡ 256) × (l.ok ≡ all_below l.j (differs l.nodes.bucket.now)) × ((k : ℕ) → k < l.j → get_or l.seen (last_at l.nodes.bucket.now k) false ≡ true)

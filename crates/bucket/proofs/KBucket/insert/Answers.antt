@@ -14,13 +14,13 @@ unfolding insert_call
 returns-in-Ok c =
     let b = c.args.self in
     let codes = ap (λ (t : Bool). first_failed (questions b t (some c.args.now))) (sym c.in_range.ensures) in
-    accepted b (first_failed (questions b (node_codes c.args.node) (some c.args.now))) (rules.insert (settings_of b) c.args.now (node_of c.args.node) (bucket_of b)) insert_result_of c.map.result _ _
-    (codes ∙ sym c.in-Ok.ensures.value) c.map.ensures.bucket c.map.ensures.answer c.insert_sound.ensures.result_value c.insert_sound.ensures.becomes
+    accepted b (first_failed (questions b (node_codes c.args.node) (some c.args.now))) (rules.insert (settings_of b) c.args.now (node_of c.args.node) (bucket_of b)) insert_result_of c.answered.result _ _
+    (codes ∙ sym c.in-Ok.ensures.value) c.answered.ensures c.insert.ensures.result_value c.insert.ensures.becomes
 
 pub returns-in-Err : goal.returns-in-Err
 unfolding insert_call
 returns-in-Err c =
     let b = c.args.self in
     let codes = ap (λ (t : Bool). first_failed (questions b t (some c.args.now))) c.in_range.ensures in
-    refused b (first_failed (questions b (node_codes c.args.node) (some c.args.now))) (rules.insert (settings_of b) c.args.now (node_of c.args.node) (bucket_of b)) insert_result_of c.stays.result c.in-Err.refusal
-    (c.in-Err.ensures.value ∙ codes) c.stays.ensures
+    refused b (first_failed (questions b (node_codes c.args.node) (some c.args.now))) (rules.insert (settings_of b) c.args.now (node_of c.args.node) (bucket_of b)) insert_result_of c.refused.result c.in-Err.refusal
+    (c.in-Err.ensures.value ∙ codes) c.refused.ensures

@@ -13,12 +13,12 @@ pub returns-in-Ok : goal.returns-in-Ok
 unfolding remove_call
 returns-in-Ok c =
     let b = c.args.self in
-    accepted b (first_failed (questions b (true) (some c.args.now))) (rules.remove (settings_of b) c.args.now (num c.args.key) (bucket_of b)) (λ (found : Bool). found) c.map.result _ _
-    (sym c.in-Ok.ensures.value) c.map.ensures.bucket c.map.ensures.answer c.remove_sound.ensures.result_value c.remove_sound.ensures.becomes
+    accepted b (first_failed (questions b (true) (some c.args.now))) (rules.remove (settings_of b) c.args.now (num c.args.key) (bucket_of b)) (λ (found : Bool). found) c.answered.result _ _
+    (sym c.in-Ok.ensures.value) c.answered.ensures c.remove.ensures.result_value c.remove.ensures.becomes
 
 pub returns-in-Err : goal.returns-in-Err
 unfolding remove_call
 returns-in-Err c =
     let b = c.args.self in
-    refused b (first_failed (questions b (true) (some c.args.now))) (rules.remove (settings_of b) c.args.now (num c.args.key) (bucket_of b)) (λ (found : Bool). found) c.stays.result c.in-Err.refusal
-    c.in-Err.ensures.value c.stays.ensures
+    refused b (first_failed (questions b (true) (some c.args.now))) (rules.remove (settings_of b) c.args.now (num c.args.key) (bucket_of b)) (λ (found : Bool). found) c.refused.result c.in-Err.refusal
+    c.in-Err.ensures.value c.refused.ensures

@@ -17,7 +17,7 @@ returns-in-Ok c =
     let st = c.args.status in
     let x : Unit {0} × rules.Bucket = (tt, rules.update_pending (is_one st.state) (is_one st.direction) (bucket_of b)) in
     accepted b (first_failed (questions b (leb st.state 1 && leb st.direction 1) none)) x (λ (u : Unit {0}). u) _ _ _
-    (sym c.in-Ok.ensures.value) refl refl refl c.update_pending_sound.ensures
+    (sym c.in-Ok.ensures.value) refl refl c.update_pending.ensures
 
 pub returns-in-Err : goal.returns-in-Err
 unfolding update_pending_call
@@ -25,5 +25,5 @@ returns-in-Err c =
     let b = c.args.self in
     let st = c.args.status in
     let x : Unit {0} × rules.Bucket = (tt, rules.update_pending (is_one st.state) (is_one st.direction) (bucket_of b)) in
-    refused b (first_failed (questions b (leb st.state 1 && leb st.direction 1) none)) x (λ (u : Unit {0}). u) c.stays.result c.in-Err.refusal
-    c.in-Err.ensures.value c.stays.ensures
+    refused b (first_failed (questions b (leb st.state 1 && leb st.direction 1) none)) x (λ (u : Unit {0}). u) c.refused.result c.in-Err.refusal
+    c.in-Err.ensures.value c.refused.ensures

@@ -15,12 +15,12 @@ pub returns-in-Ok : goal.returns-in-Ok
 unfolding update_status_call
 returns-in-Ok c =
     let b = c.args.self in
-    accepted b (first_failed (questions b (leb c.args.state 1 && leb c.args.direction 2) none)) (rules.update_status (settings_of b) (num c.args.key) (is_one c.args.state) (optional c.args.direction) (bucket_of b)) update_result_of c.map.result _ _
-    (sym c.in-Ok.ensures.value) c.map.ensures.bucket c.map.ensures.answer c.update_status_sound.ensures.result_value c.update_status_sound.ensures.becomes
+    accepted b (first_failed (questions b (leb c.args.state 1 && leb c.args.direction 2) none)) (rules.update_status (settings_of b) (num c.args.key) (is_one c.args.state) (optional c.args.direction) (bucket_of b)) update_result_of c.answered.result _ _
+    (sym c.in-Ok.ensures.value) c.answered.ensures c.update_status.ensures.result_value c.update_status.ensures.becomes
 
 pub returns-in-Err : goal.returns-in-Err
 unfolding update_status_call
 returns-in-Err c =
     let b = c.args.self in
-    refused b (first_failed (questions b (leb c.args.state 1 && leb c.args.direction 2) none)) (rules.update_status (settings_of b) (num c.args.key) (is_one c.args.state) (optional c.args.direction) (bucket_of b)) update_result_of c.stays.result c.in-Err.refusal
-    c.in-Err.ensures.value c.stays.ensures
+    refused b (first_failed (questions b (leb c.args.state 1 && leb c.args.direction 2) none)) (rules.update_status (settings_of b) (num c.args.key) (is_one c.args.state) (optional c.args.direction) (bucket_of b)) update_result_of c.refused.result c.in-Err.refusal
+    c.in-Err.ensures.value c.refused.ensures

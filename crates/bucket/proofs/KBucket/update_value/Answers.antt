@@ -16,8 +16,8 @@ returns-in-Ok c =
     let b = c.args.self in
     let codes = ap (λ (t : Bool). first_failed (questions b t none)) (sym c.in_range.ensures) in
     accepted b (first_failed (questions b (value_codes c.args.value) none))
-    (rules.update_value (settings_of b) (num c.args.key) (value_of c.args.value) (bucket_of b)) update_result_of c.map.result _ _
-    (codes ∙ sym c.in-Ok.ensures.value) c.map.ensures.bucket c.map.ensures.answer c.update_value_sound.ensures.result_value c.update_value_sound.ensures.becomes
+    (rules.update_value (settings_of b) (num c.args.key) (value_of c.args.value) (bucket_of b)) update_result_of c.answered.result _ _
+    (codes ∙ sym c.in-Ok.ensures.value) c.answered.ensures c.update_value.ensures.result_value c.update_value.ensures.becomes
 
 pub returns-in-Err : goal.returns-in-Err
 unfolding update_value_call
@@ -25,5 +25,5 @@ returns-in-Err c =
     let b = c.args.self in
     let codes = ap (λ (t : Bool). first_failed (questions b t none)) (c.in_range.ensures) in
     refused b (first_failed (questions b (value_codes c.args.value) none))
-    (rules.update_value (settings_of b) (num c.args.key) (value_of c.args.value) (bucket_of b)) update_result_of c.stays.result c.in-Err.refusal
-    (c.in-Err.ensures.value ∙ codes) c.stays.ensures
+    (rules.update_value (settings_of b) (num c.args.key) (value_of c.args.value) (bucket_of b)) update_result_of c.refused.result c.in-Err.refusal
+    (c.in-Err.ensures.value ∙ codes) c.refused.ensures

@@ -6,5 +6,5 @@ use Rattle.bucket_calls.proofs.stored.store.Goals as goal
 
 pub returns : goal.returns
 returns c =
-    let s = c.requires.1 in
-    put_mid_splice c.args.s.now 0 810 c.store.ensures (length_bucket (bucket_of c.args.b) (rw (← count_of c.args.b s) s.few))
+    let b = c.args.b.now in
+    put_mid_splice c.args.s.now 0 810 c.store.ensures (length_bucket (bucket_of b.bucket) (rw (← count_of b.bucket b.sound) b.sound.few))

@@ -1,12 +1,16 @@
 use Rattle.std.proofs.Common.{◌-◌, sym}
 use Rattle.model.specs.Layout.{table_of}
+use Rattle.laws.proofs.Touched.{distance_of}
 use Rattle.items.specs.Shape.{size_by}
-use Rattle.distances.proofs.Passes.{ready_of}
+use Rattle.distances.proofs.Passes.{formed_of}
 use Rattle.distances.proofs.Written.{put_nothing, put_bucket_is}
 use Rattle.distances.proofs.pass.put_one.Goals as goal
 
-pub put_bucket-requires-clause-ready : goal.put_bucket-requires-clause-ready
-put_bucket-requires-clause-ready c = ready_of c.args.s.now c.args.d _ (record { size = c.told-s; header = c.requires.header }) (sym c.in-Some.ensures) c.requires.d_value
+pub put_bucket-requires-clause-below : goal.put_bucket-requires-clause-below
+put_bucket-requires-clause-below c = (distance_of c.args.d _ (sym c.in-Some.ensures)).below
+
+pub put_bucket-requires-clause-formed : goal.put_bucket-requires-clause-formed
+put_bucket-requires-clause-formed c = formed_of c.args.s.now c.args.d _ (sym c.in-Some.ensures) c.requires.d_value
 
 pub put_bucket-requires-clause-shape_in_bounds : goal.put_bucket-requires-clause-shape_in_bounds
 unfolding size_by

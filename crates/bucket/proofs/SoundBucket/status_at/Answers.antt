@@ -1,0 +1,46 @@
+use mathlib.Core.Path.{◌≡◌, refl, sym, ap, ◌∙◌, subst}
+use lib.ListN.{get_or}
+use Rattle.model.specs.Bucket as rules
+use Rattle.model.specs.Result.{UpdateResult}
+use Rattle.model.specs.Node as model
+use Rattle.model.specs.Call.{is_one, optional}
+use Rattle.key.specs.Key.{num}
+use Rattle.node.specs.declared.Node.{Node}
+use Rattle.node.specs.Node.{node_of, zero_node, restated}
+use Rattle.node.proofs.Stored.{node_of_restated}
+use Rattle.bucket.specs.Bucket.{bucket_of, settings_of, Becomes, key_at}
+use Rattle.bucket.proofs.Steps.{get_at}
+use Rattle.bucket.proofs.Rules.{status_held}
+use Rattle.bucket.proofs.SoundBucket.status_at.Goals as goal
+use Rattle.bucket.proofs.SoundBucket.status_at.Goals.{After-with_status}
+
+-- the node that is put again
+made : (c : After-with_status) → c.with_status.result.node ≡ restated c.args.status.state c.args.status.direction (get_or c.args.self.now.bucket.nodes c.args.pos zero_node)
+made c = c.with_status.ensures ∙ ap (restated c.args.status.state c.args.status.direction) c.node_at.ensures
+
+pub put_again-requires : goal.put_again-requires
+put_again-requires c =
+    record { pos_lt_count = c.requires; pos_value = ap (λ (n : Node). num n.key) (sym (made (goal.at.put_again-requires c).After-with_status)) }
+
+pub returns : goal.returns
+returns c =
+    let b = c.args.self.now.bucket in
+    let s = settings_of b in
+    let m = bucket_of b in
+    let old = node_of (get_or b.nodes c.args.pos zero_node) in
+    let u = is_one c.args.status.state in
+    let d = optional c.args.status.direction in
+    let new = model.with_status u d old in
+    let is-new : node_of c.with_status.result.node ≡ new =
+    ap node_of (made (goal.at.returns c).After-with_status) ∙ node_of_restated c.args.status.state c.args.status.direction (get_or b.nodes c.args.pos zero_node) in
+    let r = rules.reinsert s new (rules.taken_out new.key u m) in
+    let held = status_held s (key_at b c.args.pos) u d m old r.0 r.1 (get_at b c.args.self.now.sound c.args.pos c.requires) refl in
+    record {
+      result_value =
+          c.put_again.ensures.result_value
+          ∙ ap (λ (n : model.Node). rules.status_result old n (rules.reinsert s n (rules.taken_out n.key n.connected m)).0) is-new
+          ∙ ap (λ (y : UpdateResult × rules.Bucket). y.0) (sym held);
+      becomes =
+          subst (λ (y : UpdateResult × rules.Bucket). Becomes s y.1 c.put_again.result.bucket.bucket) (sym held)
+          (subst (λ (n : model.Node). Becomes s (rules.reinsert s n (rules.taken_out n.key n.connected m)).1 c.put_again.result.bucket.bucket) is-new c.put_again.ensures.becomes);
+    }

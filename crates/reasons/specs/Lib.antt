@@ -1,2 +1,0 @@
--- What the contracts of `reasons` cite beside the model.
-pub mod Reasons

@@ -1,0 +1,2 @@
+-- Laws of the table's calls that give a value.
+pub mod Told
