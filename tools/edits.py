@@ -14,6 +14,7 @@ ITEM = re.compile(
     r'^impl(?:<(?P<generic>[^{]*?)>)? (?P<first>[\w:]+)(?:<(?P<args>(?:[^<>{]|<[^<>]*>)*)>)?(?: for (?P<type>[^{\n]+?))?\s*(?:\{|$)'
     r'|^(?P<indent> *)(?P<public>(?:pub(?:\(crate\))? )?)(?:extern "C" )?fn (?P<name>\w+)', re.M)
 CONSTANT = re.compile(r"^(?:pub(?:\(crate\))? )?const (\w+)\b.*?;$", re.M | re.S)
+ENUM = re.compile(r"^(?:pub(?:\(crate\))? )?enum (\w+) \{.*?^\}$", re.M | re.S)
 # the name of a step of a function, in its proof, stands behind `c.` or is of several words with dashes; a test's fact may have another form
 STEP = re.compile(r"(?:\bc\.\w+(?:-\w+)*|\w+(?:-\w+)+)(?:\.(?:true|false)(?:-raw)?)?")
 TOKEN = re.compile(r"//[^\n]*|--[^\n]*|(?P<string>\"[^\"\n]*\")|(0x[0-9A-Fa-f_]+|[0-9][0-9_]*)|(\w+|[^\w\s])")
@@ -65,6 +66,15 @@ def users_of(crate, constant):
     return users
 
 
+def casters_of(crate, enum):
+    """the methods of an enum whose body is its number, so that the numbers of its variants are theirs"""
+    methods = set()
+    for path in sorted((ROOT / "crates" / crate / "src").glob("*.rt")):
+        text = path.read_text()
+        methods |= {f.name for f in functions_of(crate, f"src/{path.name}") if f"::{enum}::" in f.name and re.search(r"\bself as \w", text[f.body : f.end])}
+    return methods
+
+
 def is_internal(before):
     """does the comment at the end of this text say Internal?"""
     for line in reversed(before.splitlines()):
@@ -95,7 +105,8 @@ class Edit:
         return path.read_text() if path.is_file() else ""
 
     def changed(self, body=False):
-        """the functions that an edit of code changes, by their text or by their body alone; of a constant: those that name it"""
+        """the functions that an edit of code changes, by their text or by their body alone; of a constant: those that name it; of an enum's
+        numbers: those that answer them"""
         names = set()
         for file, old, _ in self.of_code():
             at = self.text(file).find(old)
@@ -105,6 +116,9 @@ class Edit:
             for constant in CONSTANT.finditer(self.text(file)):
                 if constant.start() <= at and at + len(old) <= constant.end():
                     names |= users_of(self.crate, constant[1])
+            for enum in ENUM.finditer(self.text(file)):
+                if enum.start() <= at and at + len(old) <= enum.end():
+                    names |= casters_of(self.crate, enum[1])
         return names
 
     def of_bodies(self):

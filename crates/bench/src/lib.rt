@@ -41,7 +41,7 @@ pub extern "C" fn bench_insert_sound(rounds: u64) -> u64
     ensures { result ≤ rounds }
 {
     let start = four_held();
-    if !start.is_sound() || 60000 < start.pending_timeout {
+    if !start.is_sound() || 60000 < start.settings.pending_timeout {
         return 0;
     }
     let mut seen: u64 = 0;

@@ -13,8 +13,7 @@ use borrow.Author.Tests.{ltb-true, ltb-false, ne_eqb, eq-eqb}
 use native.Mathlib.Omega.{arith}
 use Rattle.model.specs.Base.{same, is_some, every}
 use Rattle.model.specs.Node as model
-use Rattle.model.specs.Call.{is_one, optional}
-use Rattle.model.specs.Bucket.{Bucket, max_nodes_per_bucket, nodes, holds, incoming_nodes, with_pending, update_if_pending, pending_with_status, update_pending}
+use Rattle.model.specs.Bucket.{Bucket, max_nodes_per_bucket, nodes, holds, incoming_nodes, with_pending, pending_with_status, update_pending}
 use Rattle.model.specs.Fits.{Opt}
 use Rattle.laws.proofs.Tests.{split}
 use Rattle.laws.proofs.KeepLists.{get_nodes}
@@ -25,13 +24,11 @@ use Rattle.places.specs.Places.{position, in_state, different}
 use Rattle.places.proofs.Laws.{before_le}
 use Rattle.places.proofs.Model.{held_is}
 use Rattle.bucket.specs.declared.PendingNode.{PendingNode}
-use Rattle.bucket.specs.declared.EndedPending.{EndedPending}
+use Rattle.bucket.specs.declared.ending.EndedPending.{EndedPending}
 use Rattle.bucket.specs.declared.KBucket.{KBucket}
-use Rattle.bucket.specs.Calls.{update_result_of, records_of}
-use Rattle.bucket.specs.Bucket.{pending_of, held_of, bucket_of, settings_of, stored_pending, pending_fits, pending_sound, sound, Sound, Becomes, repending, changes_pending}
-use Rattle.bucket.specs.declared.UpdateResult.{UpdateResult}
-use Rattle.bucket.specs.declared.Step.{Step}
-use Rattle.bucket.proofs.Sound.{nodes_of, pending_of_lem, formed_of, becomes_itself}
+use Rattle.bucket.specs.Calls.{records_of}
+use Rattle.bucket.specs.Bucket.{pending_of, held_of, bucket_of, settings_of, stored_pending, pending_fits, pending_sound, sound, Sound, Becomes, repending}
+use Rattle.bucket.proofs.Sound.{nodes_of, pending_of_lem, formed_of}
 use Rattle.bucket.proofs.Steps.{pending_becomes, place_of}
 
 -- A step on the pending.
@@ -66,19 +63,6 @@ module _ (b : KBucket) (s : Sound b) (p : PendingNode) (e : b.pending ≡ Some p
       pending_becomes b s (Some (record { node = n; deadline = p.deadline })) (some (record { node = m; deadline = p.deadline }))
       (ap (λ (x : Node). Some (record { node = x; deadline = p.deadline })) q) (ap (λ (x : ℕ). holds x (bucket_of b)) k ∙ pending_apart)
 
--- what the step answers and leaves, where f makes of a stored node what g makes of the model's
-pub pending_step : (b : KBucket) → Sound b → (k : ℕ) (g : model.Node → model.Node) (f : Node → Node → Type 0) → ((n : model.Node) → (g n).key ≡ n.key)
-    → ((n m : Node) → n ≡ stored_node (node_of n) → f n m → m ≡ stored_node (g (node_of n)))
-    → (p : code.Option PendingNode) → b.pending ≡ p → (r : Step KBucket UpdateResult) → changes_pending f k b p r
-    → (update_result_of r.result ≡ (update_if_pending k g (bucket_of b) (pending_of p)).0)
-    × Becomes (settings_of b) (update_if_pending k g (bucket_of b) (pending_of p)).1 r.bucket
-pending_step b s k g f same-key changes None e r h = rw h (refl, becomes_itself b s)
-pending_step b s k g f same-key changes (Some p) e r h =
-    split (same (num p.node.key) k)
-    (λ t. let x = h.1 t in
-    rw (t, x.2) (refl, pending_changed b s p e x.0 (g (node_of p.node)) (same-key (node_of p.node)) (changes p.node x.0 (pending_stored b s p e) x.1)))
-    (λ t. rw (t, h.0 t) (refl, becomes_itself b s))
-
 pub pending_unchanged : (u d : Bool) (b : Bucket) → b.pending ≡ none → update_pending u d b ≡ b
 unfolding update_pending
 pending_unchanged u d b e =
@@ -88,9 +72,6 @@ pub pending_restated : (u d : Bool) (b : Bucket) (q : model.PendingNode) → b.p
     → update_pending u d b ≡ with_pending (some (record { node = model.with_status u (some d) q.node; deadline = q.deadline })) b
 unfolding update_pending
 pending_restated u d b q e = ap (λ (p : Option model.PendingNode). with_pending (pending_with_status u d p) b) e
-
-pub given_direction : (x : ℕ) → x ≤ 1 → optional x ≡ some (is_one x)
-given_direction x h = ap (λ (t : Bool). cond t none (some (eqb x 1))) (ne_eqb x 2 (λ e. omega arith))
 
 -- Question 2 of the pending, place by place.
 
@@ -139,11 +120,11 @@ module _ (b : KBucket) where
     pub passes : leb b.first_connected_pos b.count ≡ true → (d p i w : Bool) → d ≡ different (map node_of (held_of b))
         → p ≡ (every (in_state 0) (take b.first_connected_pos b.nodes)
         && (every (in_state 1) (drop b.first_connected_pos (held_of b)) && every is_zero (drop b.count (take max_nodes_per_bucket b.nodes))))
-        → i ≡ leb (length (incoming_nodes (map node_of (held_of b)))) b.max_incoming → w ≡ pending_sound (bucket_of b) b.pending
-        → (d && (p && (i && (w && (leb b.max_incoming max_nodes_per_bucket && leb b.filter 1))))) ≡ sound b
+        → i ≡ leb (length (incoming_nodes (map node_of (held_of b)))) b.settings.max_incoming → w ≡ pending_sound (bucket_of b) b.pending
+        → (d && (p && (i && (w && (leb b.settings.max_incoming max_nodes_per_bucket && leb b.settings.filter 1))))) ≡ sound b
     unfolding sound
     passes e₂ d p i w ed ep ei ew =
         rw (ed, ep, ei, ew, e₁, e₂)
         (in_turn (different (map node_of (held_of b))) (every (in_state 0) (take b.first_connected_pos b.nodes))
-        (every (in_state 1) (drop b.first_connected_pos (held_of b))) (leb (length (incoming_nodes (map node_of (held_of b)))) b.max_incoming)
-        (pending_sound (bucket_of b) b.pending) (every is_zero (drop b.count (take max_nodes_per_bucket b.nodes))) (leb b.max_incoming max_nodes_per_bucket && leb b.filter 1))
+        (every (in_state 1) (drop b.first_connected_pos (held_of b))) (leb (length (incoming_nodes (map node_of (held_of b)))) b.settings.max_incoming)
+        (pending_sound (bucket_of b) b.pending) (every is_zero (drop b.count (take max_nodes_per_bucket b.nodes))) (leb b.settings.max_incoming max_nodes_per_bucket && leb b.settings.filter 1))

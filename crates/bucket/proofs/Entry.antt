@@ -9,7 +9,7 @@ use Rattle.node.specs.declared.Refusal.{Refusal}
 use Rattle.node.specs.Refusal.{number_of, reply_of}
 use Rattle.bucket.specs.declared.KBucket.{KBucket}
 use Rattle.bucket.specs.declared.Step.{Step}
-use Rattle.bucket.specs.Bucket.{settings_of, Becomes}
+use Rattle.bucket.specs.Bucket.{settings_of, Does}
 use Rattle.bucket.specs.Calls.{answered}
 use Rattle.bucket.proofs.Sound.{becomes_stored}
 
@@ -22,6 +22,5 @@ module _ {A B : Type 0} (b : KBucket) (o : Option ℕ) (x : B × Bucket) (f : A 
   refused r e h = rw (sym e, h) refl
 
   -- no question failed: what the rule answers, and what is stored of the bucket that it leaves
-  pub accepted : (a : A) (r : KBucket) → o ≡ none → s ≡ record { bucket = r; result = Ok a } → f a ≡ x.0 → Becomes (settings_of b) x.1 r
-      → answered b o x ≡ (reply_of f s.result, s.bucket)
-  accepted a r n h e y = rw (n, h) (pairs (ap Reply.Answered (sym e)) (sym (becomes_stored y)))
+  pub accepted : (a : A) (r : KBucket) → o ≡ none → s ≡ record { bucket = r; result = Ok a } → Does (settings_of b) x (f a) r → answered b o x ≡ (reply_of f s.result, s.bucket)
+  accepted a r n h d = rw (n, h) (pairs (ap Reply.Answered (sym d.result_value)) (sym (becomes_stored d.becomes)))

@@ -18,7 +18,6 @@ use Rattle.model.specs.Fits.{All, Opt, Different, Formed}
 use Rattle.laws.proofs.KeepFormed.{count_nodes}
 use Rattle.key.specs.Key.{num, Words}
 use Rattle.node.specs.declared.Node.{Node}
-use Rattle.model.specs.Layout.{flag_byte}
 use Rattle.laws.proofs.NodeFormed.{flag_back}
 use Rattle.node.specs.Node.{node_of, node_codes, is_zero, stored_node, zero_node}
 use Rattle.node.proofs.Tests.{and_both}
@@ -28,6 +27,7 @@ use Rattle.places.proofs.Model.{map_take, map_drop, all_of_every, all_of_map, di
 use Rattle.bucket.specs.declared.PendingNode.{PendingNode}
 use Rattle.bucket.specs.declared.KBucket.{KBucket}
 use Rattle.bucket.specs.Bucket as specs
+use Rattle.bucket.specs.Settings.{stored_settings}
 use Rattle.bucket.specs.Bucket.{pending_of, held_of, bucket_of, settings_of, stored_pending, stored, pending_sound, PendingWords, sound, Sound, Becomes}
 use Rattle.bucket.proofs.Stored.{same_parts, bucket_stored, settings_stored, sound_stored}
 use Rattle.laws.proofs.All.{all_map, all_append}
@@ -39,11 +39,11 @@ pub record Passed (b : KBucket) : Type 0 where
   pub different_keys : different (map node_of (held_of b)) ≡ true
   pub disconnected_first : every (in_state 0) (take b.first_connected_pos b.nodes) ≡ true
   pub then_connected : every (in_state 1) (drop b.first_connected_pos (held_of b)) ≡ true
-  pub incoming_within : leb (length (incoming_nodes (map node_of (held_of b)))) b.max_incoming ≡ true
+  pub incoming_within : leb (length (incoming_nodes (map node_of (held_of b)))) b.settings.max_incoming ≡ true
   pub pending_fits : pending_sound (bucket_of b) b.pending ≡ true
   pub unused_zero : every is_zero (drop b.count (take max_nodes_per_bucket b.nodes)) ≡ true
-  pub maximum : leb b.max_incoming max_nodes_per_bucket ≡ true
-  pub filter_code : leb b.filter 1 ≡ true
+  pub maximum : leb b.settings.max_incoming max_nodes_per_bucket ≡ true
+  pub filter_code : leb b.settings.filter 1 ≡ true
 
 pub passed : (b : KBucket) → sound b ≡ true → Passed b
 unfolding sound
@@ -106,8 +106,8 @@ module _ (b : KBucket) (s : Sound b) where
   pub pending_of_lem : b.pending ≡ stored_pending (bucket_of b).pending
   pending_of_lem = ap (λ (k : KBucket). k.pending) s.exact
 
-  pub filter_of : b.filter ≡ flag_byte (settings_of b).filter
-  filter_of = ap (λ (k : KBucket). k.filter) s.exact
+  pub kept_settings : b.settings ≡ stored_settings (settings_of b)
+  kept_settings = ap (λ (k : KBucket). k.settings) s.exact
 
   pub held_count : length (held_of b) ≡ b.count
   held_count = sym (length-map (held_of b) node_of) ∙ ap length (sym (nodes_of b)) ∙ sym (count_nodes (bucket_of b)) ∙ sym count_of
@@ -115,10 +115,10 @@ module _ (b : KBucket) (s : Sound b) where
   pub first≤count : b.first_connected_pos ≤ b.count
   first≤count = leb-true b.first_connected_pos b.count (passed b s.test).first_within
 
-  pub maximum_of : b.max_incoming ≤ max_nodes_per_bucket
-  maximum_of = leb-true b.max_incoming max_nodes_per_bucket (passed b s.test).maximum
+  pub maximum_of : b.settings.max_incoming ≤ max_nodes_per_bucket
+  maximum_of = leb-true b.settings.max_incoming max_nodes_per_bucket (passed b s.test).maximum
 
-  pub formed_of : Formed b.max_incoming (bucket_of b)
+  pub formed_of : Formed b.settings.max_incoming (bucket_of b)
   formed_of =
       let t = passed b s.test in
       record {
@@ -135,8 +135,8 @@ module _ (b : KBucket) (s : Sound b) where
             (all_map (λ (n : Node). in_state 1 n ≡ true) (λ (n : Node). (node_of n).connected ≡ true) on (drop b.first_connected_pos (held_of b))
             (all_of_every (in_state 1) (drop b.first_connected_pos (held_of b)) t.then_connected)));
         incoming_within =
-            subst (λ (ns : List model.Node). length (incoming_nodes ns) ≤ b.max_incoming) (sym (nodes_of b))
-            (leb-true (length (incoming_nodes (map node_of (held_of b)))) b.max_incoming t.incoming_within);
+            subst (λ (ns : List model.Node). length (incoming_nodes ns) ≤ b.settings.max_incoming) (sym (nodes_of b))
+            (leb-true (length (incoming_nodes (map node_of (held_of b)))) b.settings.max_incoming t.incoming_within);
         pending_apart = apart (bucket_of b) b.pending t.pending_fits;
       }
 
@@ -243,5 +243,5 @@ module _ (b : KBucket) (e : sound b ≡ true) (len : length b.nodes ≡ max_node
             same_parts places_there
             (sym held_long ∙ sym (length-map (held_of b) node_of) ∙ ap length (sym (nodes_of b)) ∙ sym (count_nodes (bucket_of b)))
             (sym (length-take-le f (map node_of (held_of b)) (omega (arith, length-map (held_of b) node_of, held_long, leb-true f b.count t.first_within))))
-            (pending_there (bucket_of b) b.pending w₃ t.pending_fits) refl refl (sym (flag_back b.filter t.filter_code));
+            (pending_there (bucket_of b) b.pending w₃ t.pending_fits) (ap (λ (f : ℕ). record { pending_timeout = b.settings.pending_timeout; max_incoming = b.settings.max_incoming; filter = f }) (sym (flag_back b.settings.filter t.filter_code)));
       }

@@ -32,35 +32,31 @@ use Rattle.node.proofs.Stored.{stored_node_of, stored_revalued}
 use Rattle.places.specs.Places.{position, insert_at, remove_at, padded}
 use Rattle.places.proofs.Moves.{remove_at_length}
 use Rattle.places.proofs.Padded.{padded_insert, padded_remove}
-use Rattle.places.proofs.Model.{before_map, map_insert_at, map_remove_at, map_set, revalue_at, place, held_is, find_held, find_absent, first_is, own_place, found_key, omit_at, omit_front, put_connected, put_disconnected}
+use Rattle.places.proofs.Model.{before_map, map_insert_at, map_remove_at, map_set, revalue_at, place, find_held, find_absent, first_is, own_place, found_key, omit_at, omit_front, put_connected, put_disconnected}
 use Rattle.bucket.specs.declared.PendingNode.{PendingNode}
 use Rattle.bucket.specs.declared.KBucket.{KBucket}
-use Rattle.bucket.specs.Bucket.{pending_of, held_of, key_at, bucket_of, settings_of, stored_pending, stored, Sound, Becomes, cleared_pending, repending}
+use Rattle.bucket.specs.Bucket.{pending_of, held_of, key_at, bucket_of, settings_of, stored_pending, stored, Sound, Becomes, Does, records_first, cleared_pending, repending}
 use Rattle.bucket.proofs.Rules.{Open}
 use Rattle.bucket.proofs.Stored.{same_parts}
-use Rattle.bucket.proofs.Sound.{nodes_of, count_of, first_of, places_of, pending_of_lem, filter_of, held_count, first≤count, maximum_of, formed_of, becomes}
+use Rattle.bucket.proofs.Sound.{nodes_of, count_of, first_of, places_of, pending_of_lem, kept_settings, held_count, first≤count, maximum_of, formed_of, becomes}
 
 -- other nodes, places and pending, under the settings of b
 abbrev pub renewed : List Node → ℕ → ℕ → code.Option PendingNode → KBucket → KBucket
 renewed ns count first p b =
-    record { nodes = ns; count = count; first_connected_pos = first; pending = p; pending_timeout = b.pending_timeout; max_incoming = b.max_incoming; filter = b.filter }
+    record { nodes = ns; count = count; first_connected_pos = first; pending = p; settings = b.settings }
 
 -- what a step answers and leaves, where the model's rule is known to be that pair
-pub done : {A : Type 0} (s : BucketSettings) (x : A × Bucket) (a : A) (m : Bucket) (r : KBucket) → x ≡ (a, m) → Becomes s m r → (a ≡ x.0) × Becomes s x.1 r
-done s x a m r e b = (ap (λ y. y.0) (sym e), subst (λ (y : Bucket). Becomes s y r) (ap (λ y. y.1) (sym e)) b)
+pub done : {A : Type 0} {s : BucketSettings} {x : A × Bucket} {a : A} {m : Bucket} {r : KBucket} → x ≡ (a, m) → Becomes s m r → Does s x a r
+done e b = rw e (record { result_value = refl; becomes = b })
 
 -- the same where the step's answer is known by a rule y that the model's rule comes down to
-pub by_rule : {A : Type 0} (s : BucketSettings) (x y : A × Bucket) (a : A) (r : KBucket) → x ≡ y → (a ≡ y.0) × Becomes s y.1 r → (a ≡ x.0) × Becomes s x.1 r
-by_rule s x y a r e h = subst (λ z. (a ≡ z.0) × Becomes s z.1 r) (sym e) h
+pub by_rule : {A : Type 0} {s : BucketSettings} {x y : A × Bucket} {a : A} {r : KBucket} → x ≡ y → Does s y a r → Does s x a r
+by_rule {A} {s} {x} {y} {a} {r} e h = subst (λ (z : A × Bucket). Does s z a r) (sym e) h
 
 -- the same of applying a pending
-pub done_apply : (s : BucketSettings) (x : Bucket × List model.EndedPending) (m : Bucket) (rs : List model.EndedPending) (r : KBucket) → x ≡ (m, rs) → Becomes s m r
-    → (rs ≡ x.1) × Becomes s x.0 r
-done_apply s x m rs r e b = (ap (λ y. y.1) (sym e), subst (λ (y : Bucket). Becomes s y r) (ap (λ y. y.0) (sym e)) b)
-
-pub by_apply : (s : BucketSettings) (x : Bucket × List model.EndedPending) (m : Bucket) (rs rs' : List model.EndedPending) (r : KBucket) → x ≡ (m, rs)
-    → (rs' ≡ rs) × Becomes s m r → (rs' ≡ x.1) × Becomes s x.0 r
-by_apply s x m rs rs' r e h = subst (λ (z : Bucket × List model.EndedPending). (rs' ≡ z.1) × Becomes s z.0 r) (sym e) h
+pub by_apply : {s : BucketSettings} {x y : Bucket × List model.EndedPending} {rs : List model.EndedPending} {r : KBucket} → x ≡ y
+    → Does s (records_first y) rs r → Does s (records_first x) rs r
+by_apply e h = by_rule (ap records_first e) h
 
 -- The place of a key.
 
@@ -69,12 +65,6 @@ place_of k b = ap (place k) (nodes_of b) ∙ before_map (λ (n : model.Node). sa
 
 pub nodes_count : (b : KBucket) → Sound b → length (nodes (bucket_of b)) ≡ b.count
 nodes_count b s = ap length (nodes_of b) ∙ length-map (held_of b) node_of ∙ held_count b s
-
-pub holds_is : (b : KBucket) → Sound b → (k : ℕ) → ltb (position k (held_of b)) b.count ≡ holds k (bucket_of b)
-holds_is b s k =
-    ap (λ (x : ℕ). ltb x b.count) (sym (place_of k b))
-    ∙ ap (ltb (place k (nodes (bucket_of b)))) (sym (nodes_count b s))
-    ∙ sym (ap is_some (get_nodes k (bucket_of b)) ∙ held_is k (nodes (bucket_of b)))
 
 -- The filter and the maximum.
 
@@ -87,7 +77,7 @@ unfolding fails_bucket_filter
 filter_off s v m e = rw e
 
 module _ (b : KBucket) (v : Value) where
-  pub filter_on : eqb b.filter 1 ≡ true → (t : Bool) → t ≡ not (ip_filter_fails max_nodes_per_subnet_bucket (value_of v) (map node_of (held_of b)))
+  pub filter_on : eqb b.settings.filter 1 ≡ true → (t : Bool) → t ≡ not (ip_filter_fails max_nodes_per_subnet_bucket (value_of v) (map node_of (held_of b)))
       → not t ≡ fails_bucket_filter (settings_of b) (value_of v) (bucket_of b)
   unfolding fails_bucket_filter
   filter_on e t q =
@@ -100,9 +90,9 @@ module _ (b : KBucket) (n : model.Node) where
   incoming_not e = rw e
 
   pub incoming_counts : (n.connected && n.incoming) ≡ true → (k : ℕ) → k ≡ length (incoming_nodes (map node_of (held_of b)))
-      → leb b.max_incoming k ≡ is_max_incoming (settings_of b) n (bucket_of b)
+      → leb b.settings.max_incoming k ≡ is_max_incoming (settings_of b) n (bucket_of b)
   unfolding is_max_incoming
-  incoming_counts e k q = rw e (ap (leb b.max_incoming) (q ∙ ap (λ (ns : List model.Node). length (incoming_nodes ns)) (sym (nodes_of b))))
+  incoming_counts e k q = rw e (ap (leb b.settings.max_incoming) (q ∙ ap (λ (ns : List model.Node). length (incoming_nodes ns)) (sym (nodes_of b))))
 
 -- Another pending.
 
@@ -111,7 +101,7 @@ pub pending_becomes : (b : KBucket) → Sound b → (p : code.Option PendingNode
 pending_becomes b s p q e h =
     becomes (settings_of b) (with_pending q (bucket_of b)) (repending p b)
     (ap (repending p) s.exact ∙ ap (λ (x : code.Option PendingNode). repending x (stored (settings_of b) (bucket_of b))) e)
-    (with_pending_formed b.max_incoming q (bucket_of b) (formed_of b s) h) (maximum_of b s)
+    (with_pending_formed b.settings.max_incoming q (bucket_of b) (formed_of b s) h) (maximum_of b s)
 
 cleared_by : (p : PendingNode) (t : Bool) → Some p ≡ stored_pending (pending_of (Some p)) → cond t None (Some p) ≡ stored_pending (cond t none (pending_of (Some p)))
 cleared_by p true e = refl
@@ -145,7 +135,7 @@ module _ (b : KBucket) (s : Sound b) (room : b.count < max_nodes_per_bucket) (n 
   left : p ≡ stored_pending (cleared (num n.key) (pending_of b.pending))
   left = ep ∙ cleared_stored (num n.key) b.pending (pending_of_lem b s)
 
-  keeps : Formed b.max_incoming (placed (node_of n) (bucket_of b))
+  keeps : Formed b.settings.max_incoming (placed (node_of n) (bucket_of b))
   keeps = placed_formed (settings_of b) (node_of n) (bucket_of b) (formed_of b s) new (subst (λ (k : ℕ). k < max_nodes_per_bucket) (count_of b s) room) low
 
   pub placed_connected : (node_of n).connected ≡ true → ns ≡ take max_nodes_per_bucket (insert_at b.count n b.nodes)
@@ -158,7 +148,7 @@ module _ (b : KBucket) (s : Sound b) (room : b.count < max_nodes_per_bucket) (n 
       let f : length ((bucket_of b).disconnected ++ only (not (node_of n).connected) (node_of n)) ≡ length (bucket_of b).disconnected =
       ap (λ (t : Bool). length ((bucket_of b).disconnected ++ only (not t) (node_of n))) on ∙ ap length (append-nil (bucket_of b).disconnected) in
       becomes (settings_of b) (placed (node_of n) (bucket_of b)) _
-      (same_parts (put_nodes b.count (omega arith) e q) more (first_of b s ∙ sym f) left refl refl (filter_of b s)) keeps (maximum_of b s)
+      (same_parts (put_nodes b.count (omega arith) e q) more (first_of b s ∙ sym f) left (kept_settings b s)) keeps (maximum_of b s)
 
   pub placed_disconnected : (node_of n).connected ≡ false → ns ≡ take max_nodes_per_bucket (insert_at b.first_connected_pos n b.nodes)
       → Becomes (settings_of b) (placed (node_of n) (bucket_of b))
@@ -170,7 +160,7 @@ module _ (b : KBucket) (s : Sound b) (room : b.count < max_nodes_per_bucket) (n 
       let f : length ((bucket_of b).disconnected ++ only (not (node_of n).connected) (node_of n)) ≡ length (bucket_of b).disconnected + 1 =
       ap (λ (t : Bool). length ((bucket_of b).disconnected ++ only (not t) (node_of n))) off ∙ length-append (bucket_of b).disconnected (node_of n ∷ []) in
       becomes (settings_of b) (placed (node_of n) (bucket_of b)) _
-      (same_parts (put_nodes b.first_connected_pos (first≤count b s) e q) more (ap (λ (k : ℕ). k + 1) (first_of b s) ∙ sym f) left refl refl (filter_of b s)) keeps (maximum_of b s)
+      (same_parts (put_nodes b.first_connected_pos (first≤count b s) e q) more (ap (λ (k : ℕ). k + 1) (first_of b s) ∙ sym f) left (kept_settings b s)) keeps (maximum_of b s)
 
 -- A node taken out.
 
@@ -203,8 +193,8 @@ module _ (b : KBucket) (s : Sound b) (k : ℕ) (pos : ℕ) (e : pos ≡ position
       ∙ ap (λ (i : ℕ). length (bucket_of b).disconnected - bool_byte (ltb i (length (bucket_of b).disconnected))) (sym at_place)
       ∙ sym (omit_front k (bucket_of b).disconnected (bucket_of b).connected (formed_of b s).different) in
       becomes (settings_of b) (take_out k (bucket_of b)) _
-      (same_parts at_nodes (omega (arith, nodes_count b s)) front (pending_of_lem b s) refl refl (filter_of b s))
-      (take_out_formed b.max_incoming k (bucket_of b) (formed_of b s)) (maximum_of b s)
+      (same_parts at_nodes (omega (arith, nodes_count b s)) front (pending_of_lem b s) (kept_settings b s))
+      (take_out_formed b.settings.max_incoming k (bucket_of b) (formed_of b s)) (maximum_of b s)
 
 -- The node at a place.
 
@@ -267,6 +257,11 @@ module _ {s : BucketSettings} {m : Bucket} {b : KBucket} (x : Becomes s m b) whe
   pub then_becomes : {r : KBucket} (F : BucketSettings → Bucket → Bucket) → Becomes (settings_of b) (F (settings_of b) (bucket_of b)) r → Becomes s (F s m) r
   then_becomes {r} F y = subst (λ (t : BucketSettings). Becomes t (F s m) r) x.settings (subst (λ (n : Bucket). Becomes (settings_of b) n r) (told F) y)
 
+  -- a step on that bucket
+  pub then_does : {A : Type 0} {a : A} {r : KBucket} (F : BucketSettings → Bucket → A × Bucket) → Does (settings_of b) (F (settings_of b) (bucket_of b)) a r → Does s (F s m) a r
+  then_does {A} {a} {r} F d =
+      record { result_value = d.result_value ∙ told (λ (t : BucketSettings) (n : Bucket). (F t n).0); becomes = then_becomes (λ (t : BucketSettings) (n : Bucket). (F t n).1) d.becomes }
+
 -- the bucket that a node which was taken out is put into again, by the test whether its pending goes
 pub put_into : (b : KBucket) → Sound b → (pos : ℕ) → pos < b.count → (u : Bool) {t : Bool} → (u && eqb pos 0) ≡ t → {r : KBucket}
     → Becomes (settings_of b) (with_pending (cond t none (bucket_of b).pending) (take_out (key_at b pos) (bucket_of b))) r
@@ -325,7 +320,7 @@ module _ (b : KBucket) (s : Sound b) (pos : ℕ) (h : pos < b.count) (v : Value)
         pending = (bucket_of b).pending;
       }
 
-  pub revalued_becomes : Formed b.max_incoming changed
+  pub revalued_becomes : Formed b.settings.max_incoming changed
       → Becomes (settings_of b) changed
       (renewed (set b.nodes pos x) b.count b.first_connected_pos b.pending b)
   revalued_becomes w =
@@ -347,4 +342,4 @@ module _ (b : KBucket) (s : Sound b) (pos : ℕ) (h : pos < b.count) (v : Value)
       let l₁ = length_revalue k (value_of v) (bucket_of b).disconnected in
       let l₂ = length_revalue k (value_of v) (bucket_of b).connected in
       becomes (settings_of b) changed _
-      (same_parts at_nodes (count_of b s ∙ omega arith) (first_of b s ∙ sym l₁) (pending_of_lem b s) refl refl (filter_of b s)) w (maximum_of b s)
+      (same_parts at_nodes (count_of b s ∙ omega arith) (first_of b s ∙ sym l₁) (pending_of_lem b s) (kept_settings b s)) w (maximum_of b s)

@@ -27,15 +27,16 @@ use Rattle.places.proofs.Model.{map_take, map_drop, every_of_all, all_of_map, di
 use Rattle.places.proofs.Padded.{padded_held, padded_length}
 use Rattle.bucket.specs.declared.PendingNode.{PendingNode}
 use Rattle.bucket.specs.declared.KBucket.{KBucket}
+use Rattle.bucket.specs.declared.settings.Settings.{Settings}
 use Rattle.bucket.specs.Bucket.{pending_of, held_of, bucket_of, settings_of, stored_pending, stored, pending_sound, sound}
 use Rattle.laws.proofs.All.{all_map}
 
 -- two buckets are equal where their parts are
-pub same_parts : {ns ns' : List Node} {k k' f f' t t' l l' g g' : ℕ} {p p' : code.Option PendingNode} → ns ≡ ns' → k ≡ k' → f ≡ f' → p ≡ p' → t ≡ t' → l ≡ l' → g ≡ g'
+pub same_parts : {ns ns' : List Node} {k k' f f' : ℕ} {p p' : code.Option PendingNode} {s s' : Settings} → ns ≡ ns' → k ≡ k' → f ≡ f' → p ≡ p' → s ≡ s'
     → ◌≡◌ {A = KBucket}
-    (record { nodes = ns; count = k; first_connected_pos = f; pending = p; pending_timeout = t; max_incoming = l; filter = g })
-    (record { nodes = ns'; count = k'; first_connected_pos = f'; pending = p'; pending_timeout = t'; max_incoming = l'; filter = g' })
-same_parts e₁ e₂ e₃ e₄ e₅ e₆ e₇ = cc
+    (record { nodes = ns; count = k; first_connected_pos = f; pending = p; settings = s })
+    (record { nodes = ns'; count = k'; first_connected_pos = f'; pending = p'; settings = s' })
+same_parts e₁ e₂ e₃ e₄ e₅ = cc
 
 same_bucket : {ds ds' cs cs' : List model.Node} {p p' : Option model.PendingNode} → ds ≡ ds' → cs ≡ cs' → p ≡ p'
     → ◌≡◌ {A = Bucket} (record { disconnected = ds; connected = cs; pending = p }) (record { disconnected = ds'; connected = cs'; pending = p' })

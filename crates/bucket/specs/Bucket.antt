@@ -1,21 +1,19 @@
 -- The model's bucket that a KBucket stands for, how a bucket is stored in sixteen places, and question 2 of a bucket by itself.
-use Rattle.std.specs.Prelude.{Some, None, ℕ, ◌≤◌, ◌≡◌, Bool, true, false, cond, not, ◌&&◌, List, map, length, take, drop, get_or, eqb, leb}
+use Rattle.std.specs.Prelude.{Some, None, ℕ, ◌≤◌, ◌<◌, ◌≡◌, Bool, true, false, cond, not, ◌&&◌, List, map, length, take, drop, get_or, eqb, leb}
 use Rattle.std.specs.Prelude as code
 use Rattle.std.proofs.Math.Option.{Option, none, some}
 use Rattle.model.specs.Base.{same, every}
 use Rattle.model.specs.Node as model
-use Rattle.model.specs.Bucket.{Bucket, BucketSettings, max_nodes_per_bucket, nodes, num_entries, holds, incoming_nodes}
+use Rattle.model.specs.Result.{FailureReason, UpdateResult}
+use Rattle.model.specs.Bucket.{Bucket, BucketSettings, max_nodes_per_bucket, nodes, num_entries, get, holds, incoming_nodes, status_result}
 use Rattle.key.specs.Key.{num, Words}
 use Rattle.node.specs.declared.Node.{Node}
-use Rattle.model.specs.Layout.{flag_byte}
 use Rattle.node.specs.Node.{node_of, node_codes, is_zero, stored_node, zero_node}
 use Rattle.places.specs.Places.{padded, position, in_state, different}
 use Rattle.bucket.specs.declared.PendingNode.{PendingNode}
 use Rattle.bucket.specs.declared.KBucket.{KBucket}
-use Rattle.bucket.specs.declared.FailureReason.TheVariants.{KeyNonExistent}
-use Rattle.bucket.specs.declared.UpdateResult.{UpdateResult}
-use Rattle.bucket.specs.declared.UpdateResult.TheVariants.{UpdatedPending, Failed}
-use Rattle.bucket.specs.declared.Step.{Step}
+use Rattle.bucket.specs.Settings as shared
+use Rattle.bucket.specs.Settings.{stored_settings}
 
 abbrev pub pending_of : code.Option PendingNode → Option model.PendingNode
 pending_of None = none
@@ -42,7 +40,7 @@ abbrev pub first_connected : KBucket → Option ℕ
 first_connected b = cond (eqb b.first_connected_pos b.count) none (some b.first_connected_pos)
 
 abbrev pub settings_of : KBucket → BucketSettings
-settings_of b = record { pending_timeout = b.pending_timeout; max_incoming = b.max_incoming; filter = eqb b.filter 1 }
+settings_of b = shared.settings_of b.settings
 
 abbrev pub stored_pending : Option model.PendingNode → code.Option PendingNode
 stored_pending none = None
@@ -56,9 +54,7 @@ stored s b =
       count = num_entries b;
       first_connected_pos = length b.disconnected;
       pending = stored_pending b.pending;
-      pending_timeout = s.pending_timeout;
-      max_incoming = s.max_incoming;
-      filter = flag_byte s.filter;
+      settings = stored_settings s;
     }
 
 -- 01, question 2: a pending not held, codes as in 4
@@ -85,9 +81,9 @@ sound b =
     && (different (map node_of (held_of b))
     && (every (in_state 0) (take b.first_connected_pos b.nodes)
     && (every (in_state 1) (drop b.first_connected_pos (held_of b))
-    && (leb (length (incoming_nodes (map node_of (held_of b)))) b.max_incoming
+    && (leb (length (incoming_nodes (map node_of (held_of b)))) b.settings.max_incoming
     && (pending_sound (bucket_of b) b.pending
-    && (every is_zero (drop b.count (take max_nodes_per_bucket b.nodes)) && (leb b.max_incoming max_nodes_per_bucket && leb b.filter 1))))))))
+    && (every is_zero (drop b.count (take max_nodes_per_bucket b.nodes)) && (leb b.settings.max_incoming max_nodes_per_bucket && leb b.settings.filter 1))))))))
 
 -- a bucket that passes question 2, whose numbers fit their types: it is what is stored of the bucket that it stands for
 pub record Sound (b : KBucket) : Type 0 where
@@ -100,6 +96,24 @@ pub record Becomes (s : BucketSettings) (b : Bucket) (r : KBucket) : Type 0 wher
   pub bucket : bucket_of r ≡ b
   pub settings : settings_of r ≡ s
   pub sound : Sound r
+
+-- the answer of the step x, and the bucket that it leaves, under the settings s
+pub record Does {A : Type 0} (s : BucketSettings) (x : A × Bucket) (answer : A) (r : KBucket) : Type 0 where
+  pub result_value : answer ≡ x.0
+  pub becomes : Becomes s x.1 r
+
+-- applying a pending as a step: its records are the answer
+abbrev pub records_first : Bucket × List model.EndedPending → List model.EndedPending × Bucket
+records_first x = (x.1, x.0)
+
+-- inserting a node again as a step: m as it was before, n as it is now
+abbrev pub stated : model.Node → model.Node → Option FailureReason × Bucket → UpdateResult × Bucket
+stated m n r = (status_result m n r.0, r.1)
+
+-- where the node of key k is: at a place that is held; or nowhere
+abbrev pub Finds : KBucket → ℕ → code.Option ℕ → Type 0
+Finds b k None = get k (bucket_of b) ≡ none
+Finds b k (Some pos) = (pos < b.count) × (key_at b pos ≡ k)
 
 -- the pending, unless it is of this key
 abbrev pub cleared_pending : ℕ → code.Option PendingNode → code.Option PendingNode
@@ -114,15 +128,5 @@ repending p b =
       count = b.count;
       first_connected_pos = b.first_connected_pos;
       pending = p;
-      pending_timeout = b.pending_timeout;
-      max_incoming = b.max_incoming;
-      filter = b.filter;
+      settings = b.settings;
     }
-
--- the step on a pending of key k answers and leaves r; f says what it makes of the node
-abbrev pub changes_pending : (Node → Node → Type 0) → ℕ → KBucket → code.Option PendingNode → Step KBucket UpdateResult → Type 0
-changes_pending f k b None r = r ≡ record { bucket = b; result = Failed KeyNonExistent }
-changes_pending f k b (Some p) r =
-    (same (num p.node.key) k ≡ false → r ≡ record { bucket = b; result = Failed KeyNonExistent })
-    × (same (num p.node.key) k ≡ true
-    → (m : Node) × f p.node m × (r ≡ record { bucket = repending (Some (record { node = m; deadline = p.deadline })) b; result = UpdatedPending }))

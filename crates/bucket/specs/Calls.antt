@@ -18,13 +18,12 @@ use Rattle.bucket.specs.declared.KBucket.{KBucket}
 use Rattle.bucket.specs.declared.InsertResult.{InsertResult}
 use Rattle.bucket.specs.declared.FailureReason.{FailureReason}
 use Rattle.bucket.specs.declared.UpdateResult.{UpdateResult}
-use Rattle.bucket.specs.declared.Ending.{Ending}
-use Rattle.bucket.specs.declared.EndedPending.{EndedPending}
+use Rattle.bucket.specs.declared.ending.EndedPending.{EndedPending}
 use Rattle.bucket.specs.declared.InsertResult.TheVariants as insert_result
 use Rattle.bucket.specs.declared.FailureReason.TheVariants as reason
 use Rattle.bucket.specs.declared.UpdateResult.TheVariants as update-result
-use Rattle.bucket.specs.declared.Ending.TheVariants as ending
 use Rattle.bucket.specs.Bucket.{bucket_of, settings_of, stored, sound}
+use Rattle.bucket.specs.Ending.{ending_of}
 
 -- What the results mean.
 
@@ -51,15 +50,6 @@ update_result_of update-result.UpdatedPending = result.UpdateResult.UpdatedPendi
 update_result_of (update-result.Failed r) = result.UpdateResult.Failed (failure_reason_of r)
 update_result_of update-result.NotModified = result.UpdateResult.NotModified
 
-abbrev pub ending_of : Ending → model.Ending
-ending_of (ending.Placed None) = model.Ending.Placed none
-ending_of (ending.Placed (Some n)) = model.Ending.Placed (some (node_of n.node))
-ending_of ending.FirstConnected = model.Ending.FirstConnected
-ending_of ending.BucketFilter = model.Ending.BucketFilter
-ending_of ending.TooManyIncoming = model.Ending.TooManyIncoming
-ending_of ending.Inserted = model.Ending.Inserted
-ending_of ending.FirstConfirmed = model.Ending.FirstConfirmed
-
 -- the records of ended pendings: one, or none
 abbrev pub records_of : code.Option EndedPending → List model.EndedPending
 records_of None = []
@@ -73,7 +63,7 @@ answered b none r = (Reply.Answered r.0, stored (settings_of b) r.1)
 
 -- question 2, all but the index, 4, and 5
 abbrev pub questions : KBucket → Bool → Option ℕ → List (ℕ × Bool)
-questions b codes now = (2, sound b) ∷ (4, codes) ∷ (5, deadline_fits b.pending_timeout now) ∷ []
+questions b codes now = (2, sound b) ∷ (4, codes) ∷ (5, deadline_fits b.settings.pending_timeout now) ∷ []
 
 unfoldable pub insert_call : KBucket → Node → ℕ → Reply result.BucketInsertResult × KBucket
 insert_call b n now =

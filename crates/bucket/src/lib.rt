@@ -2,25 +2,31 @@
 // the disconnected ones, then the connected ones.
 #![tactic(auto)]
 
-ghost use Rattle.std.specs.Prelude.{◌≡◌, Some, Ok, Err, true, false, cond, ℕ, ◌+◌, ◌≤◌, ◌<◌, ◌^◌, get_or};
+ghost use Rattle.std.specs.Prelude.{◌≡◌, Some, Ok, Err, true, false, cond, ℕ, ◌+◌, ◌≤◌, ◌<◌, ◌^◌, get_or, IfOk};
+ghost use Rattle.std.specs.Option.{is_some};
 ghost use Rattle.std.proofs.Math.Option.{none, some};
 ghost use Rattle.model.specs.Node as ends;
 ghost use Rattle.model.specs.Node.{placed_of, with_status, with_value, same_status};
 ghost use Rattle.model.specs.Bucket.{max_nodes_per_bucket, empty_bucket, holds, fails_bucket_filter, is_max_incoming, with_pending, placed, take_out, taken_out, insert_full, insert, apply_pending, apply_due, reinsert, update_status, update_if_pending, update_value, update_pending, remove, status_result};
-ghost use Rattle.model.specs.Call.{is_one, optional};
+ghost use Rattle.model.specs.Call.{is_one};
 ghost use Rattle.model.specs.Question.{first_failed, deadline_fits};
-ghost use Rattle.model.specs.Layout.{ending_kind};
 ghost use Rattle.key.specs.Key.{num, Words};
 ghost use Rattle.key.specs.Answers.{option_of};
 ghost use Rattle.node.specs.Node.{value_of, node_of, node_codes, zero_node};
+ghost use Rattle.node.specs.Status.{optional_of};
 ghost use Rattle.node.specs.Refusal.{failed_of, reply_of};
-ghost use Rattle.bucket.specs.Bucket.{pending_of, key_at, bucket_of, settings_of, stored, sound, Sound, Becomes, repending, cleared_pending, pending_fits, PendingWords, changes_pending};
-ghost use Rattle.bucket.specs.Calls.{questions, insert_result_of, update_result_of, ending_of, records_of, insert_call, apply_pending_call, update_status_call, update_value_call, update_pending_call, remove_call, new_call};
+ghost use Rattle.bucket.specs.Bucket.{pending_of, held_of, key_at, bucket_of, settings_of, stored, sound, Sound, Becomes, Does, records_first, stated, Finds, repending, cleared_pending, pending_fits, PendingWords};
+ghost use Rattle.bucket.specs.Settings as shared;
+ghost use Rattle.bucket.specs.Calls.{questions, insert_result_of, update_result_of, records_of, insert_call, apply_pending_call, update_status_call, update_value_call, update_pending_call, remove_call, new_call};
 
+mod ending;
 mod settings;
 
+pub use ending::{EndedPending, Ending};
 use key::Key;
-use node::{Code, Node, NodeInRange, NodeStatus, Refusal, StatusUpdate, Value, ValueInRange};
+use node::{
+    Code, Node, NodeInRange, NodeStatus, Refusal, StatusInRange, StatusUpdate, Value, ValueInRange,
+};
 pub use settings::Settings;
 
 // A node that is pending insertion into a full bucket. Without `==`, as all that holds a node: a value has none.
@@ -33,18 +39,15 @@ pub struct PendingNode {
 
 #[derive(Clone, Copy)]
 pub struct KBucket {
-    // The nodes, in the first count places; the others are zero.
+    // The nodes, in the first count places; the others are zero. An array and a count: there is no heap, and a bucket goes in and comes
+    // back by value (01).
     pub nodes: [Node; KBucket::MAX_NODES_PER_BUCKET],
     pub count: usize,
-    // The place of the first connected node, and count where no node is connected.
+    // The place of the first connected node; count where no node is connected, as in the bytes, so that an empty bucket is zero
+    // (docs/DECISIONS.md).
     pub first_connected_pos: usize,
     pub pending: Option<PendingNode>,
-    // How long a new pending waits, in milliseconds.
-    pub pending_timeout: u64,
-    // The maximum of connected incoming nodes.
-    pub max_incoming: usize,
-    // The bucket's IP filter: 0 off, 1 on.
-    pub filter: Code,
+    pub settings: Settings,
 }
 
 // A bucket that passed question 2, all but the index: behind that question each step takes one and answers one.
@@ -87,25 +90,6 @@ pub enum UpdateResult {
     NotModified,
 }
 
-// How a pending ended: placed, with the node that it evicted, if any; dropped because 16 are held and place 0 is connected, by the bucket
-// filter, by the incoming limit; cleared by a direct insert of its key, or because place 0 was confirmed.
-#[derive(Clone, Copy)]
-pub enum Ending {
-    Placed(Option<NodeInRange>),
-    FirstConnected,
-    BucketFilter,
-    TooManyIncoming,
-    Inserted,
-    FirstConfirmed,
-}
-
-// The record of an ended pending.
-#[derive(Clone, Copy)]
-pub struct EndedPending {
-    pub key: Key,
-    pub ending: Ending,
-}
-
 // What a step on a bucket leaves and answers.
 #[derive(Clone, Copy)]
 pub struct Step<B, T> {
@@ -118,6 +102,7 @@ impl KBucket {
     pub const MAX_NODES_PER_BUCKET: usize = model::MAX_NODES_PER_BUCKET;
 
     // How many bytes a bucket by itself takes: count, first connected place, the nodes; pending flag, pending node, deadline; the settings.
+    // The sum of all but the settings stands in storage's Layout too: of the two crates neither uses the other.
     pub const BYTES: usize = 2
         + KBucket::MAX_NODES_PER_BUCKET * Node::BYTES
         + 1
@@ -127,7 +112,7 @@ impl KBucket {
         + 1
         + 1;
 
-    // An empty bucket. Refuses a maximum over 16 or a filter over 1 with question 4.
+    // An empty bucket, of the Rust's three parameters. Refuses a maximum over 16 or a filter over 1 with question 4.
     pub fn new(
         pending_timeout: u64,
         max_incoming: usize,
@@ -137,57 +122,39 @@ impl KBucket {
     {
         if KBucket::MAX_NODES_PER_BUCKET < max_incoming || 1 < filter {
             return Step {
-                bucket: KBucket::empty(0, 0, 0),
+                bucket: KBucket::empty(Settings::default()),
                 result: Err(Refusal::Code),
             };
         }
         Step {
-            bucket: KBucket::empty(pending_timeout, max_incoming, filter),
+            bucket: KBucket::empty(Settings {
+                pending_timeout,
+                max_incoming,
+                filter,
+            }),
             result: Ok(()),
         }
     }
 
     // Internal: an empty bucket of settings that are in range.
-    pub fn empty(pending_timeout: u64, max_incoming: usize, filter: Code) -> KBucket
-        requires { filter ≤ 1 }
-        ensures { result ≡ stored (record { pending_timeout = pending_timeout; max_incoming = max_incoming; filter = is_one filter }) empty_bucket }
+    pub fn empty(settings: Settings) -> KBucket
+        requires { settings.filter ≤ 1 }
+        ensures { result ≡ stored (shared.settings_of settings) empty_bucket }
     {
         KBucket {
             nodes: [Node::zero(); KBucket::MAX_NODES_PER_BUCKET],
             count: 0,
             first_connected_pos: 0,
             pending: None,
-            pending_timeout,
-            max_incoming,
-            filter,
+            settings,
         }
     }
 
-    // Internal: another pending, and all else as it is.
+    // Internal: another pending, and all else as it is: a changed copy by name, which contracts cite.
     pub fn with_pending(self, pending: Option<PendingNode>) -> KBucket
         ensures { result ≡ repending pending self }
     {
         KBucket { pending, ..self }
-    }
-
-    // The step on a pending of this key; `f` is what it does to the node.
-    fn pending_changed<F: FnOnce(Node) -> Node>(self, key: Key, f: F) -> Step<KBucket, UpdateResult>
-        requires { F.IsAlwaysCallable f }
-        ensures { changes_pending (F.post f) (num key) self self.pending result }
-    {
-        match self.pending {
-            Some(pending) if pending.node.key.eq(key) => Step {
-                bucket: self.with_pending(Some(PendingNode {
-                    node: f(pending.node),
-                    ..pending
-                })),
-                result: UpdateResult::UpdatedPending,
-            },
-            _ => Step {
-                bucket: self,
-                result: UpdateResult::Failed(FailureReason::KeyNonExistent),
-            },
-        }
     }
 
     // Question 2, all but the index.
@@ -202,26 +169,27 @@ impl KBucket {
         let (disconnected, connected) = nodes.split_at(self.first_connected_pos);
         let different = places::all_different(nodes);
         let placed = places::in_places(disconnected, connected, free);
-        let few = places::incoming(nodes) <= self.max_incoming;
+        let few = places::incoming(nodes) <= self.settings.max_incoming;
         let pending = pending_sound(nodes, self.pending);
-        let codes = (self.max_incoming <= KBucket::MAX_NODES_PER_BUCKET) & (self.filter <= 1);
+        let codes = (self.settings.max_incoming <= KBucket::MAX_NODES_PER_BUCKET)
+            & (self.settings.filter <= 1);
         // The tests are made one by one and joined at the end: what `in_places` and `pending_sound` ensure of the keys is needed beside
         // what they answer.
         different & (placed & (few & (pending & codes)))
     }
 
-    // Internal: questions 2, 4 and, where a time is given, 5. `codes` is question 4.
-    pub fn asked(&self, codes: bool, now: Option<u64>) -> Result<(), Refusal>
-        ensures value { failed_of result ≡ first_failed (questions self.now codes (option_of now)) }
-        ensures sound { result ≡ Ok tt → Sound self.now × (codes ≡ true) × (deadline_fits self.now.pending_timeout (option_of now) ≡ true) }
+    // Internal: questions 2, 4 and, where a time is given, 5. `arguments` is what the call takes besides a key and a time, and none where
+    // question 4 fails.
+    pub fn asked<T: Copy>(&self, arguments: Option<T>, now: Option<u64>) -> Result<T, Refusal>
+        ensures value { failed_of result ≡ first_failed (questions self.now (is_some arguments) (option_of now)) }
+        ensures passed { IfOk result (λ x. Sound self.now × (arguments ≡ Some x) × (deadline_fits self.now.settings.pending_timeout (option_of now) ≡ true)) }
     {
         if !self.is_sound() {
             return Err(Refusal::Form);
         }
-        if !codes {
-            return Err(Refusal::Code);
-        }
-        asked_time(self.pending_timeout, now)
+        let arguments = arguments.ok_or(Refusal::Code)?;
+        asked_time(self.settings.pending_timeout, now)?;
+        Ok(arguments)
     }
 
     // A refused call: the bucket is as it is.
@@ -234,14 +202,15 @@ impl KBucket {
         }
     }
 
+    // The six calls from here on differ in what they ask and in their step; one function would take the step as a closure, with what it
+    // ensures.
+
     // Inserts a node: the first match of 01, Insert.
     pub fn insert(self, node: Node, now: u64) -> Step<KBucket, Result<InsertResult, Refusal>>
         ensures { insert_call self node now ≡ (reply_of insert_result_of result.result, result.bucket) }
     {
-        match self.asked(node.in_range(), Some(now)) {
-            Ok(()) => SoundBucket { bucket: self }
-                .insert(NodeInRange { node }, now)
-                .answered(),
+        match self.asked(NodeInRange::of(node), Some(now)) {
+            Ok(node) => SoundBucket { bucket: self }.insert(node, now).answered(),
             Err(refusal) => self.refused(refusal),
         }
     }
@@ -250,16 +219,20 @@ impl KBucket {
     pub fn apply_pending(self, now: u64) -> Step<KBucket, Result<Option<EndedPending>, Refusal>>
         ensures { apply_pending_call self now ≡ (reply_of records_of result.result, result.bucket) }
     {
-        match self.asked(true, Some(now)) {
+        match self.asked(Some(()), Some(now)) {
             Ok(()) => {
                 let step = SoundBucket { bucket: self }.apply_pending(now);
-                step.map(only_placed).answered()
+                Step {
+                    bucket: step.bucket.bucket,
+                    result: Ok(only_placed(step.result)),
+                }
             }
             Err(refusal) => self.refused(refusal),
         }
     }
 
-    // Takes the node of the key out, changes its status and inserts it; direction 2 is none given.
+    // Takes the node of the key out, changes its status and inserts it; direction 2 is none given. Key, state and direction are what the
+    // call is given; nothing is known of them together.
     pub fn update_status(
         self,
         key: Key,
@@ -268,9 +241,9 @@ impl KBucket {
     ) -> Step<KBucket, Result<UpdateResult, Refusal>>
         ensures { update_status_call self key state direction ≡ (reply_of update_result_of result.result, result.bucket) }
     {
-        match self.asked((state <= 1) & (direction <= 2), None) {
-            Ok(()) => SoundBucket { bucket: self }
-                .update_status(key, StatusUpdate { state, direction })
+        match self.asked(StatusUpdate::of(state, direction), None) {
+            Ok(status) => SoundBucket { bucket: self }
+                .update_status(key, status)
                 .answered(),
             Err(refusal) => self.refused(refusal),
         }
@@ -284,9 +257,9 @@ impl KBucket {
     ) -> Step<KBucket, Result<UpdateResult, Refusal>>
         ensures { update_value_call self key value ≡ (reply_of update_result_of result.result, result.bucket) }
     {
-        match self.asked(value.in_range(), None) {
-            Ok(()) => SoundBucket { bucket: self }
-                .update_value(key, ValueInRange { value })
+        match self.asked(ValueInRange::of(value), None) {
+            Ok(value) => SoundBucket { bucket: self }
+                .update_value(key, value)
                 .answered(),
             Err(refusal) => self.refused(refusal),
         }
@@ -296,17 +269,11 @@ impl KBucket {
     pub fn update_pending(self, status: NodeStatus) -> Step<KBucket, Result<(), Refusal>>
         ensures { update_pending_call self status ≡ (reply_of (λ u. u) result.result, result.bucket) }
     {
-        match self.asked((status.state <= 1) & (status.direction <= 1), None) {
-            Ok(()) => {
-                let update = StatusUpdate {
-                    state: status.state,
-                    direction: status.direction,
-                };
-                Step {
-                    bucket: SoundBucket { bucket: self }.update_pending(update).bucket,
-                    result: Ok(()),
-                }
-            }
+        match self.asked(StatusInRange::of(status), None) {
+            Ok(status) => Step {
+                bucket: SoundBucket { bucket: self }.update_pending(status).bucket,
+                result: Ok(()),
+            },
             Err(refusal) => self.refused(refusal),
         }
     }
@@ -315,7 +282,7 @@ impl KBucket {
     pub fn remove(self, key: Key, now: u64) -> Step<KBucket, Result<bool, Refusal>>
         ensures { remove_call self key now ≡ (reply_of (λ found. found) result.result, result.bucket) }
     {
-        match self.asked(true, Some(now)) {
+        match self.asked(Some(()), Some(now)) {
             Ok(()) => SoundBucket { bucket: self }.remove(key, now).answered(),
             Err(refusal) => self.refused(refusal),
         }
@@ -323,21 +290,35 @@ impl KBucket {
 }
 
 impl SoundBucket {
+    // Internal: the nodes that are held, in their places.
+    pub fn nodes(&self) -> &[Node]
+        ensures { result.now ≡ held_of self.now.bucket }
+    {
+        let b = &self.bucket;
+        &b.nodes[..b.count]
+    }
+
+    // Internal: the place of the node with this key; none where the key is not held.
+    pub fn position(&self, key: Key) -> Option<usize>
+        ensures { Finds self.now.bucket (num key) result }
+    {
+        places::position(self.nodes(), key)
+    }
+
     // Internal: does the bucket hold the key?
     pub fn holds(&self, key: Key) -> bool
         ensures { result ≡ holds (num key) (bucket_of self.now.bucket) }
     {
-        places::position(&self.bucket.nodes[..self.bucket.count], key) < self.bucket.count
+        self.position(key).is_some()
     }
 
     // Internal: does the bucket filter fail?
     pub fn fails_filter(&self, value: Value) -> bool
         ensures { result ≡ fails_bucket_filter (settings_of self.now.bucket) (value_of value) (bucket_of self.now.bucket) }
     {
-        let b = &self.bucket;
-        b.filter == 1
+        self.bucket.settings.filter == 1
             && !places::ip_filter(
-                &b.nodes[..b.count],
+                self.nodes(),
                 value,
                 node::filter::MAX_NODES_PER_SUBNET_BUCKET,
             )
@@ -347,8 +328,8 @@ impl SoundBucket {
     pub fn is_max_incoming(&self, node: Node) -> bool
         ensures { result ≡ is_max_incoming (settings_of self.now.bucket) (node_of node) (bucket_of self.now.bucket) }
     {
-        let b = &self.bucket;
-        node.is_connected_incoming() && b.max_incoming <= places::incoming(&b.nodes[..b.count])
+        node.is_connected_incoming()
+            && self.bucket.settings.max_incoming <= places::incoming(self.nodes())
     }
 
     // Internal: the node at place pos. That the place is held is a clause, here and below: it is of an index and its bucket, and a type
@@ -430,11 +411,11 @@ impl SoundBucket {
         }
     }
 
-    // Internal: inserts a node.
+    // Internal: inserts a node. That its deadline has room is a clause, here and in insert_full: of a time and its bucket. Crate held has a
+    // type for it, since its functions hand it on; here it is asked twice.
     pub fn insert(self, node: NodeInRange, now: u64) -> Step<SoundBucket, InsertResult>
-        requires { now + self.bucket.pending_timeout < 2 ^ 64 }
-        ensures result_value { insert_result_of result.result ≡ (insert (settings_of self.bucket) now (node_of node.node) (bucket_of self.bucket)).0 }
-        ensures becomes { Becomes (settings_of self.bucket) (insert (settings_of self.bucket) now (node_of node.node) (bucket_of self.bucket)).1 result.bucket.bucket }
+        requires { now + self.bucket.settings.pending_timeout < 2 ^ 64 }
+        ensures { Does (settings_of self.bucket) (insert (settings_of self.bucket) now (node_of node.node) (bucket_of self.bucket)) (insert_result_of result.result) result.bucket.bucket }
     {
         if self.holds(node.node.key) {
             return self.stays(InsertResult::NodeExists);
@@ -456,17 +437,16 @@ impl SoundBucket {
 
     // Internal: what an insert of a node that is not held does with 16 held: the node becomes the pending, or nothing changes.
     pub fn insert_full(self, node: NodeInRange, now: u64) -> Step<SoundBucket, InsertResult>
-        requires pending_timeout_bound { now + self.bucket.pending_timeout < 2 ^ 64 }
+        requires pending_timeout_bound { now + self.bucket.settings.pending_timeout < 2 ^ 64 }
         requires self_value { holds (num node.node.key) (bucket_of self.bucket) ≡ false }
-        ensures result_value { insert_result_of result.result ≡ (insert_full (settings_of self.bucket) now (node_of node.node) (bucket_of self.bucket) (node_of node.node).connected (bucket_of self.bucket).disconnected (bucket_of self.bucket).pending).0 }
-        ensures becomes { Becomes (settings_of self.bucket) (insert_full (settings_of self.bucket) now (node_of node.node) (bucket_of self.bucket) (node_of node.node).connected (bucket_of self.bucket).disconnected (bucket_of self.bucket).pending).1 result.bucket.bucket }
+        ensures { Does (settings_of self.bucket) (insert_full (settings_of self.bucket) now (node_of node.node) (bucket_of self.bucket) (node_of node.node).connected (bucket_of self.bucket).disconnected (bucket_of self.bucket).pending) (insert_result_of result.result) result.bucket.bucket }
     {
         let b = &self.bucket;
         let node = node.node;
         if !node.is_connected() || b.first_connected_pos == 0 || b.pending.is_some() {
             return self.stays(InsertResult::Full);
         }
-        let deadline = now + b.pending_timeout;
+        let deadline = now + b.settings.pending_timeout;
         Step {
             bucket: SoundBucket {
                 bucket: self
@@ -481,19 +461,21 @@ impl SoundBucket {
     pub fn apply_due(self, node: NodeInRange) -> Step<SoundBucket, Option<EndedPending>>
         requires pending_value { pending_of self.bucket.pending ≡ none }
         requires self_value { holds (num node.node.key) (bucket_of self.bucket) ≡ false }
-        ensures result_value { (now : ℕ) → records_of result.result ≡ (apply_due (settings_of self.bucket) now (node_of node.node) (bucket_of self.bucket)).1 }
-        ensures becomes { (now : ℕ) → Becomes (settings_of self.bucket) (apply_due (settings_of self.bucket) now (node_of node.node) (bucket_of self.bucket)).0 result.bucket.bucket }
+        ensures { (now : ℕ) → Does (settings_of self.bucket) (records_first (apply_due (settings_of self.bucket) now (node_of node.node) (bucket_of self.bucket))) (records_of result.result) result.bucket.bucket }
     {
         let key = node.node.key;
         let full = KBucket::MAX_NODES_PER_BUCKET <= self.bucket.count;
         if full && self.bucket.first_connected_pos == 0 {
-            return self.dropped(key, Ending::FirstConnected);
+            let ending = Ending::FirstConnected;
+            return self.stays(Some(EndedPending { key, ending }));
         }
         if self.fails_filter(node.node.value) {
-            return self.dropped(key, Ending::BucketFilter);
+            let ending = Ending::BucketFilter;
+            return self.stays(Some(EndedPending { key, ending }));
         }
         if self.is_max_incoming(node.node) {
-            return self.dropped(key, Ending::TooManyIncoming);
+            let ending = Ending::TooManyIncoming;
+            return self.stays(Some(EndedPending { key, ending }));
         }
         if full {
             return self.evict(node);
@@ -507,35 +489,26 @@ impl SoundBucket {
         }
     }
 
-    // The pending of this key is dropped, and the bucket is as it is.
-    fn dropped(self, key: Key, ending: Ending) -> Step<SoundBucket, Option<EndedPending>>
-        ensures { result ≡ record { bucket = self; result = Some (record { key = key; ending = ending }) } }
-    {
-        self.stays(Some(EndedPending { key, ending }))
-    }
-
     // Internal: a node that is not held in place of the node at place 0, which is disconnected.
     pub fn evict(&self, node: NodeInRange) -> Step<SoundBucket, Option<EndedPending>>
         requires max_nodes_per_bucket_le_count { max_nodes_per_bucket ≤ self.now.bucket.count }
         requires self_value { holds (num node.node.key) (bucket_of self.now.bucket) ≡ false }
         requires self_value_2 { is_max_incoming (settings_of self.now.bucket) (node_of node.node) (bucket_of self.now.bucket) ≡ false }
-        ensures result_value { records_of result.result ≡ ends.ended (node_of node.node) (ends.Ending.Placed (some (node_of (get_or self.now.bucket.nodes 0 zero_node)))) }
-        ensures becomes { Becomes (settings_of self.now.bucket) (placed (node_of node.node) (take_out (key_at self.now.bucket 0) (bucket_of self.now.bucket))) result.bucket.bucket }
+        ensures { Does (settings_of self.now.bucket) (ends.ended (node_of node.node) (ends.Ending.Placed (some (node_of (get_or self.now.bucket.nodes 0 zero_node)))), placed (node_of node.node) (take_out (key_at self.now.bucket 0) (bucket_of self.now.bucket))) (records_of result.result) result.bucket.bucket }
     {
         let evicted = self.node_at(0);
         Step {
             bucket: self.taken_out(0).placed(node),
             result: Some(EndedPending {
                 key: node.node.key,
-                ending: Ending::Placed(Some(evicted)),
+                ending: Ending::Placed(Some(evicted.node)),
             }),
         }
     }
 
     // Internal: applies the pending when its deadline has come.
     pub fn apply_pending(self, now: u64) -> Step<SoundBucket, Option<EndedPending>>
-        ensures result_value { records_of result.result ≡ (apply_pending (settings_of self.bucket) now (bucket_of self.bucket)).1 }
-        ensures becomes { Becomes (settings_of self.bucket) (apply_pending (settings_of self.bucket) now (bucket_of self.bucket)).0 result.bucket.bucket }
+        ensures { Does (settings_of self.bucket) (records_first (apply_pending (settings_of self.bucket) now (bucket_of self.bucket))) (records_of result.result) result.bucket.bucket }
     {
         match self.bucket.pending {
             Some(pending) if pending.deadline <= now => {
@@ -549,14 +522,13 @@ impl SoundBucket {
     // Internal: the status step on the node at place pos.
     pub fn status_at(&self, pos: usize, status: StatusUpdate) -> Step<SoundBucket, UpdateResult>
         requires { pos < self.now.bucket.count }
-        ensures result_value { update_result_of result.result ≡ (update_status (settings_of self.now.bucket) (key_at self.now.bucket pos) (is_one status.state) (optional status.direction) (bucket_of self.now.bucket)).0 }
-        ensures becomes { Becomes (settings_of self.now.bucket) (update_status (settings_of self.now.bucket) (key_at self.now.bucket pos) (is_one status.state) (optional status.direction) (bucket_of self.now.bucket)).1 result.bucket.bucket }
+        ensures { Does (settings_of self.now.bucket) (update_status (settings_of self.now.bucket) (key_at self.now.bucket pos) (is_one status.state) (optional_of status.direction) (bucket_of self.now.bucket)) (update_result_of result.result) result.bucket.bucket }
     {
         self.put_again(pos, self.node_at(pos).with_status(status))
     }
 
-    // Internal: what is left of the bucket where the node at place pos is out, to be placed again with this state. A pending goes where
-    // place 0 is confirmed.
+    // Internal: what is left of the bucket where the node at place pos is out, to be placed again with this state, which is the node's and
+    // no choice of a step. A pending goes where place 0 is confirmed.
     pub fn rest_at(&self, pos: usize, connected: bool) -> SoundBucket
         requires { pos < self.now.bucket.count }
         ensures { Becomes (settings_of self.now.bucket) (taken_out (key_at self.now.bucket pos) connected (bucket_of self.now.bucket)) result.bucket }
@@ -572,8 +544,7 @@ impl SoundBucket {
     pub fn put_again(&self, pos: usize, node: NodeInRange) -> Step<SoundBucket, UpdateResult>
         requires pos_lt_count { pos < self.now.bucket.count }
         requires pos_value { key_at self.now.bucket pos ≡ num node.node.key }
-        ensures result_value { update_result_of result.result ≡ status_result (node_of (get_or self.now.bucket.nodes pos zero_node)) (node_of node.node) (reinsert (settings_of self.now.bucket) (node_of node.node) (taken_out (num node.node.key) (node_of node.node).connected (bucket_of self.now.bucket))).0 }
-        ensures becomes { Becomes (settings_of self.now.bucket) (reinsert (settings_of self.now.bucket) (node_of node.node) (taken_out (num node.node.key) (node_of node.node).connected (bucket_of self.now.bucket))).1 result.bucket.bucket }
+        ensures { Does (settings_of self.now.bucket) (stated (node_of (get_or self.now.bucket.nodes pos zero_node)) (node_of node.node) (reinsert (settings_of self.now.bucket) (node_of node.node) (taken_out (num node.node.key) (node_of node.node).connected (bucket_of self.now.bucket)))) (update_result_of result.result) result.bucket.bucket }
     {
         self.rest_at(pos, node.node.is_connected())
             .reinserted(self.bucket.nodes[pos], node)
@@ -583,8 +554,7 @@ impl SoundBucket {
     fn reinserted(self, old: Node, node: NodeInRange) -> Step<SoundBucket, UpdateResult>
         requires count_lt_max_nodes_per_bucket { self.bucket.count < max_nodes_per_bucket }
         requires self_value { holds (num node.node.key) (bucket_of self.bucket) ≡ false }
-        ensures result_value { update_result_of result.result ≡ status_result (node_of old) (node_of node.node) (reinsert (settings_of self.bucket) (node_of node.node) (bucket_of self.bucket)).0 }
-        ensures becomes { Becomes (settings_of self.bucket) (reinsert (settings_of self.bucket) (node_of node.node) (bucket_of self.bucket)).1 result.bucket.bucket }
+        ensures { Does (settings_of self.bucket) (stated (node_of old) (node_of node.node) (reinsert (settings_of self.bucket) (node_of node.node) (bucket_of self.bucket))) (update_result_of result.result) result.bucket.bucket }
     {
         if self.fails_filter(node.node.value) {
             return self.stays(UpdateResult::Failed(FailureReason::BucketFilter));
@@ -598,45 +568,61 @@ impl SoundBucket {
         }
     }
 
+    // The step on a pending of this key; `f` is what it does to the node, whose key stays.
+    fn pending_changed<F: FnOnce(NodeInRange) -> NodeInRange>(
+        self,
+        key: Key,
+        f: F,
+    ) -> Step<SoundBucket, UpdateResult>
+        requires callable { F.IsAlwaysCallable f }
+        requires key_stays { (n m : NodeInRange) → F.post f n m → m.node.key ≡ n.node.key }
+        ensures { (g : ends.Node → ends.Node) → ((n m : NodeInRange) → F.post f n m → node_of m.node ≡ g (node_of n.node)) → Does (settings_of self.bucket) (update_if_pending (num key) g (bucket_of self.bucket) (pending_of self.bucket.pending)) (update_result_of result.result) result.bucket.bucket }
+    {
+        match self.bucket.pending {
+            Some(pending) if pending.node.key.eq(key) => {
+                let changed = f(NodeInRange { node: pending.node });
+                let pending = PendingNode {
+                    node: changed.node,
+                    ..pending
+                };
+                Step {
+                    bucket: SoundBucket {
+                        bucket: self.bucket.with_pending(Some(pending)),
+                    },
+                    result: UpdateResult::UpdatedPending,
+                }
+            }
+            _ => self.stays(UpdateResult::Failed(FailureReason::KeyNonExistent)),
+        }
+    }
+
     // Internal: the status step on a pending of this key.
     pub fn status_pending(self, key: Key, status: StatusUpdate) -> Step<SoundBucket, UpdateResult>
-        ensures result_value { update_result_of result.result ≡ (update_if_pending (num key) (with_status (is_one status.state) (optional status.direction)) (bucket_of self.bucket) (pending_of self.bucket.pending)).0 }
-        ensures becomes { Becomes (settings_of self.bucket) (update_if_pending (num key) (with_status (is_one status.state) (optional status.direction)) (bucket_of self.bucket) (pending_of self.bucket.pending)).1 result.bucket.bucket }
+        ensures { Does (settings_of self.bucket) (update_if_pending (num key) (with_status (is_one status.state) (optional_of status.direction)) (bucket_of self.bucket) (pending_of self.bucket.pending)) (update_result_of result.result) result.bucket.bucket }
     {
-        let step = self.bucket.pending_changed(key, |node| {
-            node.with_status(status.state, status.direction)
-        });
-        Step {
-            bucket: SoundBucket {
-                bucket: step.bucket,
-            },
-            result: step.result,
-        }
+        self.pending_changed(key, |node| node.with_status(status))
     }
 
     // Internal: takes the node of the key out, changes its status and inserts it.
     pub fn update_status(self, key: Key, status: StatusUpdate) -> Step<SoundBucket, UpdateResult>
-        ensures result_value { update_result_of result.result ≡ (update_status (settings_of self.bucket) (num key) (is_one status.state) (optional status.direction) (bucket_of self.bucket)).0 }
-        ensures becomes { Becomes (settings_of self.bucket) (update_status (settings_of self.bucket) (num key) (is_one status.state) (optional status.direction) (bucket_of self.bucket)).1 result.bucket.bucket }
+        ensures { Does (settings_of self.bucket) (update_status (settings_of self.bucket) (num key) (is_one status.state) (optional_of status.direction) (bucket_of self.bucket)) (update_result_of result.result) result.bucket.bucket }
     {
-        let pos = places::position(&self.bucket.nodes[..self.bucket.count], key);
-        if pos < self.bucket.count {
-            return self.status_at(pos, status);
+        match self.position(key) {
+            Some(pos) => self.status_at(pos, status),
+            None => self.status_pending(key, status),
         }
-        self.status_pending(key, status)
     }
 
     // Internal: the value step on the node at place pos.
-    pub fn value_at(self, pos: usize, value: ValueInRange) -> Step<SoundBucket, UpdateResult>
+    pub fn value_at(mut self, pos: usize, value: ValueInRange) -> Step<SoundBucket, UpdateResult>
         requires { pos < self.bucket.count }
-        ensures result_value { update_result_of result.result ≡ (update_value (settings_of self.bucket) (key_at self.bucket pos) (value_of value.value) (bucket_of self.bucket)).0 }
-        ensures becomes { Becomes (settings_of self.bucket) (update_value (settings_of self.bucket) (key_at self.bucket pos) (value_of value.value) (bucket_of self.bucket)).1 result.bucket.bucket }
+        ensures { Does (settings_of self.bucket) (update_value (settings_of self.bucket) (key_at self.bucket pos) (value_of value.value) (bucket_of self.bucket)) (update_result_of result.result) result.bucket.bucket }
     {
         let old = self.bucket.nodes[pos];
         if old.value.eq(value.value) {
             return self.stays(UpdateResult::NotModified);
         }
-        if self.bucket.filter == 1 {
+        if self.bucket.settings.filter == 1 {
             let rest = self.taken_out(pos);
             if rest.fails_filter(value.value) {
                 return Step {
@@ -645,52 +631,42 @@ impl SoundBucket {
                 };
             }
         }
-        let mut bucket = self.bucket;
-        bucket.nodes[pos] = old.with_value(value.value);
+        self.bucket.nodes[pos] = old.with_value(value.value);
         Step {
-            bucket: SoundBucket { bucket },
+            bucket: self,
             result: UpdateResult::Updated,
         }
     }
 
     // Internal: the value step on a pending of this key.
     pub fn value_pending(self, key: Key, value: ValueInRange) -> Step<SoundBucket, UpdateResult>
-        ensures result_value { update_result_of result.result ≡ (update_if_pending (num key) (with_value (value_of value.value)) (bucket_of self.bucket) (pending_of self.bucket.pending)).0 }
-        ensures becomes { Becomes (settings_of self.bucket) (update_if_pending (num key) (with_value (value_of value.value)) (bucket_of self.bucket) (pending_of self.bucket.pending)).1 result.bucket.bucket }
+        ensures { Does (settings_of self.bucket) (update_if_pending (num key) (with_value (value_of value.value)) (bucket_of self.bucket) (pending_of self.bucket.pending)) (update_result_of result.result) result.bucket.bucket }
     {
-        let step = self
-            .bucket
-            .pending_changed(key, |node| node.with_value(value.value));
-        Step {
-            bucket: SoundBucket {
-                bucket: step.bucket,
-            },
-            result: step.result,
-        }
+        self.pending_changed(key, |node| node.with_value(value))
     }
 
     // Internal: changes the value of the node of the key, in its place. Of the form of update_status, around other steps: one function
     // for both would take the steps as closures, with their contracts as clauses.
     pub fn update_value(self, key: Key, value: ValueInRange) -> Step<SoundBucket, UpdateResult>
-        ensures result_value { update_result_of result.result ≡ (update_value (settings_of self.bucket) (num key) (value_of value.value) (bucket_of self.bucket)).0 }
-        ensures becomes { Becomes (settings_of self.bucket) (update_value (settings_of self.bucket) (num key) (value_of value.value) (bucket_of self.bucket)).1 result.bucket.bucket }
+        ensures { Does (settings_of self.bucket) (update_value (settings_of self.bucket) (num key) (value_of value.value) (bucket_of self.bucket)) (update_result_of result.result) result.bucket.bucket }
     {
-        let pos = places::position(&self.bucket.nodes[..self.bucket.count], key);
-        if pos < self.bucket.count {
-            return self.value_at(pos, value);
+        match self.position(key) {
+            Some(pos) => self.value_at(pos, value),
+            None => self.value_pending(key, value),
         }
-        self.value_pending(key, value)
     }
 
     // Internal: sets the status of the pending, if any. Both codes are given.
-    pub fn update_pending(self, status: StatusUpdate) -> SoundBucket
-        requires { status.direction ≤ 1 }
-        ensures { Becomes (settings_of self.bucket) (update_pending (is_one status.state) (is_one status.direction) (bucket_of self.bucket)) result.bucket }
+    pub fn update_pending(self, status: StatusInRange) -> SoundBucket
+        ensures { Becomes (settings_of self.bucket) (update_pending (is_one status.status.state) (is_one status.status.direction) (bucket_of self.bucket)) result.bucket }
     {
         let Some(pending) = self.bucket.pending else {
             return self;
         };
-        let node = pending.node.with_status(status.state, status.direction);
+        let status = status.status;
+        let node = pending
+            .node
+            .with_status(status.state, Some(status.direction));
         SoundBucket {
             bucket: self
                 .bucket
@@ -700,17 +676,15 @@ impl SoundBucket {
 
     // Internal: takes the node of the key out, then applies a due pending and throws its record away.
     pub fn remove(self, key: Key, now: u64) -> Step<SoundBucket, bool>
-        ensures result_value { result.result ≡ (remove (settings_of self.bucket) now (num key) (bucket_of self.bucket)).0 }
-        ensures becomes { Becomes (settings_of self.bucket) (remove (settings_of self.bucket) now (num key) (bucket_of self.bucket)).1 result.bucket.bucket }
+        ensures { Does (settings_of self.bucket) (remove (settings_of self.bucket) now (num key) (bucket_of self.bucket)) result.result result.bucket.bucket }
     {
-        let pos = places::position(&self.bucket.nodes[..self.bucket.count], key);
-        if pos < self.bucket.count {
-            return Step {
+        match self.position(key) {
+            Some(pos) => Step {
                 bucket: self.taken_out(pos).apply_pending(now).bucket,
                 result: true,
-            };
+            },
+            None => self.stays(false),
         }
-        self.stays(false)
     }
 }
 
@@ -736,23 +710,6 @@ impl<T> Step<SoundBucket, T> {
         Step {
             bucket: self.bucket.bucket,
             result: Ok(self.result),
-        }
-    }
-}
-
-impl Ending {
-    // The kind that stands for the ending in a record.
-    pub fn kind(self) -> u8
-        ensures { result ≡ ending_kind (ending_of self) }
-    {
-        match self {
-            Ending::Placed(None) => 0,
-            Ending::Placed(Some(_)) => 1,
-            Ending::FirstConnected => 2,
-            Ending::BucketFilter => 3,
-            Ending::TooManyIncoming => 4,
-            Ending::Inserted => 5,
-            Ending::FirstConfirmed => 6,
         }
     }
 }
@@ -788,10 +745,11 @@ pub fn pending_sound(nodes: &[Node], pending: Option<PendingNode>) -> bool
 {
     match pending {
         None => true,
-        Some(p) => { has_codes(p.node) && places::position(nodes, p.node.key) == nodes.len() }
+        Some(p) => { has_codes(p.node) && places::position(nodes, p.node.key).is_none() }
     }
 }
 
+// `in_range`, with what Rattle knows of the key's words.
 fn has_codes(node: Node) -> bool
     ensures value { result ≡ node_codes node }
     ensures words { Words node.key }

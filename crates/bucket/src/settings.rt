@@ -1,7 +1,7 @@
 use node::Code;
 
 // The settings that all buckets of a table share.
-#[derive(Clone, Copy)]
+#[derive(Clone, Copy, Default)]
 pub struct Settings {
     // How long a new pending waits, in milliseconds.
     pub pending_timeout: u64,

@@ -71,16 +71,10 @@ module _ (c : BucketCall) (answer bs : List ℕ) where
   refused_as q e = rw (← e) (record { code = refl; storage = refl; output = refl })
 
   -- x: what is answered, at the exit of a `?` too
-  pub refused_by : (r : Refusal) → some (number_of r) ≡ first_failed (bucket_questions c answer bs) → (x : Result ℕ Refusal) → IsErrAnd x (λ q. q ≡ r)
-      → Writes (code_of x) bs answer (bucket_step c answer bs)
-  refused_by r e (Ok n) h = absurd h
-  refused_by r e (Err q) h = refused_as (number_of q) (ap (λ (q : Refusal). some (number_of q)) h ∙ e)
-
-  -- the same of a call that answers nothing
-  pub not_done : (r : Refusal) → some (number_of r) ≡ first_failed (bucket_questions c answer bs) → (x : Result (Unit {0}) Refusal) → IsErrAnd x (λ q. q ≡ r)
-      → Writes (done_code x) bs answer (bucket_step c answer bs)
-  not_done r e (Ok u) h = absurd h
-  not_done r e (Err q) h = refused_as (number_of q) (ap (λ (q : Refusal). some (number_of q)) h ∙ e)
+  pub refused_by : {A : Type 0} (code : A → ℕ) (r : Refusal) → some (number_of r) ≡ first_failed (bucket_questions c answer bs) → (x : Result A Refusal) → IsErrAnd x (λ q. q ≡ r)
+      → Writes (code_of code x) bs answer (bucket_step c answer bs)
+  refused_by code r e (Ok n) h = absurd h
+  refused_by code r e (Err q) h = refused_as (number_of q) (ap (λ (q : Refusal). some (number_of q)) h ∙ e)
 
   -- m: the bucket that is stored
   pub done : none ≡ first_failed (bucket_questions c answer bs) → {n : ℕ} {m : Bucket} {bs' out : List ℕ}
@@ -96,13 +90,9 @@ left : {r : ℕ} {s out : List ℕ} {o : Exported} → Writes r s out o → Leav
 left w = record { code = w.code; storage = w.storage }
 
 module _ (c : BucketCall) (bs : List ℕ) where
-  pub left_by : (r : Refusal) → some (number_of r) ≡ first_failed (bucket_questions c [] bs) → (x : Result ℕ Refusal) → IsErrAnd x (λ q. q ≡ r)
-      → Leaves (code_of x) bs (bucket_step c [] bs)
-  left_by r e x h = left (refused_by c [] bs r e x h)
-
-  pub left_undone : (r : Refusal) → some (number_of r) ≡ first_failed (bucket_questions c [] bs) → (x : Result (Unit {0}) Refusal) → IsErrAnd x (λ q. q ≡ r)
-      → Leaves (done_code x) bs (bucket_step c [] bs)
-  left_undone r e x h = left (not_done c [] bs r e x h)
+  pub left_by : {A : Type 0} (code : A → ℕ) (r : Refusal) → some (number_of r) ≡ first_failed (bucket_questions c [] bs) → (x : Result A Refusal) → IsErrAnd x (λ q. q ≡ r)
+      → Leaves (code_of code x) bs (bucket_step c [] bs)
+  left_by code r e x h = left (refused_by c [] bs code r e x h)
 
   pub left_done : none ≡ first_failed (bucket_questions c [] bs) → {n : ℕ} {m : Bucket} {bs' : List ℕ}
       → n ≡ (bucket_act c (lent_settings bs) (lent_bucket bs)).code → m ≡ (bucket_act c (lent_settings bs) (lent_bucket bs)).bucket
@@ -135,13 +125,13 @@ module _ (timeout m f : ℕ) (bs : List ℕ) where
 
   -- the exits of questions 1 and 4
   new_refused : (r : Refusal) → some (number_of r) ≡ first_failed ((1, eqb (length bs) lent_size) ∷ (4, leb m max_nodes_per_bucket && leb f 1) ∷ []) → (x : Result (Unit {0}) Refusal) → IsErrAnd x (λ q. q ≡ r)
-      → Leaves (done_code x) bs (bucket_new timeout m f bs)
+      → Leaves (code_of done_code x) bs (bucket_new timeout m f bs)
   unfolding bucket_new
   new_refused r e (Ok u) h = absurd h
   new_refused r e (Err q) h = rw (← e) (record { code = ap (λ (q : Refusal). refused_code (number_of q)) h; storage = refl })
 
   pub new_size : {T : Type 0} {o : code.Option T} {q : Refusal} → ◌≡◌ {A = Result T Refusal} (Err q) (ok_or o Refusal.Size) → o ≡ None → length bs ≢ lent_size
-      → (x : Result (Unit {0}) Refusal) → IsErrAnd x (λ p. p ≡ q) → Leaves (done_code x) bs (bucket_new timeout m f bs)
+      → (x : Result (Unit {0}) Refusal) → IsErrAnd x (λ p. p ≡ q) → Leaves (code_of done_code x) bs (bucket_new timeout m f bs)
   new_size {q = q} v n l = new_refused q (rw (size_told v n, ne_eqb _ _ l))
 
   pub new_codes : length bs ≡ lent_size → (leb m max_nodes_per_bucket && leb f 1) ≡ false → Leaves (refused_code 4) bs (bucket_new timeout m f bs)

@@ -12,19 +12,27 @@ use Rattle.model.specs.Step.{node_of}
 use Rattle.model.specs.Layout.{flag_byte, bucket_bytes}
 use Rattle.node.specs.declared.Refusal.{Refusal}
 use Rattle.node.specs.Refusal.{number_of}
+use Rattle.bucket.specs.declared.UpdateResult.{UpdateResult}
+use Rattle.bucket.specs.Calls.{update_result_of}
 use Rattle.codes.specs.Codes.{refused_code, update_code, bucket_insert_code, bucket_insert_bytes, applied_code, applied_bytes, answer_size}
 use Rattle.codes.specs.Exported.{Exported}
 use Rattle.bucket_calls.specs.Lent.{lent_size, lent_settings, lent_bucket, lent_five, empty_bytes}
 
 -- the number of what a call answers: its result's, or the refusal's
-abbrev pub code_of : Result ℕ Refusal → ℕ
-code_of (Ok n) = n
-code_of (Err r) = refused_code (number_of r)
+abbrev pub code_of : {A : Type 0} → (A → ℕ) → Result A Refusal → ℕ
+code_of code (Ok x) = code x
+code_of code (Err r) = refused_code (number_of r)
 
--- the same of a call that answers nothing but that it was made
-abbrev pub done_code : Result (Unit {0}) Refusal → ℕ
-done_code (Ok u) = 0
-done_code (Err r) = refused_code (number_of r)
+-- a result that is its number
+abbrev pub number_code : ℕ → ℕ
+number_code n = n
+
+abbrev pub updated_code : UpdateResult → ℕ
+updated_code r = update_code (update_result_of r)
+
+-- a call that answers nothing but that it was made
+abbrev pub done_code : Unit {0} → ℕ
+done_code u = 0
 
 pub data BucketCall : Type 0 where
   insert : (key : List ℕ) (value : ValueArgument) (state direction now : ℕ) → BucketCall

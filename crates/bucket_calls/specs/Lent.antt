@@ -9,7 +9,6 @@ use Rattle.model.specs.Question.{first_failed, deadline_fits}
 use Rattle.bucket.specs.declared.settings.Settings.{Settings}
 use Rattle.bucket.specs.Settings.{settings_of}
 use Rattle.buckets.specs.Read.{sound_bytes}
-use Rattle.well_formed.specs.Tests.{place_formed, differs}
 
 abbrev pub lent_timeout_at : ℕ
 lent_timeout_at = bucket_size
@@ -61,13 +60,7 @@ abbrev pub failed_of_lent : List ℕ → Bool → Bool → Option ℕ → Option
 failed_of_lent bs key codes now = first_failed (lent_five bs key codes now)
 
 -- what is known where none of them fails
-pub record Passed (bs : List ℕ) (key codes : Bool) (now : Option ℕ) : Type 0 where
+pub record Passed (bs : List ℕ) (now : Option ℕ) : Type 0 where
   pub size : length bs ≡ lent_size
   pub formed : lent_formed bs ≡ true
-  pub key_fits : key ≡ true
-  pub in_range : codes ≡ true
   pub in_time : deadline_fits (lent_settings bs).pending_timeout now ≡ true
-
--- place j: codes in range, the state that the place has, and a key that no place before it has
-unfoldable pub place_sound : ℕ → List ℕ → ℕ → Bool
-place_sound first bs j = place_formed (λ k. true) first bs j && differs bs j

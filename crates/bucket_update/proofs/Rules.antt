@@ -10,6 +10,7 @@ use Rattle.model.specs.Result.{FailureReason, UpdateResult, InsertResult, is_fai
 use Rattle.model.specs.Bucket.{Bucket, BucketSettings, holds, insert, update_status, update_value, remove}
 use Rattle.model.specs.Table.{Answer, both_updates, update_node_in, insert_updates, inserts, insert_or_update_in}
 use Rattle.model.specs.Call.{is_one, optional}
+use Rattle.laws.proofs.Tests.{split}
 use Rattle.bucket.specs.declared.FailureReason as failure
 use Rattle.bucket.specs.declared.UpdateResult as declared
 use Rattle.bucket.specs.declared.UpdateResult.TheVariants as result
@@ -56,6 +57,10 @@ module _ (s : BucketSettings) (fails : Bool) (now k : ℕ) (v : Value) (u : Opti
   module _ (e : fails ≡ false) where
     pub node_failed : is_failed of_value.0 ≡ true → update_node_in s fails now k v u b ≡ (Answer.Update of_value.0, of_value.1)
     node_failed f = rw (e, f)
+
+    -- no state is given
+    pub node_valued : u ≡ none → update_node_in s fails now k v u b ≡ (Answer.Update of_value.0, of_value.1)
+    node_valued g = split (is_failed of_value.0) (λ f. rw (e, f)) (λ f. rw (e, f, g))
 
     module _ (f : is_failed of_value.0 ≡ false) where
       pub node_both : (x : Bool) → u ≡ some x

@@ -3,17 +3,17 @@
 
 ghost use Rattle.std.specs.Prelude.{◌≡◌, ◌+◌, ◌<◌, ◌^◌};
 ghost use Rattle.model.specs.Table.{Answer, both_updates, update_node_in, insert_updates, inserts, insert_or_update_in};
-ghost use Rattle.model.specs.Call.{optional};
 ghost use Rattle.key.specs.Key.{num};
 ghost use Rattle.node.specs.Node.{value_of, node_of};
-ghost use Rattle.bucket.specs.Bucket.{bucket_of, settings_of, Becomes};
+ghost use Rattle.node.specs.Status.{optional_of};
+ghost use Rattle.bucket.specs.Bucket.{bucket_of, settings_of, Does};
 ghost use Rattle.bucket.specs.Calls.{update_result_of, insert_result_of};
 ghost use Rattle.bucket_update.specs.Results.{table_insert_result_of};
 ghost use Rattle.bucket_update.specs.Again.{value_result};
 
 use bucket::{FailureReason, InsertResult as BucketInsertResult, SoundBucket, Step, UpdateResult};
 use key::Key;
-use node::{NodeInRange, NodeUpdate, StatusUpdate, Value};
+use node::{NodeInRange, NodeUpdate, Value};
 
 // What insert_or_update answers.
 #[derive(Clone, Copy, Debug, PartialEq, Eq)]
@@ -56,7 +56,7 @@ pub fn value_result(old: Value, value: Value) -> UpdateResult
     }
 }
 
-// Internal: update_node on the bucket of its key; state 2 is none given. `fails` is the answer of the table filter, a test that the bucket
+// Internal: update_node on the bucket of its key. `fails` is the answer of the table filter, a test that the bucket
 // alone cannot make. A bool, as in the model's rule: two functions would leave each of their callers the same branch.
 pub fn update_node_in(
     b: SoundBucket,
@@ -65,8 +65,7 @@ pub fn update_node_in(
     update: NodeUpdate,
     time: u64,
 ) -> Step<SoundBucket, UpdateResult>
-    ensures result_value { Answer.Update (update_result_of result.result) ≡ (update_node_in (settings_of b.bucket) fails time (num key) (value_of update.value.value) (optional update.state) (bucket_of b.bucket)).0 }
-    ensures becomes { Becomes (settings_of b.bucket) (update_node_in (settings_of b.bucket) fails time (num key) (value_of update.value.value) (optional update.state) (bucket_of b.bucket)).1 result.bucket.bucket }
+    ensures { Does (settings_of b.bucket) (update_node_in (settings_of b.bucket) fails time (num key) (value_of update.value.value) (optional_of update.state) (bucket_of b.bucket)) (Answer.Update (update_result_of result.result)) result.bucket.bucket }
 {
     if fails {
         return Step {
@@ -74,27 +73,23 @@ pub fn update_node_in(
             result: UpdateResult::Failed(FailureReason::TableFilter),
         };
     }
-    let NodeUpdate { value, state } = update;
-    let pos = places::position(&b.bucket.nodes[..b.bucket.count], key);
-    if pos < b.bucket.count && b.bucket.filter != 1 && state != 2 {
-        let old = b.node_at(pos);
-        let of_value = value_result(old.node.value, value.value);
-        let status = StatusUpdate {
-            state,
-            direction: 2,
-        };
-        return b
-            .put_again(pos, old.with_value(value).with_status(status))
-            .map(|of_status| both_updates(of_value, of_status));
+    let value = update.value;
+    let Some(status) = update.status() else {
+        return b.update_value(key, value);
+    };
+    if b.bucket.settings.filter != 1 {
+        if let Some(pos) = b.position(key) {
+            let old = b.node_at(pos);
+            let of_value = value_result(old.node.value, value.value);
+            return b
+                .put_again(pos, old.with_value(value).with_status(status))
+                .map(|of_status| both_updates(of_value, of_status));
+        }
     }
     let valued = b.update_value(key, value);
-    if state == 2 || matches!(valued.result, UpdateResult::Failed(_)) {
+    if matches!(valued.result, UpdateResult::Failed(_)) {
         return valued;
     }
-    let status = StatusUpdate {
-        state,
-        direction: 2,
-    };
     valued
         .bucket
         .update_status(key, status)
@@ -127,7 +122,8 @@ pub fn insert_updates(value: UpdateResult, status: UpdateResult) -> InsertResult
     }
 }
 
-// Internal: what insert_or_update answers on a key that is not held.
+// Internal: what insert_or_update answers on a key that is not held, by the model's name. No `From`: of a key that is held NodeExists would
+// mean another thing.
 pub fn inserts(r: BucketInsertResult) -> InsertResult
     ensures { table_insert_result_of result ≡ inserts (insert_result_of r) }
 {
@@ -141,16 +137,16 @@ pub fn inserts(r: BucketInsertResult) -> InsertResult
     }
 }
 
-// Internal: insert_or_update on the bucket of its key; `fails` as in update_node_in.
+// Internal: insert_or_update on the bucket of its key; `fails` as in update_node_in. That a deadline has room is a clause, as of the insert
+// that it may come to.
 pub fn insert_or_update_in(
     b: SoundBucket,
     fails: bool,
     node: NodeInRange,
     time: u64,
 ) -> Step<SoundBucket, InsertResult>
-    requires { time + b.bucket.pending_timeout < 2 ^ 64 }
-    ensures result_value { Answer.InsertOrUpdate (table_insert_result_of result.result) ≡ (insert_or_update_in (settings_of b.bucket) fails time (node_of node.node) (bucket_of b.bucket)).0 }
-    ensures becomes { Becomes (settings_of b.bucket) (insert_or_update_in (settings_of b.bucket) fails time (node_of node.node) (bucket_of b.bucket)).1 result.bucket.bucket }
+    requires { time + b.bucket.settings.pending_timeout < 2 ^ 64 }
+    ensures { Does (settings_of b.bucket) (insert_or_update_in (settings_of b.bucket) fails time (node_of node.node) (bucket_of b.bucket)) (Answer.InsertOrUpdate (table_insert_result_of result.result)) result.bucket.bucket }
 {
     let key = node.node.key;
     if fails {
@@ -159,11 +155,10 @@ pub fn insert_or_update_in(
             result: InsertResult::Failed(FailureReason::TableFilter),
         };
     }
-    let pos = places::position(&b.bucket.nodes[..b.bucket.count], key);
-    if b.bucket.count <= pos {
+    let Some(pos) = b.position(key) else {
         return b.insert(node, time).map(inserts);
-    }
-    if b.bucket.filter != 1 {
+    };
+    if b.bucket.settings.filter != 1 {
         let of_value = value_result(b.bucket.nodes[pos].value, node.node.value);
         return b
             .put_again(pos, node)

@@ -33,7 +33,7 @@ use Rattle.bucket.specs.Bucket.{stored_pending, Becomes}
 use Rattle.bucket.proofs.Stored.{same_parts}
 use Rattle.bucket.proofs.Sound.{becomes}
 use Rattle.bucket.specs.declared.settings.Settings.{Settings}
-use Rattle.bucket.specs.Settings.{settings_of}
+use Rattle.bucket.specs.Settings.{settings_of, stored_settings}
 use Rattle.buckets.specs.Read.{read_places, read_pending, sound_bytes}
 
 -- the places, filled one after the other
@@ -127,6 +127,9 @@ any_index p m bs h =
 pub count_few : (bs : List ℕ) (m : ℕ) → sound_bytes m bs ≡ true → get_or bs 0 0 ≤ max_nodes_per_bucket
 count_few bs m c = (checked (λ k. true) m bs c).at_most
 
+same_filter : (s : Settings) → leb s.filter 1 ≡ true → s ≡ stored_settings (settings_of s)
+same_filter s h = ap (λ (f : ℕ). record { pending_timeout = s.pending_timeout; max_incoming = s.max_incoming; filter = f }) (sym (flag_back s.filter h))
+
 -- the bucket
 module _ (bs : List ℕ) (l : length bs ≡ bucket_size) (h : Bytes bs) (s : Settings) (c : sound_bytes s.max_incoming bs ≡ true) where
   passed : Checked (λ k. true) s.max_incoming bs
@@ -147,14 +150,12 @@ module _ (bs : List ℕ) (l : length bs ≡ bucket_size) (h : Bytes bs) (s : Set
         count = k;
         first_connected_pos = j;
         pending = q;
-        pending_timeout = s.pending_timeout;
-        max_incoming = s.max_incoming;
-        filter = s.filter;
+        settings = s;
       })
   loaded r ns k j q e₁ e₂ e₃ e₄ =
       becomes (settings_of s) (bucket_in bs) _
       (same_parts (e₁ ∙ ap (λ (i : ℕ). padded (read_places bs i)) e₂ ∙ ap padded (sym places_of)) (e₂ ∙ sym (count_in bs)) (e₃ ∙ sym (first_in bs passed.first))
-      (e₄ ∙ sym (ap stored_pending (pending_of_lem bs) ∙ stored_pending_lem bs (λ k. true) passed.pending)) refl refl (sym (flag_back s.filter (le-leb s.filter 1 r.1))))
+      (e₄ ∙ sym (ap stored_pending (pending_of_lem bs) ∙ stored_pending_lem bs (λ k. true) passed.pending)) (same_filter s (le-leb s.filter 1 r.1)))
       (bucket_good bs (λ k. true) s.max_incoming c).formed r.0
 
 -- bucket i of the storage, whose bytes are bs, under its settings

@@ -13,7 +13,7 @@ ghost use Rattle.bucket.specs.Settings.{settings_of};
 ghost use Rattle.buckets.specs.Read.{read_pending, pending_codes, sound_bytes};
 
 use bucket::{KBucket, PendingNode, Settings, SoundBucket};
-use node::Node;
+use node::{Node, NodeInRange};
 use storage::{Layout, Nodes};
 
 // The pending of a bucket's bytes.
@@ -39,6 +39,7 @@ pub fn load(bucket: &[u8; Layout::BUCKET], settings: Settings) -> SoundBucket
 {
     let held = Nodes::of(bucket);
     let mut nodes = [Node::zero(); KBucket::MAX_NODES_PER_BUCKET];
+    // By index: `nodes.iter_mut().zip(..)` over the places is no shorter, and the invariant speaks of place i.
     for i in 0..held.count {
         nodes[i] = storage::load_node(held.place(i));
     }
@@ -48,14 +49,13 @@ pub fn load(bucket: &[u8; Layout::BUCKET], settings: Settings) -> SoundBucket
             count: held.count,
             first_connected_pos: usize::from(bucket[1]),
             pending: load_pending(bucket),
-            pending_timeout: settings.pending_timeout,
-            max_incoming: settings.max_incoming,
-            filter: settings.filter,
+            settings,
         },
     }
 }
 
-// Internal: bucket i of storage whose header and bucket i pass question 2.
+// Internal: bucket i of storage whose header and bucket i pass question 2. That bucket i is formed is a clause and no type: it is of the
+// storage and an index together, and each caller has it of another bucket.
 pub fn load_bucket(s: &[u8; Layout::STORAGE], i: usize) -> SoundBucket
     requires s_value { header_formed s.now ≡ true }
     requires i_lt_num_buckets { i < num_buckets }
@@ -74,7 +74,7 @@ pub fn store_pending(s: &mut [u8], pending: Option<PendingNode>)
         None => words::put_zeros(s),
         Some(p) => {
             s[0] = 1;
-            storage::store_node(&mut s[1..1 + Layout::NODE], p.node);
+            storage::store_node(&mut s[1..1 + Layout::NODE], NodeInRange { node: p.node });
             words::put_u64(&mut s[1 + Layout::NODE..Layout::PENDING], p.deadline);
         }
     }
@@ -86,11 +86,14 @@ pub fn store(bucket: &mut [u8], b: &SoundBucket)
     ensures { bucket.new ≡ bucket_bytes (bucket_of b.now.bucket) }
 {
     let count = b.bucket.count;
+    // By `as`, here, in header and in held: the numbers are at most 64 by what is known of them, and `try_from` would leave an `unwrap` to
+    // prove.
     bucket[0] = count as u8;
     bucket[1] = b.bucket.first_connected_pos as u8;
+    // By ranges and not by chunks: of a slice that was lent in pieces a proof knows the length alone (saved, put_bucket).
     for i in 0..count {
         let at = Layout::PLACES_AT + i * Layout::NODE;
-        storage::store_node(&mut bucket[at..at + Layout::NODE], b.bucket.nodes[i]);
+        storage::store_node(&mut bucket[at..at + Layout::NODE], b.node_at(i));
     }
     let unused = Layout::PLACES_AT + count * Layout::NODE;
     words::put_zeros(&mut bucket[unused..Layout::PENDING_AT]);
@@ -105,6 +108,5 @@ pub fn store_bucket(s: &mut [u8; Layout::STORAGE], i: usize, b: &SoundBucket)
     requires { i < num_buckets }
     ensures { s.new ≡ splice s.old (bucket_at i) (bucket_bytes (bucket_of b.now.bucket)) }
 {
-    let at = Layout::HEADER + i * Layout::BUCKET;
-    store(&mut s[at..at + Layout::BUCKET], b);
+    store(&mut s[storage::bucket_range(i)], b);
 }

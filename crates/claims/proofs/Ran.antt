@@ -64,6 +64,6 @@ equation (Ran.iter _ _ _ _ _ _ _ _ _ _ p) = p
 equation (Ran.nodes_by_distances _ _ _ _ _ _ _ _ _ _ _ _ p) = p
 equation (Ran.closest_keys _ _ _ _ _ _ _ _ _ _ _ _ p) = p
 equation (Ran.closest_values _ _ _ _ _ _ _ _ _ _ _ _ p) = p
-equation (Ran.closest_values_predicate _ _ _ _ _ _ _ _ _ _ _ _ _ _ _ _ _ _ _ _ _ _ p) = p
+equation (Ran.closest_values_predicate _ _ _ _ _ _ _ _ _ _ _ _ _ _ p) = p
 equation (Ran.take_applied_pending _ _ _ _ _ p) = quiet _ _ refl p
 equation (Ran.read _ _ _ _ _ _ p) = quiet _ _ refl p

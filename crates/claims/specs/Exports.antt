@@ -51,7 +51,7 @@ pub data Called : (c : Call) (answer s : List ℕ) (code : ℕ) (s' out' : List 
       → InsertOrUpdate.Post κs (s & key & flag & a & b & c & d & slot & state & direction & time & windows & closed & year & month & day & minute & answer & tt) code
       (s' & key' & flag' & a' & b' & c' & d' & slot' & state' & direction' & time' & windows' & closed' & year' & month' & day' & minute' & answer' & tt)
       → Called (Call.on_key key.now (KeyCall.insert_or_update (record { flag = flag; a = a; b = b; c = c; d = d; slot = slot }) state direction time
-      (session_of windows.now closed.now (record { year = year; month = month; day = day; minute = minute })))) answer.now s.now code s'.now answer'.now
+      (session_of windows.now closed.now (record { date = record { year = year; month = month; day = day }; minute = minute })))) answer.now s.now code s'.now answer'.now
   remove : (κs : Lfts 2) (s : Lent) (key : Slice) (s' : Lent) (time : ℕ) (code : ℕ) (others : _)
       → Remove.Post κs (s & key & time & tt) code (s' & others)
       → Called (Call.on_key key.now (KeyCall.remove time)) [] s.now code s'.now []
@@ -69,7 +69,7 @@ pub data Called : (c : Call) (answer s : List ℕ) (code : ℕ) (s' out' : List 
       → AbsentInsert.Post κs (s & key & flag & a & b & c & d & slot & state & direction & time & windows & closed & year & month & day & minute & answer & tt) code
       (s' & key' & flag' & a' & b' & c' & d' & slot' & state' & direction' & time' & windows' & closed' & year' & month' & day' & minute' & answer' & tt)
       → Called (Call.on_key key.now (KeyCall.absent_insert (record { flag = flag; a = a; b = b; c = c; d = d; slot = slot }) state direction time
-      (session_of windows.now closed.now (record { year = year; month = month; day = day; minute = minute })))) answer.now s.now code s'.now answer'.now
+      (session_of windows.now closed.now (record { date = record { year = year; month = month; day = day }; minute = minute })))) answer.now s.now code s'.now answer'.now
   iter : (κs : Lfts 2) (s out s' out' : Lent) (n time n' time' : ℕ) (code : ℕ)
       → Iter.Post κs (s & n & time & out & tt) code (s' & n' & time' & out' & tt)
       → Called (Call.list Listing.iter n time out.now) [] s.now code s'.now out'.now

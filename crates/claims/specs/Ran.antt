@@ -12,6 +12,8 @@ use Rattle.session.specs.Hours.{hours_of}
 use Rattle.table.specs.Calls.{remove_answer, take_answer, new_answer}
 use Rattle.update.specs.Calls.{insert_or_update_answer}
 use Rattle.entry.specs.Kind.{entry_answer, insert_answer}
+use Rattle.items.specs.declared.Predicate.{Predicate}
+use Rattle.items.specs.Shape.{predicate_of}
 use Rattle.items.specs.Lists.{list_answer}
 use Rattle.loaded.specs.Answer.{read_answer}
 use Rattle.table.proofs.new.Reads as New
@@ -86,10 +88,9 @@ pub data Ran : (c : Call) (s : List ℕ) (a : Answer) (s' out' : List ℕ) → T
   closest_values : (κs : Lfts 3) (s : Lent) (target : Slice) (out s' : Lent) (target' : Slice) (out' : Lent) (n time n' time' : ℕ) (a : _)
       → ClosestValues.Post κs (s & target & n & time & out & tt) a (s' & target' & n' & time' & out' & tt)
       → Ran (Call.list (Listing.closest_values target.now) n time out.now) s.now (list_answer a) s'.now out'.now
-  closest_values_predicate : (κs : Lfts 3) (s : Lent) (target : Slice) (out s' : Lent) (target' : Slice) (out' : Lent) (predicate a b c slot n time : ℕ) (predicate' a' b' c' slot' n' time' : ℕ) (r : _)
-      → ClosestValuesPredicate.Post κs (s & target & predicate & a & b & c & slot & n & time & out & tt) r (s' & target' & predicate' & a' & b' & c' & slot' & n' & time' & out' & tt)
-      → Ran (Call.list (Listing.closest_values_predicate target.now (record { predicate = predicate; a = a; b = b; c = c; slot = slot })) n time out.now)
-      s.now (list_answer r) s'.now out'.now
+  closest_values_predicate : (κs : Lfts 3) (s : Lent) (target : Slice) (out s' : Lent) (target' : Slice) (out' : Lent) (p : Predicate) (n time : ℕ) (p' : Predicate) (n' time' : ℕ) (a : _)
+      → ClosestValuesPredicate.Post κs (s & target & p & n & time & out & tt) a (s' & target' & p' & n' & time' & out' & tt)
+      → Ran (Call.list (Listing.closest_values_predicate target.now (predicate_of p)) n time out.now) s.now (list_answer a) s'.now out'.now
   take_applied_pending : (κs : Lfts 1) (s s' : Lent) (a : _) (others : _)
       → TakeAppliedPending.Post κs (s & tt) a (s' & others)
       → Ran Call.take_applied_pending s.now (take_answer a) s'.now []

@@ -14,8 +14,9 @@ use Rattle.laws.proofs.Bytes.{length_bytes}
 use Rattle.laws.proofs.NodeBytes.{length_record}
 use Rattle.words.proofs.Words.{put_mid_splice}
 use Rattle.key.specs.Key.{num}
-use Rattle.bucket.specs.declared.EndedPending.{EndedPending}
-use Rattle.bucket.specs.Calls.{ending_of, records_of}
+use Rattle.bucket.specs.declared.ending.EndedPending.{EndedPending}
+use Rattle.bucket.specs.Ending.{ending_of}
+use Rattle.bucket.specs.Calls.{records_of}
 use Rattle.codes.specs.Codes.{applied_bytes}
 
 pub key_put : (s w : List ℕ) (k : ℕ) → w ≡ bytes key_size k → put_mid 0 32 s w ≡ splice s 0 (bytes key_size k)

@@ -1,5 +1,5 @@
 // Internal: the numbers that the exports return, and the bytes that an answer carries, put at the front of a lent answer. No `From` gives a
-// number: it could only stand in the crate of the type, and the numbers are the exports' alone.
+// number: it could only stand in the crate of the type, and the numbers are the exports' alone. `Reply` is this crate's, so it has its own.
 #![tactic(auto)]
 
 ghost use Rattle.std.specs.Prelude.{◌≡◌, Some, None, ◌≤◌, length};
@@ -112,32 +112,34 @@ pub fn update_code(res: UpdateResult) -> u32
     }
 }
 
-// Internal: the reply of a bucket insert: the number of its result, and the key that it names.
-pub fn bucket_insert_reply(res: InsertResult) -> Reply
-    ensures code { result.code ≡ bucket_insert_code (insert_result_of res) }
-    ensures carried { carried_bytes result.carried ≡ bucket_insert_bytes (insert_result_of res) }
-{
-    match res {
-        InsertResult::Inserted => Reply::bare(0),
-        InsertResult::Pending(key) => Reply::of_key(key),
-        InsertResult::FailedFilter => Reply::bare(2),
-        InsertResult::TooManyIncoming => Reply::bare(3),
-        InsertResult::Full => Reply::bare(4),
-        InsertResult::NodeExists => Reply::bare(5),
+// The reply of a bucket insert: the number of its result, and the key that it names.
+impl From<InsertResult> for Reply {
+    ghost from_gives = { λ x y. (y.code ≡ bucket_insert_code (insert_result_of x)) × (carried_bytes y.carried ≡ bucket_insert_bytes (insert_result_of x)) };
+
+    fn from(x: InsertResult) -> Reply {
+        match x {
+            InsertResult::Inserted => Reply::bare(0),
+            InsertResult::Pending(key) => Reply::of_key(key),
+            InsertResult::FailedFilter => Reply::bare(2),
+            InsertResult::TooManyIncoming => Reply::bare(3),
+            InsertResult::Full => Reply::bare(4),
+            InsertResult::NodeExists => Reply::bare(5),
+        }
     }
 }
 
-// Internal: the reply of a record, or of none: 1 with the record, or 0.
-#[tactic(auto, using(crate::proofs::Put::record_carried))]
-pub fn applied_reply(applied: Option<EndedPending>) -> Reply
-    ensures code { result.code ≡ applied_code (first (records_of applied)) }
-    ensures carried { carried_bytes result.carried ≡ applied_bytes (first (records_of applied)) }
-{
-    match applied {
-        None => Reply::bare(0),
-        Some(ended) => Reply {
-            code: 1,
-            carried: Some(Carried::Record(ended)),
-        },
+// The reply of a record, or of none: 1 with the record, or 0.
+impl From<Option<EndedPending>> for Reply {
+    ghost from_gives = { λ x y. (y.code ≡ applied_code (first (records_of x))) × (carried_bytes y.carried ≡ applied_bytes (first (records_of x))) };
+
+    #[tactic(auto, using(crate::proofs::Put::record_carried))]
+    fn from(x: Option<EndedPending>) -> Reply {
+        match x {
+            None => Reply::bare(0),
+            Some(ended) => Reply {
+                code: 1,
+                carried: Some(Carried::Record(ended)),
+            },
+        }
     }
 }

@@ -3,3 +3,4 @@ pub mod Named
 pub mod Passes
 pub mod Written
 pub mod Answers
+pub mod Yielded

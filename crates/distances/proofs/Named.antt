@@ -10,7 +10,7 @@ use native.Mathlib.Omega.{arith}
 use lib.Dec.{eqb}
 use lib.ListN.{length, get_or, take}
 use lib.Seq.{take-suc}
-use borrow.Author.Tests.{ne_eqb, eqb-true, eqb-false, le-leb, lt-leb}
+use borrow.Author.Tests.{eqb-true, eqb-false, le-leb, lt-leb}
 use Rattle.model.specs.Base.{same, every, joined}
 use Rattle.model.specs.Bytes.{Bytes}
 use Rattle.model.specs.Layout.{table_of}
@@ -28,7 +28,7 @@ use Rattle.laws.proofs.Applied.{apply_again, apply_all_buckets, apply_all_append
 use Rattle.on_key.specs.Answers.{Ready}
 use Rattle.visit.specs.declared.Given.{Given}
 use Rattle.visit.specs.Passes.{GivenAt}
-use Rattle.distances.specs.Passes.{records_at, held_at, Yields, next_table, table_after}
+use Rattle.distances.specs.Passes.{records_at, yields, held_at, Yields, next_table, table_after}
 
 -- the index of a distance
 
@@ -54,24 +54,24 @@ none_placed (r ∷ rs) e = absurd (never e)
     never : length (r ∷ rs) ≡ 0 → ⊥
     never z = omega arith
 
-pub held_none : (now : ℕ) (t : Table) (o : Option ℕ) → length (placed_of (records_at now t o)) ≡ 0 → held_at now t o ≡ 0
+pub held_none : (now : ℕ) (t : Table) (o : Option ℕ) → yields now t o ≡ false → held_at now t o ≡ 0
 held_none now t none e = refl
 held_none now t (some i) e = rw e
 
 module _ (s : List ℕ) (now i : ℕ) (h : Bytes s) (r : Ready s i) {g : Given} (y : GivenAt now (table_of s) i g) where
-  pub gives_nothing : g.placed ≡ 0 → {z : Given} → z.records ≡ g.records → z.placed ≡ 0 → z.count ≡ 0 → Yields now (table_of s) (some i) z
+  pub gives_nothing : g.placed ≡ false → {z : Given} → z.records ≡ g.records → z.placed ≡ false → z.count ≡ 0 → Yields now (table_of s) (some i) z
   gives_nothing e {z} a b c =
-      let n : length (placed_of (records_at now (table_of s) (some i))) ≡ 0 = sym y.placed ∙ e in
+      let n : yields now (table_of s) (some i) ≡ false = sym y.placed ∙ e in
       record { records = a ∙ y.records; placed = b ∙ sym n; held = c ∙ sym (held_none now (table_of s) (some i) n); one = omega (arith, y.one); few = omega arith }
 
-  pub gives_record : (g.placed ≡ 0 → ⊥) → Yields now (table_of s) (some i) g
+  pub gives_record : g.placed ≡ true → Yields now (table_of s) (some i) g
   gives_record n =
       let t : Table = table_of s in
       let w = (apply_pending_well_formed t.settings i now (t.buckets i) (well_formed_at s h r.size i r.below r.bucket)).formed in
       record {
         records = y.records;
         placed = y.placed;
-        held = y.count ∙ ap (λ (b : Bool). cond (not b) (num_entries (applied now t i)) 0) (sym (ne_eqb (length (placed_of (records_at now t (some i)))) 0 (λ e. n (y.placed ∙ e))));
+        held = y.count ∙ ap (λ (b : Bool). cond b (num_entries (applied now t i)) 0) (sym n ∙ y.placed);
         one = y.one;
         few = omega (arith, y.count, w.at_most);
       }
@@ -79,7 +79,7 @@ module _ (s : List ℕ) (now i : ℕ) (h : Bytes s) (r : Ready s i) {g : Given} 
 pub yields_by : {now : ℕ} {t : Table} {o o' : Option ℕ} {g : Given} → o ≡ o' → Yields now t o' g → Yields now t o g
 yields_by e y = rw e y
 
-pub yields_none : (now : ℕ) (t : Table) (d : ℕ) (g : Given) → g.records ≡ 0 → g.placed ≡ 0 → g.count ≡ 0 → index_at d ≡ none → Yields now t (index_at d) g
+pub yields_none : (now : ℕ) (t : Table) (d : ℕ) (g : Given) → g.records ≡ 0 → g.placed ≡ false → g.count ≡ 0 → index_at d ≡ none → Yields now t (index_at d) g
 yields_none now t d g a p b e = yields_by e (record { records = a; placed = p; held = b; one = omega arith; few = omega arith })
 
 -- a bucket is named before where its distance stands before
@@ -156,14 +156,14 @@ module _ (now : ℕ) (ds : List ℕ) (t : Table) where
 
     -- what the bucket gives, where applying gives a
     abbrev Gives : Given → Bucket × List EndedPending → Type 0
-    Gives g a = (g.records ≡ length a.1) × ((g.placed ≡ length (placed_of a.1)) × (g.count ≡ cond (not (eqb (length (placed_of a.1)) 0)) (num_entries a.0) 0))
+    Gives g a = (g.records ≡ length a.1) × ((g.placed ≡ not (eqb (length (placed_of a.1)) 0)) × (g.count ≡ cond (not (eqb (length (placed_of a.1)) 0)) (num_entries a.0) 0))
 
     pub yields_first : {g : Given} → Yields now t (some i) g → before ≡ false → Yields now u (some i) g
     yields_first {g} y f =
         let m : Gives g (given u) = subst (Gives g) (sym (given_first f)) (y.records, (y.placed, y.held)) in
         record { records = m.0; placed = m.1.0; held = m.1.1; one = y.one; few = y.few }
 
-    pub yields_again : (g : Given) → g.records ≡ 0 → g.placed ≡ 0 → g.count ≡ 0 → before ≡ true → Yields now u (some i) g
+    pub yields_again : (g : Given) → g.records ≡ 0 → g.placed ≡ false → g.count ≡ 0 → before ≡ true → Yields now u (some i) g
     yields_again g r q c f =
         let m : Gives g (given u) = subst (Gives g) (sym (given_again f)) (r, (q, c)) in
         record { records = m.0; placed = m.1.0; held = m.1.1; one = omega arith; few = omega arith }
@@ -172,6 +172,6 @@ module _ (now : ℕ) (ds : List ℕ) (t : Table) where
     yields_nothing {g} y r =
         split (before)
         (λ f.
-        let z : length (placed_of (records_at now t (some i))) ≡ 0 = none_placed (records_at now t (some i)) (sym y.records ∙ r) in
+        let z : yields now t (some i) ≡ false = ap (λ (k : ℕ). not (eqb k 0)) (none_placed (records_at now t (some i)) (sym y.records ∙ r)) in
         yields_again g r (y.placed ∙ z) (y.held ∙ held_none now t (some i) z) f)
         (λ f. yields_first y f)

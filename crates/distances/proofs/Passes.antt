@@ -1,16 +1,16 @@
 -- The survey and the applying pass, distance by distance.
 use mathlib.Core.Path.{◌≡◌, refl, sym, ap, ◌∙◌, subst}
-use mathlib.Core.Bool.{Bool, true, false, cond, not, ◌&&◌}
+use mathlib.Core.Bool.{Bool, true, false, cond, ◌&&◌}
 use mathlib.Core.List.{List, [], ◌∷◌, ◌++◌, append-nil, append_assoc}
 use mathlib.Core.Option.{Option, none, some}
 use Prim.Native.Nat.{ℕ, suc, ◌+◌, ◌≤◌, ◌<◌}
 use native.Mathlib.Nat.{add-zero}
 use native.Mathlib.Numerals.{add-one}
 use native.Mathlib.Omega.{arith}
-use lib.Dec.{eqb, leb}
-use lib.ListN.{length, get_or, take, drop, length-append, take-append-drop}
+use lib.Dec.{leb}
+use lib.ListN.{length, get_or, take, drop, length-append}
 use lib.Seq.{drop-cons, drop-length, take-suc, take-length}
-use borrow.Author.Tests.{eqb-true, leb-false}
+use borrow.Author.Tests.{leb-false}
 use Rattle.model.specs.Base.{joined}
 use Rattle.model.specs.Bytes.{Bytes}
 use Rattle.model.specs.Node.{EndedPending}
@@ -19,14 +19,13 @@ use Rattle.model.specs.Listing.{apply_all, applied_pass, index_at, indices, buck
 use Rattle.model.specs.Sizes.{storage_size}
 use Rattle.model.specs.Layout.{table_of}
 use Rattle.model.specs.Formed.{header_formed, bucket_formed_at, buckets_formed}
-use Rattle.laws.proofs.Tests.{split, and_left, and_right, and_none}
+use Rattle.laws.proofs.Tests.{split, and_none}
 use Rattle.laws.proofs.Lists.{joined_append, every_append}
 use Rattle.laws.proofs.Touched.{distance_of, distances_below}
-use Rattle.laws.proofs.ReadBack.{header_fits}
 use Rattle.on_key.specs.Answers.{Ready}
 use Rattle.visit.specs.declared.Given.{Given}
-use Rattle.visit.specs.Passes.{visit_one, applied_in}
-use Rattle.visit.proofs.Applying.{Appliable, Applying, applying_starts, applying_size, applying_bytes, applying_header, applying_rest, applying_room, applying_next, applying_ends, applying_nothing}
+use Rattle.visit.specs.Passes.{visit_one}
+use Rattle.visit.proofs.Applying.{Appliable}
 use Rattle.distances.specs.declared.pass.Tally.{Tally}
 use Rattle.distances.specs.Passes.{records_at, yields, held_at, Yields, next_table, table_after, distance_pass, passed, Taken, Told}
 use Rattle.distances.proofs.Named.{held_none, table_next}
@@ -74,17 +73,17 @@ module _ (now n seen d : ℕ) (ds : List ℕ) (t : Table) where
       by (some i) = refl
 
 -- the code's test is the pass's
-test_is : (now n seen : ℕ) (t : Table) (o : Option ℕ) {g : Given} (b : Bool) → Yields now t o g → (not (eqb g.placed 0) && leb n (seen + g.count)) ≡ b
+test_is : (now n seen : ℕ) (t : Table) (o : Option ℕ) {g : Given} (b : Bool) → Yields now t o g → (g.placed && leb n (seen + g.count)) ≡ b
     → (yields now t o && leb n (seen + held_at now t o)) ≡ b
-test_is now n seen t o b y e = ap (λ (k : ℕ). not (eqb k 0) && leb n (seen + held_at now t o)) (sym y.placed) ∙ rw (← y.held) e
+test_is now n seen t o b y e = ap (λ (p : Bool). p && leb n (seen + held_at now t o)) (sym y.placed) ∙ rw (← y.held) e
 
 -- what is counted so far stays low
-low_next : (now n seen : ℕ) (t : Table) (o : Option ℕ) {g : Given} → Yields now t o g → n ≤ 4096 → seen ≤ 4096 → (not (eqb g.placed 0) && leb n (seen + g.count)) ≡ false
+low_next : (now n seen : ℕ) (t : Table) (o : Option ℕ) {g : Given} → Yields now t o g → n ≤ 4096 → seen ≤ 4096 → (g.placed && leb n (seen + g.count)) ≡ false
     → seen + g.count ≤ 4096
 low_next now n seen t o {g} y m l e =
-    split (eqb g.placed 0)
-    (λ f. let z : g.count ≡ 0 = y.held ∙ held_none now t o (sym y.placed ∙ eqb-true g.placed 0 f) in omega arith)
+    split g.placed
     (λ f. let z : seen + g.count < n = leb-false n (seen + g.count) (rw f at e) in omega arith)
+    (λ f. let z : g.count ≡ 0 = y.held ∙ held_none now t o (sym y.placed ∙ f) in omega arith)
 
 -- the buckets of one distance more
 named_next : (ds : List ℕ) (p : ℕ) → p < length ds → buckets_at (take (p + 1) ds) ≡ buckets_at (take p ds) ++ indices (index_at (get_or ds p 0))
@@ -169,7 +168,7 @@ module _ (now n : ℕ) (ds s : List ℕ) where
         there : length (distance_pass now n seen (drop p ds) u).1 ≡ length (distance_pass now n seen (d ∷ drop (suc p) ds) u).1
         there = ap (λ (l : List ℕ). length (distance_pass now n seen l u).1) (drop-cons ds p 0 h)
 
-        pub counting_stops : (not (eqb g.placed 0) && leb n (seen + g.count)) ≡ true → {r : Tally} → r.records ≡ records + g.records → r.taken.now ≡ take (p + 1) ds → Told now n ds s r
+        pub counting_stops : (g.placed && leb n (seen + g.count)) ≡ true → {r : Tally} → r.records ≡ records + g.records → r.taken.now ≡ take (p + 1) ds → Told now n ds s r
         counting_stops e k l =
             let z = test_is now n seen u o true y e in
             let q = ap (λ (x : Table × List EndedPending). length x.1) (pass_stops now n seen d (drop (suc p) ds) u z) in
@@ -181,7 +180,7 @@ module _ (now n : ℕ) (ds s : List ℕ) where
             })
             asked_then
 
-        pub counting_goes : n ≤ 4096 → (not (eqb g.placed 0) && leb n (seen + g.count)) ≡ false → Counting now n ds s (records + g.records) (seen + g.count) (p + 1)
+        pub counting_goes : n ≤ 4096 → (g.placed && leb n (seen + g.count)) ≡ false → Counting now n ds s (records + g.records) (seen + g.count) (p + 1)
         counting_goes m e =
             let z = test_is now n seen u o false y e in
             let q = ap (λ (r : Table × List EndedPending). length r.1) (pass_goes now n seen d (drop (suc p) ds) u z) in
@@ -210,11 +209,7 @@ pub record Holds (s : List ℕ) : Type 0 where
   pub size : length s ≡ storage_size
   pub header : header_formed s ≡ true
 
--- one bucket of the applying pass
-
--- the bucket at a distance, where it was asked
-pub formed_of : (s : List ℕ) (d i : ℕ) → index_at d ≡ some i → buckets_formed s (indices (index_at d)) ≡ true → bucket_formed_at s i ≡ true
-formed_of s d i e f = and_left (bucket_formed_at s i) true (ap (λ (o : Option ℕ). buckets_formed s (indices o)) (sym e) ∙ f)
+-- the bucket at a distance
 
 pub ready_of : (s : List ℕ) (d i : ℕ) → Holds s → index_at d ≡ some i → bucket_formed_at s i ≡ true → Ready s i
 ready_of s d i h e f = record { size = h.size; header = h.header; below = (distance_of d i e).below; bucket = f }
@@ -229,101 +224,9 @@ asked_some s {i = i} e f = ap (λ (o : Option ℕ). buckets_formed s (indices o)
     one true = refl
     one false = refl
 
-pub room_at : (now : ℕ) (t : Table) (d i : ℕ) → index_at d ≡ some i → length (next_table now t (index_at d)).queue ≤ max_records → length (visit_one now i t).queue ≤ max_records
-room_at now t d i e h = rw e at h
-
--- no bucket: nothing is written
-none_written : (s : List ℕ) (now : ℕ) → Bytes s → Holds s → s ≡ applied_in s now []
-none_written s now h f =
-    applying_nothing s now []
-    (record { bytes = h; size = f.size; header = f.header; below = tt; formed = refl; room = (header_fits s h f.size f.header).queue }) refl
-
-pub one_nothing : (s : List ℕ) (now d : ℕ) → Bytes s → Holds s → index_at d ≡ none → s ≡ applied_in s now (indices (index_at d))
-one_nothing s now d h f e = none_written s now h f ∙ ap (λ (o : Option ℕ). applied_in s now (indices o)) (sym e)
-
-pub one_bucket : (s : List ℕ) (now d i : ℕ) → index_at d ≡ some i → {u : List ℕ} → u ≡ applied_in s now (i ∷ []) → u ≡ applied_in s now (indices (index_at d))
-one_bucket s now d i e f = f ∙ ap (λ (o : Option ℕ). applied_in s now (indices o)) (sym e)
-
 -- the applying pass
-
--- the buckets from place p on
-here_is : (ds : List ℕ) (p : ℕ) → p < length ds → buckets_at (drop p ds) ≡ indices (index_at (get_or ds p 0)) ++ buckets_at (drop (p + 1) ds)
-unfolding joined
-here_is ds p h =
-    ap buckets_at (drop-cons ds p 0 h)
-    ∙ ap (λ (k : ℕ). indices (index_at (get_or ds p 0)) ++ buckets_at (drop k ds)) (sym (add-one p))
-
--- each of them was asked
-pub formed_at : (s ds : List ℕ) (p : ℕ) → p < length ds → buckets_formed s (buckets_at ds) ≡ true
-    → buckets_formed s (indices (index_at (get_or ds p 0))) ≡ true
-formed_at s ds p h f =
-    let d : ℕ = get_or ds p 0 in
-    let rest : List ℕ = buckets_at (drop (p + 1) ds) in
-    let e : buckets_at ds ≡ buckets_at (take p ds) ++ buckets_at (drop p ds) =
-    ap buckets_at (sym (take-append-drop p ds)) ∙ joined_append (λ (x : ℕ). indices (index_at x)) (take p ds) (drop p ds) in
-    let g : (buckets_formed s (buckets_at (take p ds)) && buckets_formed s (buckets_at (drop p ds))) ≡ true =
-    sym (every_append (bucket_formed_at s) (buckets_at (take p ds)) (buckets_at (drop p ds))) ∙ ap (buckets_formed s) (sym e) ∙ f in
-    and_left (buckets_formed s (indices (index_at d))) (buckets_formed s rest)
-    (sym (every_append (bucket_formed_at s) (indices (index_at d)) rest) ∙ ap (buckets_formed s) (sym (here_is ds p h))
-    ∙ and_right (buckets_formed s (buckets_at (take p ds))) (buckets_formed s (buckets_at (drop p ds))) g)
-
--- one distance further
-module _ (s₀ : List ℕ) (now : ℕ) (is : List ℕ) (a : Appliable s₀ now is) (s rest : List ℕ) where
-  holds_here : (js : List ℕ) → Applying s₀ now is s js → Holds s
-  holds_here js w = record { size = applying_size s₀ now is a s js w; header = applying_header s₀ now is a s js w }
-
-  next_formed : (o : Option ℕ) → Applying s₀ now is s (indices o ++ rest) → buckets_formed s (indices o) ≡ true
-  next_formed o w =
-      and_left (buckets_formed s (indices o)) (buckets_formed s rest)
-      (sym (every_append (bucket_formed_at s) (indices o) rest) ∙ applying_rest s₀ now is a s (indices o ++ rest) w)
-
-  next_room : (o : Option ℕ) → Applying s₀ now is s (indices o ++ rest) → length (next_table now (table_of s) o).queue ≤ max_records
-  next_room none w = (header_fits s (applying_bytes s₀ now is a s rest w) (applying_size s₀ now is a s rest w) (applying_header s₀ now is a s rest w)).queue
-  next_room (some i) w = applying_room s₀ now is a s i rest w
-
-  next_applying : (o : Option ℕ) → Applying s₀ now is s (indices o ++ rest) → (s' : List ℕ) → s' ≡ applied_in s now (indices o) → Applying s₀ now is s' rest
-  next_applying none w s' e =
-      let f : s ≡ s' = none_written s now (applying_bytes s₀ now is a s rest w) (holds_here rest w) ∙ sym e in
-      subst (λ (x : List ℕ). Applying s₀ now is x rest) f w
-  next_applying (some i) w s' e = applying_next s₀ now is a s i rest w s' e
 
 pub pass_appliable : (s₀ : List ℕ) (now : ℕ) (ds : List ℕ) → Bytes s₀ → Holds s₀ → buckets_formed s₀ (buckets_at ds) ≡ true
     → length (table_after now ds (table_of s₀)).queue ≤ max_records → Appliable s₀ now (buckets_at ds)
 unfolding table_after
 pass_appliable s₀ now ds h f b q = record { bytes = h; size = f.size; header = f.header; below = distances_below ds; formed = b; room = q }
-
--- the storage while the distances are visited
-pub record Passing (s₀ : List ℕ) (now : ℕ) (ds s : List ℕ) (p : ℕ) : Type 0 where
-  pub appliable : Appliable s₀ now (buckets_at ds)
-  pub applying : Applying s₀ now (buckets_at ds) s (buckets_at (drop p ds))
-
-pub passing_starts : (s₀ : List ℕ) (now : ℕ) (ds : List ℕ) → Appliable s₀ now (buckets_at ds) → Passing s₀ now ds s₀ 0
-passing_starts s₀ now ds a = record { appliable = a; applying = applying_starts s₀ now (buckets_at ds) a }
-
-module _ {s₀ : List ℕ} {now : ℕ} {ds s : List ℕ} {p : ℕ} (w : Passing s₀ now ds s p) where
-  abbrev is : List ℕ
-  is = buckets_at ds
-
-  pub passing_ends : p ≡ length ds → s ≡ applied_in s₀ now is
-  unfolding joined
-  passing_ends e =
-      applying_ends s₀ now is w.appliable s (buckets_at (drop p ds)) w.applying (ap buckets_at (ap (λ (k : ℕ). drop k ds) e ∙ drop-length ds))
-
-  pub passing_holds : Holds s
-  passing_holds = holds_here s₀ now is w.appliable s [] (buckets_at (drop p ds)) w.applying
-
-  module _ (h : p < length ds) where
-    abbrev later : List ℕ
-    later = buckets_at (drop (p + 1) ds)
-
-    here : Applying s₀ now is s (indices (index_at (get_or ds p 0)) ++ later)
-    here = subst (Applying s₀ now is s) (here_is ds p h) w.applying
-
-    pub passing_formed : buckets_formed s (indices (index_at (get_or ds p 0))) ≡ true
-    passing_formed = next_formed s₀ now is w.appliable s later (index_at (get_or ds p 0)) here
-
-    pub passing_room : length (next_table now (table_of s) (index_at (get_or ds p 0))).queue ≤ max_records
-    passing_room = next_room s₀ now is w.appliable s later (index_at (get_or ds p 0)) here
-
-    pub passing_next : {s' : List ℕ} → s' ≡ applied_in s now (indices (index_at (get_or ds p 0))) → Passing s₀ now ds s' (p + 1)
-    passing_next {s'} e = record { appliable = w.appliable; applying = next_applying s₀ now is w.appliable s later (index_at (get_or ds p 0)) here s' e }

@@ -27,7 +27,7 @@ held_at now t (some i) = cond (yields now t (some i)) (num_entries (applied now 
 
 pub record Yields (now : ℕ) (t : Table) (o : Option ℕ) (g : Given) : Type 0 where
   pub records : g.records ≡ length (records_at now t o)
-  pub placed : g.placed ≡ length (placed_of (records_at now t o))
+  pub placed : g.placed ≡ yields now t o
   pub held : g.count ≡ held_at now t o
   pub one : g.records ≤ 1
   pub few : g.count ≤ max_nodes_per_bucket

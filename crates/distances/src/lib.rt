@@ -14,7 +14,7 @@ pub mod pass;
 use node::Refusal;
 use storage::Layout;
 
-// n, or 1 where it is 0.
+// n, or 1 where it is 0: std's `max` under the model's name.
 fn at_least_one(n: usize) -> usize
     ensures { result ≡ at_least_one n }
 {

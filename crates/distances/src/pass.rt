@@ -1,5 +1,6 @@
 // Internal: the passes of nodes_by_distances (kbucket.rs). A survey asks question 2 of the buckets of the applying pass and counts the
 // records that it would give, for question 8; the applying pass applies the due pendings in the storage; then the nodes are written.
+// These passes are not one more Order of visit: they count only the buckets that place a pending, and a bucket may be named twice.
 ghost use Rattle.std.specs.Prelude.{◌≡◌, true, [], ◌∷◌, ◌+◌, ◌-◌, ◌*◌, ◌≤◌, ◌<◌, length};
 ghost use Rattle.std.proofs.Math.Option.{some};
 ghost use Rattle.model.specs.Base.{joined};
@@ -31,7 +32,8 @@ pub struct Tally<'a> {
     pub taken: &'a [u64],
 }
 
-// The index of the bucket at a distance from 1 to 256; none at any other.
+// The index of the bucket at a distance from 1 to 256; none at any other. A cast: the pattern has the bound, and `try_from` would say that
+// it may fail.
 fn index_at(d: u64) -> Option<usize>
     ensures { option_of result ≡ index_at d }
 {
@@ -47,13 +49,13 @@ fn given_in(s: &[u8; Layout::STORAGE], i: usize, time: u64) -> Given
     ensures { Yields time (table_of s.now) (some i) result }
 {
     let g = visit::given_at(s, i, time);
-    if g.placed == 0 {
-        return Given {
-            records: g.records,
-            ..Given::default()
-        };
+    if g.placed {
+        return g;
     }
-    g
+    Given {
+        records: g.records,
+        ..Given::default()
+    }
 }
 
 // Question 2 of the bucket at distance d, and what it gives, those at the distances before it being visited; nothing where there is none.
@@ -92,11 +94,11 @@ pub fn survey<'a>(
 {
     let mut records = 0;
     let mut seen = 0;
-    for p in 0..distances.len() {
-        let g = given_at(s, &distances[..p], distances[p], time)?;
+    for (p, d) in distances.iter().enumerate() {
+        let g = given_at(s, &distances[..p], *d, time)?;
         records += g.records;
         seen += g.count;
-        if (g.placed != 0) & (n <= seen) {
+        if g.placed & (n <= seen) {
             return Ok(Tally {
                 records,
                 taken: &distances[..p + 1],
@@ -107,18 +109,6 @@ pub fn survey<'a>(
         records,
         taken: distances,
     })
-}
-
-// Applies the due pending of the bucket at distance d in the storage.
-fn apply_one(s: &mut [u8; Layout::STORAGE], d: u64, time: u64)
-    requires header { header_formed s.old ≡ true }
-    requires d_value { buckets_formed s.old (indices (index_at d)) ≡ true }
-    requires d_len_bound { length (next_table time (table_of s.old) (index_at d)).queue ≤ max_records }
-    ensures { s.new ≡ applied_in s.old time (indices (index_at d)) }
-{
-    if let Some(i) = index_at(d) {
-        visit::apply_in(s, i, time);
-    }
 }
 
 // Internal: the applying pass over the storage. Where the survey counted no record, none is due.
@@ -132,22 +122,8 @@ pub fn apply_pass(s: &mut [u8; Layout::STORAGE], tally: Tally, time: u64)
     if tally.records == 0 {
         return;
     }
-    for d in tally.taken {
-        apply_one(s, *d, time);
-    }
-}
-
-// Writes the nodes of the bucket at distance d behind the k that are there, up to n; answers how many are there then.
-fn put_one(s: &[u8; Layout::STORAGE], d: u64, out: &mut [u8], k: usize, n: usize) -> usize
-    requires d_value { buckets_formed s.now (indices (index_at d)) ≡ true }
-    requires k_le_n { k ≤ n }
-    requires node_size_in_bounds { n * node_size ≤ length out.old }
-    ensures value { result ≡ k + length (listed_nodes (table_of s.now) (n - k) (d ∷ [])) }
-    ensures out_after { out.new ≡ splice out.old (k * node_size) (joined node_bytes (listed_nodes (table_of s.now) (n - k) (d ∷ []))) }
-{
-    match index_at(d) {
-        Some(i) => items::put_bucket(s, i, Shape::Nodes, out, k, n),
-        None => k,
+    for i in tally.taken.iter().filter_map(|d| index_at(*d)) {
+        visit::apply_in(s, i, time);
     }
 }
 
@@ -159,8 +135,8 @@ pub fn put_all(s: &[u8; Layout::STORAGE], distances: &[u64], out: &mut [u8], n: 
     ensures out_after { out.new ≡ splice out.old 0 (joined node_bytes (listed_nodes (table_of s.now) n distances.now)) }
 {
     let mut k = 0;
-    for d in distances {
-        k = put_one(s, *d, out, k, n);
+    for i in distances.iter().filter_map(|d| index_at(*d)) {
+        k += items::put_bucket(s, i, Shape::Nodes, &mut out[k * Layout::NODE..], n - k);
     }
     k
 }

@@ -11,9 +11,8 @@ use Rattle.model.specs.Node.{Node, PendingNode}
 use Rattle.model.specs.Bucket.{Bucket, get}
 use Rattle.model.specs.Table.{EntryKind, kind_if_pending, kind_of_node, kind_of, kind_in, index_in}
 use Rattle.model.specs.Layout.{table_of}
-use Rattle.model.specs.Call.{ValueArgument}
-use Rattle.model.specs.Question.{value_in_range, is_present, is_pending, is_absent, kind_of_key}
-use Rattle.laws.proofs.Tests.{and_left, and_right, and_turned}
+use Rattle.model.specs.Question.{is_present, is_pending, is_absent, kind_of_key}
+use Rattle.laws.proofs.Tests.{and_left, and_right}
 use Rattle.key.specs.declared.Key.{Key}
 use Rattle.key.specs.Key.{num}
 use Rattle.node.specs.declared.NodeStatus.{NodeStatus}
@@ -21,9 +20,7 @@ use Rattle.node.specs.declared.Node as declared
 use Rattle.node.specs.Node.{node_codes}
 use Rattle.bucket.specs.declared.KBucket.{KBucket}
 use Rattle.bucket.specs.Bucket.{bucket_of, Becomes}
-use Rattle.on_key.specs.Answers.{failed_of_five}
 use Rattle.on_key.specs.Start.{AtBucket}
-use Rattle.on_key.proofs.Questions.{passed_five}
 use Rattle.entry.specs.declared.EntryKind as code
 use Rattle.entry.specs.Kind.{kind_of as told}
 
@@ -62,15 +59,6 @@ kind_told {s} {key} {k = k} {i = i} y x e =
 pub status_codes : (n : declared.Node) → node_codes n ≡ true → (leb n.status.state 1 && leb n.status.direction 1) ≡ true
 status_codes n h =
     rw (and_left (leb n.status.state 1) _ h) (and_left (leb n.status.direction 1) _ (and_right (leb n.status.state 1) _ h))
-
--- Absent insert: the codes that it asks about, and those of the node that it inserts
-abbrev pub insert_codes : ValueArgument → ℕ → ℕ → Bool
-insert_codes v state direction = value_in_range v && (leb state 1 && leb direction 1)
-
-pub node_codes_lem : (s key : List ℕ) (v : ValueArgument) (state direction time : ℕ) → failed_of_five key (insert_codes v state direction) (some time) s ≡ none
-    → (leb state 1 && (leb direction 1 && value_in_range v)) ≡ true
-node_codes_lem s key v state direction time e =
-    and_turned (value_in_range v) (leb state 1) (leb direction 1) (passed_five s key (insert_codes v state direction) (some time) e).in_range
 
 -- a kind that is none of the entry's action
 pub not_present : (x : code.EntryKind) → ((s : NodeStatus) → x ≡ code.EntryKind.Present s → ⊥) → is_present (told x) ≡ false

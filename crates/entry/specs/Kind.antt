@@ -1,8 +1,8 @@
 -- What the answers of the entry calls mean.
-use Rattle.std.specs.Prelude.{Result, Ok, Err, Bool, true, ◌&&◌, eqb, leb}
+use Rattle.std.specs.Prelude.{Result, Ok, Err, Bool, true, eqb}
 use Rattle.model.specs.Table as model
-use Rattle.node.specs.declared.NodeStatus.{NodeStatus}
 use Rattle.node.specs.declared.Refusal.{Refusal}
+use Rattle.node.specs.Node.{status_codes}
 use Rattle.node.specs.Refusal.{answer_of}
 use Rattle.bucket.specs.declared.InsertResult.{InsertResult}
 use Rattle.bucket.specs.Calls.{insert_result_of}
@@ -17,10 +17,7 @@ kind_of EntryKind.SelfEntry = model.EntryKind.SelfEntry
 abbrev pub entry_answer : Result EntryKind Refusal → model.Answer
 entry_answer = answer_of (λ k. model.Answer.Entry (kind_of k))
 
--- 01, question 4: state and direction 0 or 1
-abbrev pub status_codes : NodeStatus → Bool
-status_codes s = leb s.state 1 && leb s.direction 1
-
+-- the codes of the status that it carries pass question 4
 abbrev pub kind_codes : EntryKind → Bool
 kind_codes (EntryKind.Present s) = status_codes s
 kind_codes (EntryKind.Pending s) = status_codes s

@@ -1,2 +1,3 @@
 -- What the contracts of `entry` cite beside the model.
 pub mod Kind
+pub mod Start

@@ -1,8 +1,8 @@
 -- The query, by the questions, by the key's index, and by what the call does to the key's bucket.
 use Rattle.std.specs.Prelude as code
-use Rattle.std.specs.Prelude.{Result, Ok, Err}
+use Rattle.std.specs.Prelude.{Result, Ok, Err, Some, None, IfSome}
 use Rattle.std.specs.Result.{IsErrAnd}
-use Rattle.std.specs.Option.{ok_or}
+use Rattle.std.specs.Option.{is_some, ok_or}
 use Rattle.std.proofs.lemmas.Result.{err_from_is_err_and}
 use Prim.Native.Nat.{ℕ, ◌+◌}
 use native.Mathlib.Nat.{add-zero}
@@ -40,11 +40,11 @@ use Rattle.on_key.proofs.Questions.{stricter_fails}
 use Rattle.on_key.proofs.Stored.{no_room}
 use Rattle.on_key.proofs.Ended.{size_told, own_formed}
 use Rattle.on_key.proofs.OneKey.{ReadFormed, hours, read_own, reads_none, reads_are}
-use Rattle.on_key.proofs.Steps.{begun_at}
+use Rattle.on_key.proofs.Steps.{started}
 use Rattle.entry.proofs.Kind.{kind_self}
 use Rattle.explanation.specs.declared.Reason as declared
 use Rattle.explanation.specs.Explanation.{reason_of}
-use Rattle.explain.specs.Calls.{Explains, failed_at_opening, Opened, last_asked}
+use Rattle.explain.specs.Calls.{Explains, failed_at_opening, Opened, EntryOpened, last_asked}
 
 -- the exit of a `?`: the query answers the refusal that was met
 pub refused_exit : (r : Result ℕ Refusal) (e : Refusal) → IsErrAnd r (λ x. x ≡ e) → {out : List ℕ} {x : Replied} → Explains (Err e) out x → Explains r out x
@@ -81,11 +81,19 @@ module _ (s key : List ℕ) (codes : Bool) (now : Option ℕ) (room : Bool) wher
     pub opened_short : room ≡ false → failed_at_opening key codes now room s ≡ some 6
     opened_short f = opened_then ∙ rw f
 
-    pub opened_at : room ≡ true → (r : Result (code.Option (Key × ℕ)) Refusal) → Located s key r → Opened s key codes now room r
-    opened_at f (Err r) l =
+    pub opened_malformed : room ≡ true → {r : Refusal} → Located s (number key) (Err r) → failed_at_opening key codes now room s ≡ some (number_of r)
+    opened_malformed f l =
         opened_then ∙ ap (λ (b : Bool). first_failed ((6, b) ∷ (2, key_formed s key) ∷ [])) f ∙ ap (λ (b : Bool). cond b none (some 2)) l.1
         ∙ ap (λ (q : Refusal). some (number_of q)) (sym l.0)
-    opened_at f (Ok x) l = (f, begun_at s key codes now e (Ok x) l)
+
+-- what an explanation has at its start: codes are what question 4 asks of the call's arguments, P is what is known of them behind it
+pub opened_self : {T : Type 0} (s key : List ℕ) (arguments : code.Option T) {codes : Bool} (now : Option ℕ) {room : Bool} → is_some arguments ≡ codes → Opened s key arguments now room (Ok None)
+    → (room ≡ true) × ((failed_of_five key codes now s ≡ none) × (index_in (table_of s) (number key) ≡ none))
+opened_self s key arguments now p y = rw p at y
+
+pub opened : {T : Type 0} (P : T → Type 0) {s key : List ℕ} {arguments : code.Option T} {codes : Bool} {now : Option ℕ} {room : Bool} {k : Key} {i : ℕ} {x : T} → is_some arguments ≡ codes → IfSome arguments P
+    → Opened s key arguments now room (Ok (Some (k, i, x))) → ((room ≡ true) × AtBucket s key codes now k i) × P x
+opened P p v y = let z = started P p v y.1 in ((y.0, z.0), z.1)
 
 -- a call on one key
 
@@ -180,6 +188,12 @@ module _ (s key : List ℕ) (c : KeyCall) (out : List ℕ) where
         ends y.0 y.1.0 (reads_none s key c y.1.1) k
         (ap (λ (n : ℕ). leb n max_records) (add-zero (length t.queue)) ∙ ap (λ (o : Outcome). leb (length o.table.queue) max_records) a) n
         (ap (λ (o : Outcome). told o.answer) a) (ap (key_reason (bucket_reason c key t)) (sym y.1.1)) x
+
+  -- one of the questions that `begin_entry` asks, with 7 of the local key
+  pub refused_entry : {T : Type 0} (arguments : code.Option T) (r : Result ℕ Refusal) {q : Refusal} → is_some arguments ≡ codes → IsErrAnd r (λ x. x ≡ q) → EntryOpened s key arguments now room (Err q)
+      → (key_arguments c).kind EntryKind.SelfEntry ≡ false → Explains r out (explain_bytes key c out s)
+  refused_entry arguments r {q} p h (inl e) k = refused_opening r q h (rw p at e)
+  refused_entry arguments r {q} p h (inr e) k = refused_exit r q h (rw e.0 (refused_self (opened_self s key arguments now p e.1) k))
 
   -- any other key
   module _ {k : Key} {i : ℕ} (y : (room ≡ true) × AtBucket s key codes now k i) where

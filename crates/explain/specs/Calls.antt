@@ -1,6 +1,7 @@
 -- The calls that are explained, what the query answers, and what it owes.
 use Rattle.std.specs.Prelude as code
-use Rattle.std.specs.Prelude.{Result, Ok, Err, ℕ, ◌≡◌, Bool, true, cond, List, [], ◌∷◌, ◌++◌}
+use Rattle.std.specs.Prelude.{Result, Ok, Err, ℕ, ◌≡◌, ◌⊎◌, Bool, true, cond, List, [], ◌∷◌, ◌++◌}
+use Rattle.std.specs.Option.{is_some}
 use Rattle.std.proofs.Math.Option.{Option, some}
 use Rattle.model.specs.Result.{Reply}
 use Rattle.model.specs.Session.{Session}
@@ -38,9 +39,14 @@ unfoldable pub failed_at_opening : List ℕ → Bool → Option ℕ → (room : 
 failed_at_opening key codes now room s = first_failed (first_five key codes now s ++ ((6, room) ∷ (2, key_formed s key) ∷ []))
 
 -- how an explanation starts: as its call, with 6 asked in its turn
-abbrev pub Opened : List ℕ → List ℕ → Bool → Option ℕ → (room : Bool) → Result (code.Option (Key × ℕ)) Refusal → Type 0
-Opened s key codes now room (Err r) = failed_at_opening key codes now room s ≡ some (number_of r)
-Opened s key codes now room (Ok x) = (room ≡ true) × Begun s key codes now (Ok x)
+abbrev pub Opened : {T : Type 0} → List ℕ → List ℕ → code.Option T → Option ℕ → (room : Bool) → Result (code.Option (Key × ℕ × T)) Refusal → Type 0
+Opened s key arguments now room (Err r) = failed_at_opening key (is_some arguments) now room s ≡ some (number_of r)
+Opened s key arguments now room (Ok x) = (room ≡ true) × Begun s key arguments now (Ok x)
+
+-- the same of an action on an entry: of the local key it is refused with 7
+abbrev pub EntryOpened : {T : Type 0} → List ℕ → List ℕ → code.Option T → Option ℕ → (room : Bool) → Result (Key × ℕ × T) Refusal → Type 0
+EntryOpened s key arguments now room (Err r) = Opened s key arguments now room (Err r) ⊎ ((r ≡ Refusal.Kind) × Opened s key arguments now room (Ok code.None))
+EntryOpened s key arguments now room (Ok x) = Opened s key arguments now room (Ok (code.Some x))
 
 -- 01, question 8, then 02's 10 and 11 by the first of them that fails, and the line where none does
 unfoldable pub last_asked : (room : Bool) (hours : Option ℕ) (line output : List ℕ) → Replied

@@ -13,20 +13,19 @@ ghost use Rattle.bucket.specs.Calls.{records_of};
 ghost use Rattle.on_key.specs.Answers.{room_for};
 ghost use Rattle.session.specs.Hours.{hours_of};
 ghost use Rattle.explanation.specs.Explanation.{told_of, reason_of};
-ghost use Rattle.explain.specs.Calls.{call_of, Explains, Opened, last_asked};
+ghost use Rattle.explain.specs.Calls.{call_of, Explains, Opened, EntryOpened, last_asked};
 
 use bucket::{EndedPending, FailureReason};
 use entry::EntryKind;
 use explanation::{Reason, Told};
 use key::Key;
-use node::{
-    Code, Node, NodeInRange, NodeStatus, NodeUpdate, Refusal, StatusUpdate, Value, ValueInRange,
-};
+use node::{Code, NodeFields, NodeStatus, NodeUpdate, Refusal, StatusInRange, StatusUpdate, Value};
 use session::Hours;
 use storage::Layout;
 use well_formed::FormedTable;
 
-// A call on a peer's key, with its arguments: value, state and direction, time.
+// A call on a peer's key, with its arguments: value, state and direction, time. It is what slip 1 gives a host's tool (docs/API.md); the
+// exports do not make one, since C has a name for each call, nor does host/, which stands on the exports.
 #[derive(Clone, Copy)]
 pub enum PeerCall {
     InsertOrUpdate(Value, NodeStatus, u64),
@@ -42,25 +41,43 @@ pub enum PeerCall {
 pub const ROOM: usize = 2048;
 
 // How an explanation starts: questions 2 to 4 and, where a time is given, 5; 6 of an output of `room` bytes; then 2 of the key's bucket.
-// The key and its bucket, or none for the local key.
-fn begin(
+// The key, its bucket and the call's arguments, or none for the local key, of which the call says what it tells. Not on_key's `begin`:
+// question 6 is asked before 2 of the bucket.
+fn begin<T: Copy>(
     s: &[u8; Layout::STORAGE],
     key: &[u8],
-    codes: bool,
+    arguments: Option<T>,
     time: Option<u64>,
     room: usize,
-) -> Result<Option<(Key, usize)>, Refusal>
-    ensures { Opened s.now key.now codes (option_of time) (leb explanation_room room) result }
+) -> Result<Option<(Key, usize, T)>, Refusal>
+    ensures { Opened s.now key.now arguments (option_of time) (leb explanation_room room) result }
 {
-    on_key::asked(s, key, codes, time)?;
+    let (k, arguments) = on_key::asked(s, key, arguments, time)?;
     if room < ROOM {
         return Err(Refusal::Output);
     }
-    on_key::located(s, key)
+    let Some((k, i)) = on_key::located(s, k)? else {
+        return Ok(None);
+    };
+    Ok(Some((k, i, arguments)))
+}
+
+// The same of an action on an entry, with question 7 of the local key, which no action is for.
+fn begin_entry<T: Copy>(
+    s: &[u8; Layout::STORAGE],
+    key: &[u8],
+    arguments: Option<T>,
+    time: Option<u64>,
+    room: usize,
+) -> Result<(Key, usize, T), Refusal>
+    ensures { EntryOpened s.now key.now arguments (option_of time) (leb explanation_room room) result }
+{
+    begin(s, key, arguments, time, room)?.ok_or(Refusal::Kind)
 }
 
 // How an explanation ends: question 8, then 10 and 11, then the line, whose length it answers. `applied` is the record of the call, `asked`
-// what 10 and 11 answered.
+// what 10 and 11 answered. `told` and `why` are no struct: eleven calls would make it, for two functions. That the header is well formed is
+// a clause: what else asks it here is also called on storage that is written, which no struct can hold.
 fn ended(
     s: &[u8; Layout::STORAGE],
     out: &mut [u8],
@@ -83,7 +100,7 @@ pub fn explain_remove(s: &[u8], key: &[u8], time: u64, out: &mut [u8]) -> Result
     ensures { Explains result out.new (explain_bytes key.now (KeyCall.remove time) out.old s.now) }
 {
     let s = s.as_array().ok_or(Refusal::Size)?;
-    let Some((k, i)) = begin(s, key, true, Some(time), out.len())? else {
+    let Some((k, i, ())) = begin(s, key, Some(()), Some(time), out.len())? else {
         let why = Some(Reason::LocalKey);
         return ended(s, out, None, Ok(()), Told::Removed(false), why);
     };
@@ -112,12 +129,11 @@ pub fn explain_update_node_status(
     ensures { Explains result out.new (explain_bytes key.now (KeyCall.update_node_status state direction time) out.old s.now) }
 {
     let s = s.as_array().ok_or(Refusal::Size)?;
-    let codes = (state <= 1) & (direction <= 2);
-    let Some((k, i)) = begin(s, key, codes, Some(time), out.len())? else {
+    let status = StatusUpdate::of(state, direction);
+    let Some((k, i, status)) = begin(s, key, status, Some(time), out.len())? else {
         let why = Some(Reason::LocalKey);
         return ended(s, out, None, Ok(()), Told::NotModified, why);
     };
-    let status = StatusUpdate { state, direction };
     let applied = on_key::apply_at(s, i, time);
     let b = applied.bucket;
     let step = b.update_status(k, status);
@@ -143,18 +159,14 @@ pub fn explain_update_node(
     ensures { Explains result out.new (explain_bytes key.now (KeyCall.update_node (argument_of value) state time) out.old s.now) }
 {
     let s = s.as_array().ok_or(Refusal::Size)?;
-    let codes = value.in_range() & (state <= 2);
-    let Some((k, i)) = begin(s, key, codes, Some(time), out.len())? else {
+    let update = NodeUpdate::of(value, state);
+    let Some((k, i, update)) = begin(s, key, update, Some(time), out.len())? else {
         let why = Some(Reason::LocalKey);
         return ended(s, out, None, Ok(()), Told::NotModified, why);
     };
     let fails = table_filter::asked_filter(s, i, k, value)?;
     let applied = on_key::apply_at(s, i, time);
     let b = applied.bucket;
-    let update = NodeUpdate {
-        value: ValueInRange { value },
-        state,
-    };
     let step = bucket_update::update_node_in(b, fails, k, update, time);
     let record = on_key::record_of(
         applied.result,
@@ -183,8 +195,8 @@ pub fn explain_insert_or_update(
     ensures { Explains result out.new (explain_bytes key.now (KeyCall.insert_or_update (argument_of value) status.state status.direction time (hours_of hours.entry)) out.old s.now) }
 {
     let s = s.as_array().ok_or(Refusal::Size)?;
-    let codes = value.in_range() & ((status.state <= 1) & (status.direction <= 1));
-    let Some((k, i)) = begin(s, key, codes, Some(time), out.len())? else {
+    let fields = NodeFields::of(value, status);
+    let Some((k, i, fields)) = begin(s, key, fields, Some(time), out.len())? else {
         let told = Told::Failed(FailureReason::InvalidSelfUpdate);
         let why = Some(Reason::LocalKey);
         return ended(s, out, None, session::asked(hours, true), told, why);
@@ -192,13 +204,7 @@ pub fn explain_insert_or_update(
     let fails = table_filter::asked_filter(s, i, k, value)?;
     let applied = on_key::apply_at(s, i, time);
     let b = applied.bucket;
-    let node = NodeInRange {
-        node: Node {
-            key: k,
-            value,
-            status,
-        },
-    };
+    let node = fields.with_key(k);
     let step = bucket_update::insert_or_update_in(b, fails, node, time);
     let record = on_key::record_of(
         applied.result,
@@ -226,13 +232,12 @@ pub fn explain_present_update(
     ensures { Explains result out.new (explain_bytes key.now (KeyCall.present_update state direction) out.old s.now) }
 {
     let s = s.as_array().ok_or(Refusal::Size)?;
-    let codes = (state <= 1) & (direction <= 2);
-    let (k, i) = begin(s, key, codes, None, out.len())?.ok_or(Refusal::Kind)?;
+    let status = StatusUpdate::of(state, direction);
+    let (k, i, status) = begin_entry(s, key, status, None, out.len())?;
     let stored = buckets::load_bucket(s, i);
     let EntryKind::Present(_) = entry::kind_of(&stored, k) else {
         return Err(Refusal::Kind);
     };
-    let status = StatusUpdate { state, direction };
     let step = stored.update_status(k, status);
     let record = on_key::record_of(None, stored.bucket.pending, step.bucket.bucket.pending, k);
     let why = reasons::status_reason(&stored, k, status);
@@ -249,8 +254,7 @@ pub fn explain_pending_update(
     ensures { Explains result out.new (explain_bytes key.now (KeyCall.pending_update status.state status.direction) out.old s.now) }
 {
     let s = s.as_array().ok_or(Refusal::Size)?;
-    let codes = (status.state <= 1) & (status.direction <= 1);
-    let (k, i) = begin(s, key, codes, None, out.len())?.ok_or(Refusal::Kind)?;
+    let (k, i, _) = begin_entry(s, key, StatusInRange::of(status), None, out.len())?;
     let stored = buckets::load_bucket(s, i);
     let EntryKind::Pending(_) = entry::kind_of(&stored, k) else {
         return Err(Refusal::Kind);
@@ -271,19 +275,13 @@ pub fn explain_absent_insert(
     ensures { Explains result out.new (explain_bytes key.now (KeyCall.absent_insert (argument_of value) status.state status.direction time (hours_of hours.entry)) out.old s.now) }
 {
     let s = s.as_array().ok_or(Refusal::Size)?;
-    let codes = value.in_range() & ((status.state <= 1) & (status.direction <= 1));
-    let (k, i) = begin(s, key, codes, Some(time), out.len())?.ok_or(Refusal::Kind)?;
+    let fields = NodeFields::of(value, status);
+    let (k, i, fields) = begin_entry(s, key, fields, Some(time), out.len())?;
     let stored = buckets::load_bucket(s, i);
     let EntryKind::Absent = entry::kind_of(&stored, k) else {
         return Err(Refusal::Kind);
     };
-    let node = NodeInRange {
-        node: Node {
-            key: k,
-            value,
-            status,
-        },
-    };
+    let node = fields.with_key(k);
     let step = stored.insert(node, time);
     let why = reasons::insert_reason(&stored, node.node);
     let asked = session::asked(hours, false);
@@ -291,7 +289,7 @@ pub fn explain_absent_insert(
 }
 
 // The line of a call: what it would answer, and why. The hours are those of insert_or_update and of Absent's insert, and nothing to the
-// others. The call is a value, since slip 1's tool is given one; so a match chooses the step.
+// others.
 pub fn explain(
     s: &[u8],
     key: &[u8],

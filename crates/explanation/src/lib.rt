@@ -119,7 +119,8 @@ impl From<bucket_update::InsertResult> for Told {
 }
 
 // The bytes of the word, put at the front of the output. It answers how many they are, as all that put text do. No Display and `write!`:
-// the bytes that these write are ensured of a String alone, and that needs a heap.
+// the bytes that these write are ensured of a String alone, and that needs a heap. That the output has room is a clause of each: each wants
+// another number of bytes, and the output is written.
 fn put_word(out: &mut [u8], word: &[u8]) -> usize
     requires { length word.now ≤ length out.old }
     ensures { Put word.now out.old out.new result }
@@ -147,7 +148,8 @@ fn put_spaced_key(out: &mut [u8], key: Key) -> usize
     n + put_key(&mut out[n..], key)
 }
 
-// The failure's name.
+// The failure's name. One arm for each, as its code in `codes::reason_code`: the one is the words of document 02, the other a number of the C
+// interface.
 fn failure_word(failure: FailureReason) -> &'static [u8]
     ensures { result.now ≡ failure_text (failure_reason_of failure) }
 {
@@ -244,7 +246,8 @@ fn put_held(out: &mut [u8], nodes: &[Node], test: Test) -> usize
     n
 }
 
-// The same of the nodes of a bucket in the storage. Where there is no room it reads nothing.
+// The same of the nodes of a bucket in the storage. One function for both would take an iterator of nodes, with what it gives as a clause.
+// Where there is no room it reads nothing.
 fn put_stored(out: &mut [u8], held: Nodes, test: Test) -> usize
     ensures { PutKeys (keys_of (select (passes test) (nodes (bucket_in held.entry.bucket.now)))) out.old out.new result }
 {
@@ -252,9 +255,8 @@ fn put_stored(out: &mut [u8], held: Nodes, test: Test) -> usize
         return 0;
     }
     let mut n = 0;
-    for j in 0..held.count {
-        let node = storage::load_node(held.place(j));
-        n += put_node(&mut out[n..], test, node);
+    for place in held.places() {
+        n += put_node(&mut out[n..], test, storage::load_node(place));
     }
     n
 }
@@ -303,14 +305,10 @@ fn put_why(out: &mut [u8], why: Option<Reason>) -> usize
             n + put_table(&mut out[n..end], *table, Test::CountsOther(*key, *value))
         }
         Reason::BucketFilter(b, value) => {
-            let b = &b.bucket;
             let end = n + node::filter::MAX_NODES_PER_SUBNET_BUCKET * SPACED_KEY;
-            n + put_held(&mut out[n..end], &b.nodes[..b.count], Test::Counts(*value))
+            n + put_held(&mut out[n..end], b.nodes(), Test::Counts(*value))
         }
-        Reason::IncomingLimit(b) => {
-            let b = &b.bucket;
-            n + put_held(&mut out[n..], &b.nodes[..b.count], Test::Incoming)
-        }
+        Reason::IncomingLimit(b) => n + put_held(&mut out[n..], b.nodes(), Test::Incoming),
         Reason::Pending(key) => n + put_spaced_key(&mut out[n..], *key),
         _ => n,
     }

@@ -2,9 +2,10 @@
 use mathlib.Core.Path.{◌≡◌, refl, sym, ap, ◌∙◌}
 use mathlib.Core.Bool.{true}
 use mathlib.Core.List.{List, [], ◌∷◌, ◌++◌, append_assoc, append-nil}
-use mathlib.Core.Option.{some}
+use mathlib.Core.Option.{none, some}
 use Prim.Native.Nat.{ℕ, ◌+◌, ◌*◌, ◌-◌, ◌≤◌, ◌<◌}
 use native.Mathlib.Omega.{arith}
+use lib.Dec.{eqb}
 use borrow.Author.Tests.{ne_eqb}
 use Rattle.std.specs.Prelude.{Some, None}
 use borrow.Rule.Slice.PartMut.{put_mid}
@@ -17,6 +18,7 @@ use Rattle.model.specs.Table.{Settings, with_queue, max_records}
 use Rattle.model.specs.Sizes.{key_size, node_size, record_size, record_count_at, padding_size, records_at, record_at, header_size, storage_size}
 use Rattle.model.specs.Layout.{evicting_kind, ending_kind, evicted_bytes, record_bytes, header_bytes, ending_of, ending_in, record_in, record_part, table_of}
 use Rattle.model.specs.Formed.{record_formed, header_formed}
+use Rattle.laws.proofs.Tests.{cases}
 use Rattle.laws.proofs.Lists.{joined_snoc, length_tabulate, get_d_tabulate}
 use Rattle.laws.proofs.Parts.{length_part, length_splice, set_splice, splice_part, splice_next, part_part, part_between}
 use Rattle.laws.proofs.Shifts.{splice_between}
@@ -29,12 +31,11 @@ use Rattle.key.specs.Key.{num}
 use Rattle.key.proofs.Bytes.{splice_all}
 use Rattle.words.proofs.Words.{set_more, put_mid_splice}
 use Rattle.node.specs.declared.Node as stored
-use Rattle.node.specs.declared.NodeInRange.{NodeInRange}
 use Rattle.node.specs.Node.{node_of, node_codes}
-use Rattle.bucket.specs.declared.Ending as code
-use Rattle.bucket.specs.declared.Ending.TheVariants as ending
-use Rattle.bucket.specs.declared.EndedPending as ended
-use Rattle.bucket.specs.Calls as calls
+use Rattle.bucket.specs.declared.ending.Ending as code
+use Rattle.bucket.specs.declared.ending.Ending.TheVariants as ending
+use Rattle.bucket.specs.declared.ending.EndedPending as ended
+use Rattle.bucket.specs.Ending as endings
 use Rattle.bucket.specs.Calls.{records_of}
 use Rattle.storage.specs.Read.{read_node}
 use Rattle.storage.proofs.Bytes.{node_of_read, codes_read}
@@ -101,18 +102,18 @@ unfolding joined
 one_joined r = append-nil (record_bytes r)
 
 -- the record of an ended pending, as it is put into a run that is as long: key, kind, and then the evicted node or zero bytes
-module _ (s : List ℕ) (e : ended.EndedPending) (l : length s ≡ record_size) {k : List ℕ} {x : ℕ} (ek : k ≡ bytes key_size (num e.key)) (ex : x ≡ ending_kind (calls.ending_of e.ending)) where
+module _ (s : List ℕ) (e : ended.EndedPending) (l : length s ≡ record_size) {k : List ℕ} {x : ℕ} (ek : k ≡ bytes key_size (num e.key)) (ex : x ≡ ending_kind (endings.ending_of e.ending)) where
   abbrev kind_put : List ℕ
   kind_put = set (put_mid 0 32 s k) 32 x
 
   kind_is : kind_put ≡ splice s 0 (bytes key_size (num e.key) ++ (x ∷ []))
   kind_is = set_more s 0 32 (bytes key_size (num e.key)) x (put_mid_splice s 0 32 ek (length_bytes key_size _)) (length_bytes key_size _) (omega arith)
 
-  pub record_put : {v w : List ℕ} → v ≡ w → w ≡ evicted_bytes (evicted_in (calls.ending_of e.ending)) → put_mid 33 47 kind_put v ≡ joined record_bytes (records_of (Some e))
+  pub record_put : {v w : List ℕ} → v ≡ w → w ≡ evicted_bytes (evicted_in (endings.ending_of e.ending)) → put_mid 33 47 kind_put v ≡ joined record_bytes (records_of (Some e))
   unfolding record_bytes
   record_put {v} {w} ev ew =
       let b : List ℕ = bytes key_size (num e.key) in
-      let r : EndedPending = record { key = num e.key; ending = calls.ending_of e.ending } in
+      let r : EndedPending = record { key = num e.key; ending = endings.ending_of e.ending } in
       let n : length w ≡ node_size = ap length ew ∙ length_evicted (evicted_in r.ending) in
       put_mid_splice kind_put 33 47 ev n
       ∙ ap (λ (t : List ℕ). splice t 33 w) kind_is
@@ -121,7 +122,7 @@ module _ (s : List ℕ) (e : ended.EndedPending) (l : length s ≡ record_size) 
       ∙ splice_all s (record_bytes r) (l ∙ sym (length_record r))
       ∙ sym (one_joined r)
 
-  pub plain_put : {v : List ℕ} → v ≡ zeros (length (take 47 (drop 33 kind_put))) → zeros node_size ≡ evicted_bytes (evicted_in (calls.ending_of e.ending))
+  pub plain_put : {v : List ℕ} → v ≡ zeros (length (take 47 (drop 33 kind_put))) → zeros node_size ≡ evicted_bytes (evicted_in (endings.ending_of e.ending))
       → put_mid 33 47 kind_put v ≡ joined record_bytes (records_of (Some e))
   plain_put ev ew =
       let b : List ℕ = bytes key_size (num e.key) ++ (x ∷ []) in
@@ -131,7 +132,7 @@ module _ (s : List ℕ) (e : ended.EndedPending) (l : length s ≡ record_size) 
       record_put (ev ∙ ap zeros o) ew
 
 -- an ending that names no node
-pub no_evicted : (e : code.Ending) → ((n : NodeInRange) → e ≡ ending.Placed (Some n) → ⊥) → zeros node_size ≡ evicted_bytes (evicted_in (calls.ending_of e))
+pub no_evicted : (e : code.Ending) → ((n : stored.Node) → e ≡ ending.Placed (Some n) → ⊥) → zeros node_size ≡ evicted_bytes (evicted_in (endings.ending_of e))
 no_evicted (ending.Placed None) h = refl
 no_evicted (ending.Placed (Some n)) h = absurd (h n refl)
 no_evicted ending.FirstConnected h = refl
@@ -139,6 +140,24 @@ no_evicted ending.BucketFilter h = refl
 no_evicted ending.TooManyIncoming h = refl
 no_evicted ending.Inserted h = refl
 no_evicted ending.FirstConfirmed h = refl
+
+-- an ending of a kind alone names no node, so its codes are in range
+plain_evicts_none : (k : ℕ) → evicted_in (ending_of k) ≡ none
+plain_evicts_none k =
+    let N : Ending → Type 0 = λ x. evicted_in x ≡ none in
+    cases N (eqb k 2) (λ _. refl)
+    (λ _. cases N (eqb k 3) (λ _. refl) (λ _. cases N (eqb k 4) (λ _. refl) (λ _. cases N (eqb k 5) (λ _. refl) (λ _. cases N (eqb k 6) (λ _. refl) (λ _. refl)))))
+
+pub plain_codes : (e : code.Ending) (k : ℕ) → endings.ending_of e ≡ ending_of k → endings.ending_codes e ≡ true
+plain_codes (ending.Placed None) k h = refl
+plain_codes (ending.Placed (Some n)) k h =
+    let z : some (node_of n) ≡ none = ap evicted_in h ∙ plain_evicts_none k in
+    absurd (let y : ◌≡◌ {A = ℕ} 0 1 = cc in omega arith)
+plain_codes ending.FirstConnected k h = refl
+plain_codes ending.BucketFilter k h = refl
+plain_codes ending.TooManyIncoming k h = refl
+plain_codes ending.Inserted k h = refl
+plain_codes ending.FirstConfirmed k h = refl
 
 -- a record as it is read
 module _ (bs : List ℕ) where
@@ -198,7 +217,7 @@ module _ (s : List ℕ) (l : length s ≡ storage_size) (h : Bytes s) (f : heade
       → v ≡ joined record_bytes (records_of (Some e))
       → set (put_mid at (to - at) s v) record_count_at (n + 1) ≡ requeued ((table_of s).queue ++ records_of (Some e)) s
   pushed_record e n at to {v} m i j k ev =
-      let r : EndedPending = record { key = num e.key; ending = calls.ending_of e.ending } in
+      let r : EndedPending = record { key = num e.key; ending = endings.ending_of e.ending } in
       let p : put_mid at (to - at) s v ≡ splice s (record_at n) (record_bytes r) =
       put_mid_splice s at (to - at) (ev ∙ one_joined r) (length_record r ∙ sym k) ∙ ap (λ (x : ℕ). splice s x (record_bytes r)) j in
       let w : length (splice s (record_at n) (record_bytes r)) ≡ length s = length_splice s (record_at n) (record_bytes r) (omega (arith, length_record r)) in

@@ -1,6 +1,6 @@
 // Internal: the front of the lent storage: the settings, and the queue of 64 records, oldest first.
 // That it passes question 2 is a clause and no type: the functions that ask it write the storage.
-#![tactic(auto)]
+#![tactic(auto, unfolding(model::specs::Layout::table_of, model::specs::Layout::settings_in, model::specs::Bytes::part))]
 
 ghost use Rattle.std.specs.Prelude.{◌≡◌, Some, true, [], ◌∷◌, ◌++◌, ◌+◌, ◌≤◌, ◌<◌, leb, length, take, drop};
 ghost use Rattle.model.specs.Base.{joined};
@@ -11,7 +11,7 @@ ghost use Rattle.model.specs.Layout.{record_bytes, bytes_of, ending_of, record_i
 ghost use Rattle.model.specs.Formed.{record_formed, header_formed};
 ghost use Rattle.model.specs.Step as step;
 ghost use Rattle.key.specs.Key.{num};
-ghost use Rattle.bucket.specs.Calls as code;
+ghost use Rattle.bucket.specs.Ending as code;
 ghost use Rattle.bucket.specs.Calls.{records_of};
 ghost use Rattle.bucket.specs.Settings.{settings_of};
 ghost use Rattle.header.specs.Queue.{requeued};
@@ -22,7 +22,6 @@ use node::{Code, NodeInRange};
 use storage::Layout;
 
 // Internal: the table's own key.
-#[tactic(auto, unfolding(model::specs::Layout::table_of, model::specs::Layout::settings_in, model::specs::Bytes::part))]
 pub fn local_key(s: &[u8; Layout::STORAGE]) -> Key
     ensures { num result ≡ (table_of s.now).settings.local_key }
 {
@@ -30,7 +29,6 @@ pub fn local_key(s: &[u8; Layout::STORAGE]) -> Key
 }
 
 // Internal: how long a new pending waits, in milliseconds.
-#[tactic(auto, unfolding(model::specs::Layout::table_of, model::specs::Layout::settings_in, model::specs::Bytes::part))]
 pub fn pending_timeout(s: &[u8; Layout::STORAGE]) -> u64
     ensures { result ≡ (table_of s.now).settings.bucket.pending_timeout }
 {
@@ -38,7 +36,6 @@ pub fn pending_timeout(s: &[u8; Layout::STORAGE]) -> u64
 }
 
 // Internal: the settings of all buckets.
-#[tactic(auto, unfolding(model::specs::Layout::table_of, model::specs::Layout::settings_in, model::specs::Bytes::part))]
 pub fn settings(s: &[u8; Layout::STORAGE]) -> Settings
     ensures settings { settings_of result ≡ (table_of s.now).settings.bucket }
     ensures in_range { header_formed s.now ≡ true → (result.max_incoming ≤ max_nodes_per_bucket) × (result.filter ≤ 1) }
@@ -66,7 +63,7 @@ pub fn store_record(s: &mut [u8], ended: EndedPending)
     s[Layout::KEY] = ended.ending.kind();
     let evicted = &mut s[Layout::KEY + 1..Layout::RECORD];
     match ended.ending {
-        Ending::Placed(Some(node)) => storage::store_node(evicted, node.node),
+        Ending::Placed(Some(node)) => storage::store_node(evicted, NodeInRange { node }),
         _ => words::put_zeros(evicted),
     }
 }
@@ -107,9 +104,7 @@ fn load_record(bytes: &[u8; Layout::RECORD]) -> EndedPending
 {
     let kind = bytes[Layout::KEY];
     let ending = if kind == Layout::EVICTING_KIND {
-        Ending::Placed(Some(NodeInRange {
-            node: storage::load_node(storage::evicted(bytes)),
-        }))
+        Ending::Placed(Some(storage::load_node(storage::evicted(bytes))))
     } else {
         ending_of(kind)
     };
@@ -150,7 +145,8 @@ pub fn take_record(s: &mut [u8; Layout::STORAGE]) -> Option<EndedPending>
     Some(oldest)
 }
 
-// Internal: the storage of a new table, whatever it held before.
+// Internal: the storage of a new table, whatever it held before. The settings one by one: a `Settings` has the maximum as a usize, which
+// its one caller would widen and this cut back.
 pub fn clear(
     s: &mut [u8; Layout::STORAGE],
     local: Key,

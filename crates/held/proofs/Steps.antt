@@ -3,6 +3,7 @@ use mathlib.Core.Path.{◌≡◌, refl, sym, ap, ◌∙◌}
 use mathlib.Core.Bool.{Bool, true, false, ◌&&◌}
 use mathlib.Core.List.{List, [], ◌∷◌, ◌++◌}
 use mathlib.Core.Option.{Option, none, some}
+use Rattle.std.specs.Prelude as code
 use Prim.Native.Nat.{ℕ, suc, ◌+◌, ◌≤◌, ◌<◌}
 use native.Mathlib.Nat.{not-suc-le-zero}
 use native.Mathlib.Omega.{arith}
@@ -19,7 +20,7 @@ use Rattle.model.specs.Value.{same_value}
 use Rattle.model.specs.Filter.{counted, ip_filter_fails, max_nodes_per_subnet_bucket}
 use Rattle.model.specs.Result.{FailureReason, UpdateResult, BucketInsertResult}
 use Rattle.model.specs.Bucket.{Bucket, BucketSettings, max_nodes_per_bucket, nodes, get, holds, incoming_nodes, is_max_incoming, fails_bucket_filter, with_pending, cleared, put, placed, take_out, taken_out, is_first, apply_pending, apply_if_due, reinsert, status_result, update_status, update_value, revalue, insert, remove}
-use Rattle.model.specs.Call.{is_one, optional}
+use Rattle.model.specs.Call.{is_one}
 use Rattle.model.specs.Sizes.{key_size, value_size, pending_at, place_at, pending_size}
 use Rattle.model.specs.Layout.{value_bytes, pending_bytes, bucket_bytes, node_in, place_in, bucket_in}
 use Rattle.model.specs.Formed as formed
@@ -39,6 +40,7 @@ use Rattle.node.specs.declared.Value.{Value}
 use Rattle.node.specs.declared.Node as declared
 use Rattle.node.specs.Node.{value_of, node_of, node_codes, stored_node}
 use Rattle.node.specs.Node as node
+use Rattle.node.specs.Status.{optional_of}
 use Rattle.node.proofs.Stored.{node_of_restated}
 use Rattle.storage.specs.Read.{read_value, read_node}
 use Rattle.storage.proofs.Bytes.{value_of_read, node_of_read}
@@ -144,26 +146,26 @@ module _ {u : List ℕ} (q : Quiet u) where
           ∙ found_key k (nodes b) (node_in []) (omega (arith, ep, many q))
 
       -- with another status
-      module _ (state direction : ℕ) {new : declared.Node} (en : new ≡ node.restated state direction old) where
+      module _ (state : ℕ) (direction : code.Option ℕ) {new : declared.Node} (en : new ≡ node.restated state direction old) where
         pub same_place : place (num new.key) (nodes b) ≡ pos
         same_place = ap (λ (n : declared.Node). place (num n.key) (nodes b)) en ∙ own_key
 
-        new_is : node_of new ≡ with_status (is_one state) (optional direction) (node_of old)
+        new_is : node_of new ≡ with_status (is_one state) (optional_of direction) (node_of old)
         new_is = ap node_of en ∙ node_of_restated state direction old
 
         module _ (c : BucketSettings) (k : ℕ) (ep : place k (nodes b) ≡ pos) where
-          status_is : update_status c k (is_one state) (optional direction) b ≡ restated c (node_of old) (node_of new) b
+          status_is : update_status c k (is_one state) (optional_of direction) b ≡ restated c (node_of old) (node_of new) b
           status_is =
-              let n : Node = with_status (is_one state) (optional direction) (node_of old) in
+              let n : Node = with_status (is_one state) (optional_of direction) (node_of old) in
               let new_key : num new.key ≡ k = ap (λ (n : Node). n.key) new_is ∙ key_old k ep in
               let r : reinsert c n (taken_out k (is_one state) b) ≡ reinsert c (node_of new) (take_out (num new.key) b) =
               ap (reinsert c n) (taken_none b q.pending k (is_one state)) ∙ ap (λ (i : ℕ). reinsert c n (take_out i b)) (sym new_key)
               ∙ ap (λ (x : Node). reinsert c x (take_out (num new.key) b)) (sym new_is) in
-              status_held c k (is_one state) (optional direction) b (node_of old) (reinsert c (node_of new) (take_out (num new.key) b)).0
+              status_held c k (is_one state) (optional_of direction) b (node_of old) (reinsert c (node_of new) (take_out (num new.key) b)).0
               (reinsert c (node_of new) (take_out (num new.key) b)).1 (get_old k ep) r
               ∙ ap (λ (x : Node). (status_result (node_of old) x (reinsert c (node_of new) (take_out (num new.key) b)).0, (reinsert c (node_of new) (take_out (num new.key) b)).1)) (sym new_is)
 
-          pub status_does : {a : UpdateResult} {t : List ℕ} → Does (restated c (node_of old) (node_of new) b) a t → Does (update_status c k (is_one state) (optional direction) b) a t
+          pub status_does : {a : UpdateResult} {t : List ℕ} → Does (restated c (node_of old) (node_of new) b) a t → Does (update_status c k (is_one state) (optional_of direction) b) a t
           status_does d = does_as status_is d
 
   -- a key that is held, and one that is not

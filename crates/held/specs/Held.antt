@@ -8,7 +8,7 @@ use Rattle.model.specs.Sizes.{bucket_size}
 use Rattle.model.specs.Layout.{bucket_bytes, bucket_in}
 use Rattle.model.specs.Fits.{Different}
 use Rattle.places.specs.Places.{remove_at}
-pub use Rattle.well_formed.specs.Tests.{place}
+pub use Rattle.well_formed.specs.Tests.{place, Position}
 
 -- what question 2 says of a bucket's bytes (law: `quiet_if` of proofs/Quiet), and there is no pending
 pub record Quiet (bs : List ℕ) : Type 0 where

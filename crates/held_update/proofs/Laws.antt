@@ -82,6 +82,11 @@ module _ (c : BucketSettings) (b : Bucket) where
     pub value_failed : {a : UpdateResult} {left : List ℕ} → Does (update_value c k v b) a left → is_failed a ≡ true → Does (update_node_in c false time k v u b) (Answer.Update a) left
     value_failed x f = does_as (node_failed c false time k v u b refl (ap is_failed (sym x.answers) ∙ f)) (record { answers = ap Answer.Update x.answers; leaves = x.leaves })
 
+    -- no state is given
+    pub value_alone : u ≡ none → {a : UpdateResult} {left : List ℕ} → Does (update_value c k v b) a left → Does (update_node_in c false time k v u b) (Answer.Update a) left
+    value_alone e x =
+        does_as (split (is_failed (update_value c k v b).0) (λ f. rw f) (λ f. rw (f, e))) (record { answers = ap Answer.Update x.answers; leaves = x.leaves })
+
   -- the node m of key k is held, there is no pending, and a state is given: the status's step on the node with the new value answers for both
   module _ (p : b.pending ≡ none) (time : ℕ) (m : Node) (k : ℕ) (g : get k b ≡ some m) (own : m.key ≡ k) (o : Option Bool) (u : Bool) (e : o ≡ some u) (v : Value) where
     abbrev changed : Node

@@ -1,24 +1,25 @@
 // Internal: update_node and insert_or_update (kbucket.rs) on the bytes of a bucket without a pending, in place. What is left are the
-// bytes of the bucket that the model's step leaves.
+// bytes of the bucket that the model's step leaves. In place, since to load and store the bucket takes longer than the step
+// (crate held).
 #![tactic(auto)]
 
 ghost use Rattle.std.specs.Prelude.{◌≡◌, false, ℕ, ◌<◌, get_or};
 ghost use Rattle.model.specs.Bucket.{nodes};
 ghost use Rattle.model.specs.Table.{Answer, update_node_in, insert_or_update_in};
 ghost use Rattle.model.specs.Layout.{bucket_in};
-ghost use Rattle.model.specs.Call.{optional};
 ghost use Rattle.key.specs.Key.{num};
 ghost use Rattle.node.specs.Node.{value_of, node_of};
+ghost use Rattle.node.specs.Status.{optional_of};
 ghost use Rattle.bucket.specs.Settings.{settings_of};
 ghost use Rattle.bucket.specs.Calls.{update_result_of};
 ghost use Rattle.bucket_update.specs.Results.{table_insert_result_of};
-ghost use Rattle.held.specs.Held.{Quiet, place, Does};
+ghost use Rattle.held.specs.Held.{Quiet, place, Position, Does};
 
 use bucket::{FailureReason, Settings, UpdateResult};
 use bucket_update::InsertResult;
 use held::{Others, SettingsAt};
 use key::Key;
-use node::{NodeInRange, NodeUpdate, StatusUpdate};
+use node::{NodeInRange, NodeUpdate};
 
 // Internal: update_node. `fails` is the table filter's answer, a bool as in bucket_update::update_node_in. No pending can be applied, so
 // the answer is the same at any time.
@@ -30,18 +31,17 @@ pub fn update_node(
     update: NodeUpdate,
 ) -> UpdateResult
     requires { Quiet bucket.old }
-    ensures { (time : ℕ) → Does (update_node_in (settings_of settings) fails time (num key) (value_of update.value.value) (optional update.state) (bucket_in bucket.old))
+    ensures { (time : ℕ) → Does (update_node_in (settings_of settings) fails time (num key) (value_of update.value.value) (optional_of update.state) (bucket_in bucket.old))
         (Answer.Update (update_result_of result)) bucket.new }
 {
     if fails {
         held::remove(bucket, key);
         return UpdateResult::Failed(FailureReason::TableFilter);
     }
-    let pos = held::position(held::nodes(bucket), key);
-    if usize::from(bucket[0]) <= pos {
-        return UpdateResult::Failed(FailureReason::KeyNonExistent);
+    match held::position(held::nodes(bucket), key) {
+        Some(pos) => update_at(bucket, settings, pos, update),
+        None => UpdateResult::Failed(FailureReason::KeyNonExistent),
     }
-    update_at(bucket, settings, pos, update)
 }
 
 // The value's step and then the status's, of the node at place pos: it is moved once. A value that the bucket filter refuses fails in
@@ -50,17 +50,13 @@ fn update_at(bucket: &mut [u8], settings: Settings, pos: usize, update: NodeUpda
     requires quiet { Quiet bucket.old }
     requires held { pos < get_or bucket.old 0 0 }
     ensures { (time k : ℕ) → place k (nodes (bucket_in bucket.old)) ≡ pos
-        → Does (update_node_in (settings_of settings) false time k (value_of update.value.value) (optional update.state) (bucket_in bucket.old))
+        → Does (update_node_in (settings_of settings) false time k (value_of update.value.value) (optional_of update.state) (bucket_in bucket.old))
         (Answer.Update (update_result_of result)) bucket.new }
 {
-    if update.state == 2 {
+    let Some(status) = update.status() else {
         return held::value_at(bucket, settings, pos, update.value);
-    }
-    let old = held::node_at(bucket, pos);
-    let status = StatusUpdate {
-        state: update.state,
-        direction: 2,
     };
+    let old = held::node_at(bucket, pos);
     let node = old.with_value(update.value).with_status(status);
     let of_status = held::step(bucket, settings, pos, old.node, node);
     let of_value = bucket_update::value_result(old.node.value, update.value.value);
@@ -99,12 +95,12 @@ fn update_held(bucket: &mut [u8], settings: Settings, pos: usize, node: NodeInRa
 pub fn insert_or_update(
     bucket: &mut [u8],
     now: SettingsAt,
-    pos: usize,
+    pos: Option<usize>,
     fails: bool,
     node: NodeInRange,
 ) -> InsertResult
     requires quiet { Quiet bucket.old }
-    requires position { pos ≡ place (num node.node.key) (nodes (bucket_in bucket.old)) }
+    requires position { Position (num node.node.key) (nodes (bucket_in bucket.old)) (get_or bucket.old 0 0) pos }
     ensures { Does (insert_or_update_in (settings_of now.settings) fails now.time (node_of node.node) (bucket_in bucket.old))
         (Answer.InsertOrUpdate (table_insert_result_of result)) bucket.new }
 {
@@ -112,8 +108,8 @@ pub fn insert_or_update(
         held::remove(bucket, node.node.key);
         return InsertResult::Failed(FailureReason::TableFilter);
     }
-    if pos < usize::from(bucket[0]) {
-        return update_held(bucket, now.settings, pos, node);
+    match pos {
+        Some(pos) => update_held(bucket, now.settings, pos, node),
+        None => bucket_update::inserts(held::insert_new(bucket, now, node)),
     }
-    bucket_update::inserts(held::insert_new(bucket, now, node))
 }

@@ -1,13 +1,14 @@
 -- What is written of one node: the bytes of an item by those of the node.
 use mathlib.Core.Path.{◌≡◌, refl, sym, ap, ◌∙◌}
 use mathlib.Core.Bool.{Bool, true, false, cond, ◌&&◌}
-use mathlib.Core.List.{List, ◌∷◌, ◌++◌, map, map-append}
+use mathlib.Core.List.{List, [], ◌∷◌, ◌++◌, map, map-append, append-nil}
 use mathlib.Core.Option.{none, some}
-use Prim.Native.Nat.{ℕ, ◌+◌, ◌*◌, ◌≤◌}
+use Prim.Native.Nat.{ℕ, ◌+◌, ◌-◌, ◌*◌, ◌≤◌}
 use native.Mathlib.Nat.{zero-add}
 use native.Mathlib.Omega.{arith}
 use lib.Dec.{eqb}
-use lib.ListN.{length, length-append}
+use lib.ListN.{length, take, drop, length-append, length-take, length-drop, drop_of_length-le}
+use lib.Seq.{take_all, drop-drop}
 use borrow.Rule.Slice.PartMut.{put_mid}
 use borrow.Author.Tests.{ne_eqb}
 use Rattle.model.specs.Base.{same, joined}
@@ -85,6 +86,18 @@ pub put_last : {t w : List ℕ} (o a b : List ℕ) (k n : ℕ) → t ≡ splice 
 put_last {t} o a b k n e f l m h =
     put_mid_splice t k n f m ∙ ap (λ (s : List ℕ). splice s k b) e ∙ ap (λ (i : ℕ). splice (splice o 0 a) i b) (sym (zero-add k)) ∙ splice_next o 0 k a b l (omega arith)
     ∙ splice_all o (a ++ b) (simp length-append (omega arith))
+
+-- m bytes from k on
+pub room_behind : (o : List ℕ) (k m : ℕ) → k + m ≤ length o → m ≤ length (take (length o - k) (drop k o))
+room_behind o k m h = omega (arith, length-take (length o - k) (drop k o), length-drop k o)
+
+-- what is put to the front of the bytes from k on
+pub put_behind : {t : List ℕ} (o v : List ℕ) (k : ℕ) → t ≡ splice (take (length o - k) (drop k o)) 0 v → put_mid k (length o - k) o t ≡ splice o k v
+unfolding splice
+put_behind o v k e =
+    let z : drop (length o - k) (drop k o) ≡ [] = drop_of_length-le (drop k o) (omega (arith, length-drop k o)) in
+    let y : take (length o - k) (drop k o) ≡ drop k o = take_all (length o - k) (drop k o) (omega (arith, length-drop k o)) in
+    rw (e, z, y, append-nil, drop-drop) (simp zero-add)
 
 -- bytes put at the start
 pub length_put : (o w : List ℕ) (k : ℕ) → length w ≡ k → k ≤ length o → length (put_mid 0 k o w) ≡ length o

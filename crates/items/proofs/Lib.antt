@@ -1,6 +1,6 @@
 -- Laws of `items`.
 pub mod Items
 pub mod Run
-pub mod Packed
+pub mod Ranks
 pub mod Shown
 pub mod Asked

@@ -8,15 +8,51 @@ ghost use Rattle.model.specs.Call.{Listing, Call, KeyCall};
 ghost use Rattle.model.specs.Explain.{explain_bytes};
 ghost use Rattle.model.specs.StepBytes.{write_bytes};
 ghost use Rattle.node.specs.Node.{argument_of};
-ghost use Rattle.session.specs.Hours.{session_of};
+ghost use Rattle.session.specs.Hours.{session_of, hours_of};
 ghost use Rattle.codes.specs.Exported.{Leaves, Writes, exported, exported_with, Tells};
 ghost use Rattle.bucket_calls.specs.Calls.{BucketCall, bucket_step, bucket_new};
 ghost use Rattle.kbuckets.specs.Version.{version};
 
-use codes::answers::{count, insert_reply, kind_code, short_node, short_storage};
-use codes::{Answer, applied_reply, bucket_insert_reply, refused, update_code};
+use codes::answers::{count, kind_code, short_node, short_storage};
+use codes::{Answer, Reply, refused, update_code};
+use items::Predicate;
 use node::{NodeStatus, Slot, Value};
-use session::{Hours, Moment};
+use session::{Date, Hours, Moment};
+
+// The value that these numbers of a call are.
+fn value_of(flag: u8, a: u8, b: u8, c: u8, d: u8, slot: Slot) -> Value
+    ensures { result ≡ record { flag = flag; a = a; b = b; c = c; d = d; slot = slot } }
+{
+    Value {
+        flag,
+        a,
+        b,
+        c,
+        d,
+        slot,
+    }
+}
+
+// The session hours that these numbers of a call are.
+fn hours_of<'a>(
+    windows: &'a [u16],
+    closed: &'a [u16],
+    year: u16,
+    month: u16,
+    day: u16,
+    minute: u16,
+) -> Hours<'a>
+    ensures { hours_of result ≡ session_of windows.now closed.now (record { date = record { year = year; month = month; day = day }; minute = minute }) }
+{
+    Hours {
+        windows,
+        closed,
+        moment: Moment {
+            date: Date { year, month, day },
+            minute,
+        },
+    }
+}
 
 // 0x00MMmmpp: major, minor, patch.
 pub fn kbuckets_version() -> u32
@@ -77,14 +113,7 @@ pub fn kbuckets_update_node(
 ) -> u32
     ensures { Leaves result storage.new (exported (Call.on_key key.now (KeyCall.update_node (record { flag = flag; a = a; b = b; c = c; d = d; slot = slot }) state time)) storage.old) }
 {
-    let value = Value {
-        flag,
-        a,
-        b,
-        c,
-        d,
-        slot,
-    };
+    let value = value_of(flag, a, b, c, d, slot);
     update::update_node(storage, key, value, state, time).map_or_else(refused, update_code)
 }
 
@@ -111,32 +140,16 @@ pub fn kbuckets_insert_or_update(
     minute: u16,
     answer: &mut [u8],
 ) -> u32
-    ensures { Writes result storage.new answer.new (exported_with (Call.on_key key.now (KeyCall.insert_or_update (record { flag = flag; a = a; b = b; c = c; d = d; slot = slot }) state direction time (session_of windows.now closed.now (record { year = year; month = month; day = day; minute = minute })))) answer.old storage.old) }
+    ensures { Writes result storage.new answer.new (exported_with (Call.on_key key.now (KeyCall.insert_or_update (record { flag = flag; a = a; b = b; c = c; d = d; slot = slot }) state direction time (session_of windows.now closed.now (record { date = record { year = year; month = month; day = day }; minute = minute })))) answer.old storage.old) }
 {
-    let value = Value {
-        flag,
-        a,
-        b,
-        c,
-        d,
-        slot,
-    };
+    let value = value_of(flag, a, b, c, d, slot);
     let status = NodeStatus { state, direction };
     if answer.len() < Answer::BYTES {
         return short_node(storage, key, value, status, time);
     }
-    let hours = Hours {
-        windows,
-        closed,
-        moment: Moment {
-            year,
-            month,
-            day,
-            minute,
-        },
-    };
+    let hours = hours_of(windows, closed, year, month, day, minute);
     match update::insert_or_update(storage, key, value, status, time, hours) {
-        Ok(result) => insert_reply(result).put(answer),
+        Ok(result) => Reply::from(result).put(answer),
         Err(refusal) => refused(refusal),
     }
 }
@@ -188,32 +201,16 @@ pub fn kbuckets_absent_insert(
     minute: u16,
     answer: &mut [u8],
 ) -> u32
-    ensures { Writes result storage.new answer.new (exported_with (Call.on_key key.now (KeyCall.absent_insert (record { flag = flag; a = a; b = b; c = c; d = d; slot = slot }) state direction time (session_of windows.now closed.now (record { year = year; month = month; day = day; minute = minute })))) answer.old storage.old) }
+    ensures { Writes result storage.new answer.new (exported_with (Call.on_key key.now (KeyCall.absent_insert (record { flag = flag; a = a; b = b; c = c; d = d; slot = slot }) state direction time (session_of windows.now closed.now (record { date = record { year = year; month = month; day = day }; minute = minute })))) answer.old storage.old) }
 {
-    let value = Value {
-        flag,
-        a,
-        b,
-        c,
-        d,
-        slot,
-    };
+    let value = value_of(flag, a, b, c, d, slot);
     let status = NodeStatus { state, direction };
     if answer.len() < Answer::BYTES {
         return short_node(storage, key, value, status, time);
     }
-    let hours = Hours {
-        windows,
-        closed,
-        moment: Moment {
-            year,
-            month,
-            day,
-            minute,
-        },
-    };
+    let hours = hours_of(windows, closed, year, month, day, minute);
     match entry::absent_insert(storage, key, value, status, time, hours) {
-        Ok(result) => bucket_insert_reply(result).put(answer),
+        Ok(result) => Reply::from(result).put(answer),
         Err(refusal) => refused(refusal),
     }
 }
@@ -274,9 +271,16 @@ pub fn kbuckets_closest_values_predicate(
 ) -> u32
     ensures { Writes result storage.new output.new (exported (Call.list (Listing.closest_values_predicate target.now (record { predicate = predicate; a = a; b = b; c = c; slot = slot })) n time output.old) storage.old) }
 {
-    listing::closest_values_predicate(
-        storage, target, predicate, a, b, c, slot, n, time, output,
-    ).map_or_else(refused, count)
+    let p = Predicate {
+        predicate,
+        a,
+        b,
+        c,
+        slot,
+    };
+    listing::closest_values_predicate(storage, target, p, n, time, output).map_or_else(
+        refused, count,
+    )
 }
 
 #[tactic(auto, using(codes::proofs::Thin::too_short, codes::proofs::Thin::take_asked))]
@@ -287,7 +291,7 @@ pub fn kbuckets_take_applied_pending(storage: &mut [u8], answer: &mut [u8]) -> u
         return short_storage(storage);
     }
     match table::take_applied_pending(storage) {
-        Ok(applied) => applied_reply(applied).put(answer),
+        Ok(applied) => Reply::from(applied).put(answer),
         Err(refusal) => refused(refusal),
     }
 }
@@ -324,14 +328,7 @@ pub fn kbuckets_explain_update_node(
 ) -> u32
     ensures { Tells result output.new (explain_bytes key.now (KeyCall.update_node (record { flag = flag; a = a; b = b; c = c; d = d; slot = slot }) state time) output.old storage.now) }
 {
-    let value = Value {
-        flag,
-        a,
-        b,
-        c,
-        d,
-        slot,
-    };
+    let value = value_of(flag, a, b, c, d, slot);
     explain::explain_update_node(storage, key, value, state, time, output).map_or_else(
         refused, count,
     )
@@ -358,27 +355,11 @@ pub fn kbuckets_explain_insert_or_update(
     minute: u16,
     output: &mut [u8],
 ) -> u32
-    ensures { Tells result output.new (explain_bytes key.now (KeyCall.insert_or_update (record { flag = flag; a = a; b = b; c = c; d = d; slot = slot }) state direction time (session_of windows.now closed.now (record { year = year; month = month; day = day; minute = minute }))) output.old storage.now) }
+    ensures { Tells result output.new (explain_bytes key.now (KeyCall.insert_or_update (record { flag = flag; a = a; b = b; c = c; d = d; slot = slot }) state direction time (session_of windows.now closed.now (record { date = record { year = year; month = month; day = day }; minute = minute }))) output.old storage.now) }
 {
-    let value = Value {
-        flag,
-        a,
-        b,
-        c,
-        d,
-        slot,
-    };
+    let value = value_of(flag, a, b, c, d, slot);
     let status = NodeStatus { state, direction };
-    let hours = Hours {
-        windows,
-        closed,
-        moment: Moment {
-            year,
-            month,
-            day,
-            minute,
-        },
-    };
+    let hours = hours_of(windows, closed, year, month, day, minute);
     explain::explain_insert_or_update(storage, key, value, status, time, hours, output).map_or_else(
         refused, count,
     )
@@ -438,27 +419,11 @@ pub fn kbuckets_explain_absent_insert(
     minute: u16,
     output: &mut [u8],
 ) -> u32
-    ensures { Tells result output.new (explain_bytes key.now (KeyCall.absent_insert (record { flag = flag; a = a; b = b; c = c; d = d; slot = slot }) state direction time (session_of windows.now closed.now (record { year = year; month = month; day = day; minute = minute }))) output.old storage.now) }
+    ensures { Tells result output.new (explain_bytes key.now (KeyCall.absent_insert (record { flag = flag; a = a; b = b; c = c; d = d; slot = slot }) state direction time (session_of windows.now closed.now (record { date = record { year = year; month = month; day = day }; minute = minute }))) output.old storage.now) }
 {
-    let value = Value {
-        flag,
-        a,
-        b,
-        c,
-        d,
-        slot,
-    };
+    let value = value_of(flag, a, b, c, d, slot);
     let status = NodeStatus { state, direction };
-    let hours = Hours {
-        windows,
-        closed,
-        moment: Moment {
-            year,
-            month,
-            day,
-            minute,
-        },
-    };
+    let hours = hours_of(windows, closed, year, month, day, minute);
     explain::explain_absent_insert(storage, key, value, status, time, hours, output).map_or_else(
         refused, count,
     )
@@ -502,14 +467,7 @@ pub fn kbuckets_b_insert(
 ) -> u32
     ensures { Writes result bucket.new answer.new (bucket_step (BucketCall.insert key.now (record { flag = flag; a = a; b = b; c = c; d = d; slot = slot }) state direction time) answer.old bucket.old) }
 {
-    let value = Value {
-        flag,
-        a,
-        b,
-        c,
-        d,
-        slot,
-    };
+    let value = value_of(flag, a, b, c, d, slot);
     let status = NodeStatus { state, direction };
     bucket_calls::insert(bucket, key, value, status, time, answer).unwrap_or_else(refused)
 }
@@ -523,7 +481,7 @@ pub fn kbuckets_b_apply_pending(bucket: &mut [u8], time: u64, answer: &mut [u8])
 pub fn kbuckets_b_update_status(bucket: &mut [u8], key: &[u8], state: u8, direction: u8) -> u32
     ensures { Leaves result bucket.new (bucket_step (BucketCall.update_status key.now state direction) [] bucket.old) }
 {
-    bucket_calls::update_status(bucket, key, state, direction).unwrap_or_else(refused)
+    bucket_calls::update_status(bucket, key, state, direction).map_or_else(refused, update_code)
 }
 
 pub fn kbuckets_b_update_value(
@@ -538,15 +496,8 @@ pub fn kbuckets_b_update_value(
 ) -> u32
     ensures { Leaves result bucket.new (bucket_step (BucketCall.update_value key.now (record { flag = flag; a = a; b = b; c = c; d = d; slot = slot })) [] bucket.old) }
 {
-    let value = Value {
-        flag,
-        a,
-        b,
-        c,
-        d,
-        slot,
-    };
-    bucket_calls::update_value(bucket, key, value).unwrap_or_else(refused)
+    let value = value_of(flag, a, b, c, d, slot);
+    bucket_calls::update_value(bucket, key, value).map_or_else(refused, update_code)
 }
 
 pub fn kbuckets_b_update_pending(bucket: &mut [u8], state: u8, direction: u8) -> u32
@@ -558,5 +509,5 @@ pub fn kbuckets_b_update_pending(bucket: &mut [u8], state: u8, direction: u8) ->
 pub fn kbuckets_b_remove(bucket: &mut [u8], key: &[u8], time: u64) -> u32
     ensures { Leaves result bucket.new (bucket_step (BucketCall.remove key.now time) [] bucket.old) }
 {
-    bucket_calls::remove(bucket, key, time).unwrap_or_else(refused)
+    bucket_calls::remove(bucket, key, time).map_or_else(refused, u32::from)
 }

@@ -98,7 +98,7 @@ pub extern "C" fn kbuckets_insert_or_update(
     minute: u16,
     answer: &mut [u8],
 ) -> u32
-    ensures { Writes result storage.new answer.new (exported_with (Call.on_key key.now (KeyCall.insert_or_update (record { flag = flag; a = a; b = b; c = c; d = d; slot = slot }) state direction time (session_of windows.now closed.now (record { year = year; month = month; day = day; minute = minute })))) answer.old storage.old) }
+    ensures { Writes result storage.new answer.new (exported_with (Call.on_key key.now (KeyCall.insert_or_update (record { flag = flag; a = a; b = b; c = c; d = d; slot = slot }) state direction time (session_of windows.now closed.now (record { date = record { year = year; month = month; day = day }; minute = minute })))) answer.old storage.old) }
 {
     kbuckets::kbuckets_insert_or_update(
         storage, key, flag, a, b, c, d, slot, state, direction, time, windows, closed, year, month,
@@ -166,7 +166,7 @@ pub extern "C" fn kbuckets_absent_insert(
     minute: u16,
     answer: &mut [u8],
 ) -> u32
-    ensures { Writes result storage.new answer.new (exported_with (Call.on_key key.now (KeyCall.absent_insert (record { flag = flag; a = a; b = b; c = c; d = d; slot = slot }) state direction time (session_of windows.now closed.now (record { year = year; month = month; day = day; minute = minute })))) answer.old storage.old) }
+    ensures { Writes result storage.new answer.new (exported_with (Call.on_key key.now (KeyCall.absent_insert (record { flag = flag; a = a; b = b; c = c; d = d; slot = slot }) state direction time (session_of windows.now closed.now (record { date = record { year = year; month = month; day = day }; minute = minute })))) answer.old storage.old) }
 {
     kbuckets::kbuckets_absent_insert(
         storage, key, flag, a, b, c, d, slot, state, direction, time, windows, closed, year, month,
@@ -306,7 +306,7 @@ pub extern "C" fn kbuckets_explain_insert_or_update(
     minute: u16,
     output: &mut [u8],
 ) -> u32
-    ensures { Tells result output.new (explain_bytes key.now (KeyCall.insert_or_update (record { flag = flag; a = a; b = b; c = c; d = d; slot = slot }) state direction time (session_of windows.now closed.now (record { year = year; month = month; day = day; minute = minute }))) output.old storage.now) }
+    ensures { Tells result output.new (explain_bytes key.now (KeyCall.insert_or_update (record { flag = flag; a = a; b = b; c = c; d = d; slot = slot }) state direction time (session_of windows.now closed.now (record { date = record { year = year; month = month; day = day }; minute = minute }))) output.old storage.now) }
 {
     kbuckets::kbuckets_explain_insert_or_update(
         storage, key, flag, a, b, c, d, slot, state, direction, time, windows, closed, year, month,
@@ -374,7 +374,7 @@ pub extern "C" fn kbuckets_explain_absent_insert(
     minute: u16,
     output: &mut [u8],
 ) -> u32
-    ensures { Tells result output.new (explain_bytes key.now (KeyCall.absent_insert (record { flag = flag; a = a; b = b; c = c; d = d; slot = slot }) state direction time (session_of windows.now closed.now (record { year = year; month = month; day = day; minute = minute }))) output.old storage.now) }
+    ensures { Tells result output.new (explain_bytes key.now (KeyCall.absent_insert (record { flag = flag; a = a; b = b; c = c; d = d; slot = slot }) state direction time (session_of windows.now closed.now (record { date = record { year = year; month = month; day = day }; minute = minute }))) output.old storage.now) }
 {
     kbuckets::kbuckets_explain_absent_insert(
         storage, key, flag, a, b, c, d, slot, state, direction, time, windows, closed, year, month,

@@ -1,14 +1,18 @@
 -- Keys as numbers: the four words decide equality, order, XOR and bits. `omega` stops at numbers of more than 38 digits, so each law is
 -- proved for one word and used three times.
 use mathlib.Core.Path.{◌≡◌, sym, ap, ap₂, ◌∙◌}
-use mathlib.Core.Bool.{Bool, false, ◌&&◌, and_comm}
+use mathlib.Core.Bool.{Bool, true, cond, false, ◌&&◌}
 use Prim.Native.Nat.{ℕ, ◌+◌, ◌*◌, ◌/◌, ◌%◌, ◌^◌, ◌<◌, ◌≤◌}
 use native.Mathlib.Nat.{div-eq_of_lt, lt_of_lt_of_le, mod-lt}
 use native.Mathlib.Omega.{arith}
 use lib.Bits.{bit_xor, xor_block}
 use lib.Dec.{eqb, ltb}
 use lib.Pow.{pow_mono}
+use Rattle.std.proofs.Math.Bool.{and_assoc}
 use borrow.Author.Tests.{ltb-true, ltb-false, lt-ltb, le-ltb, eqb-true, eqb-false, eq-eqb, ne_eqb}
+use Rattle.std.specs.Prelude.{Option, Some}
+use Rattle.std.proofs.Common.{Ordering, Less, Equal, Greater}
+use Rattle.std.specs.Ordering.{is_lt, is_some_and, partial_ordering_then, nat_cmp}
 use Rattle.model.specs.Base.{same}
 use Rattle.model.specs.Key.{test_bit}
 use Rattle.laws.proofs.Tests.{split}
@@ -100,12 +104,11 @@ module _ (a b : Key) (ha : Words a) (hb : Words b) where
   equal_2 = eq_word _ _ a.w2 b.w2 ha.word2 hb.word2 ∙ ap (λ t. t && eqb a.w2 b.w2) equal_1
 
   -- equal by the words
-  pub same_words : (eqb a.w3 b.w3 && (eqb a.w2 b.w2 && (eqb a.w1 b.w1 && eqb a.w0 b.w0))) ≡ same (num a) (num b)
+  pub same_words : (eqb a.w0 b.w0 && (eqb a.w1 b.w1 && (eqb a.w2 b.w2 && eqb a.w3 b.w3))) ≡ same (num a) (num b)
   unfolding num same
   same_words =
-      ap (λ t. eqb a.w3 b.w3 && (eqb a.w2 b.w2 && t)) (and_comm (eqb a.w1 b.w1) (eqb a.w0 b.w0))
-      ∙ ap (λ t. eqb a.w3 b.w3 && t) (and_comm (eqb a.w2 b.w2) equal1)
-      ∙ and_comm (eqb a.w3 b.w3) (equal1 && eqb a.w2 b.w2)
+      sym (and_assoc (eqb a.w0 b.w0) (eqb a.w1 b.w1) (eqb a.w2 b.w2 && eqb a.w3 b.w3))
+      ∙ sym (and_assoc equal1 (eqb a.w2 b.w2) (eqb a.w3 b.w3))
       ∙ sym (eq_word _ _ a.w3 b.w3 ha.word3 hb.word3 ∙ ap (λ t. t && eqb a.w3 b.w3) equal_2)
 
   -- less by the first word that differs, and by the last where none of the others does
@@ -133,6 +136,40 @@ module _ (a b : Key) (ha : Words a) (hb : Words b) where
   pub less_last : a.w0 ≡ b.w0 → a.w1 ≡ b.w1 → a.w2 ≡ b.w2 → ltb a.w3 b.w3 ≡ ltb (num a) (num b)
   unfolding num
   less_last e0 e1 e2 = lt_word (upper2 a) (upper2 b) _ _ ha.word3 hb.word3 (both _ _ (both a.w0 b.w0 e0 e1) e2)
+
+-- ---- the derived order
+
+-- one word decides where it differs
+one_less : (x y : ℕ) (rest : Option Ordering) (r : Bool) → ((x ≡ y → ⊥) → ltb x y ≡ r) → (x ≡ y → is_some_and is_lt rest ≡ r)
+    → is_some_and is_lt (partial_ordering_then (Some (nat_cmp x y)) rest) ≡ r
+one_less x y rest r n m =
+    split (ltb x y)
+    (λ e.
+    let h : x < y = ltb-true x y e in
+    ap (λ t. is_some_and is_lt (partial_ordering_then (Some (cond t Less (cond (eqb x y) Equal Greater))) rest)) e ∙ (sym e ∙ n (λ i. omega (arith, h, i))))
+    (λ e.
+    ap (λ t. is_some_and is_lt (partial_ordering_then (Some (cond t Less (cond (eqb x y) Equal Greater))) rest)) e
+    ∙ split (eqb x y)
+    (λ f. ap (λ t. is_some_and is_lt (partial_ordering_then (Some (cond t Equal Greater)) rest)) f ∙ m (eqb-true x y f))
+    (λ f. ap (λ t. is_some_and is_lt (partial_ordering_then (Some (cond t Equal Greater)) rest)) f ∙ (sym e ∙ n (eqb-false x y f))))
+
+last_less : (x y : ℕ) → is_some_and is_lt (Some (nat_cmp x y)) ≡ ltb x y
+last_less x y =
+    split (ltb x y)
+    (λ e. ap (λ t. is_some_and is_lt (Some (cond t Less (cond (eqb x y) Equal Greater)))) e ∙ sym e)
+    (λ e.
+    ap (λ t. is_some_and is_lt (Some (cond t Less (cond (eqb x y) Equal Greater)))) e
+    ∙ split (eqb x y)
+    (λ f. ap (λ t. is_some_and is_lt (Some (cond t Equal Greater))) f ∙ sym e)
+    (λ f. ap (λ t. is_some_and is_lt (Some (cond t Equal Greater))) f ∙ sym e))
+
+module _ (a b : Key) (ha : Words a) (hb : Words b) where
+  pub derived_less : is_some_and is_lt (partial_ordering_then (Some (nat_cmp a.w0 b.w0)) (partial_ordering_then (Some (nat_cmp a.w1 b.w1))
+      (partial_ordering_then (Some (nat_cmp a.w2 b.w2)) (Some (nat_cmp a.w3 b.w3))))) ≡ ltb (num a) (num b)
+  derived_less =
+      one_less a.w0 b.w0 _ _ (less_first a b ha hb) (λ e0.
+      one_less a.w1 b.w1 _ _ (less_second a b ha hb e0) (λ e1.
+      one_less a.w2 b.w2 _ _ (less_third a b ha hb e0 e1) (λ e2. last_less a.w3 b.w3 ∙ less_last a b ha hb e0 e1 e2)))
 
 -- the XOR of two keys, word by word
 abbrev pub xor_key : Key → Key → Key

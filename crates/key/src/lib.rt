@@ -13,8 +13,9 @@ ghost use Rattle.key.specs.Key.{num};
 ghost use Rattle.key.specs.Answers.{option_of};
 ghost use Rattle.key.specs.Visits.{remaining, BitsFrom};
 
-// A key of 256 bits, or the distance of two: four words, w0 the most significant.
-#[derive(Clone, Copy, PartialEq, Eq, Default, Debug)]
+// A key of 256 bits, or the distance of two: four words, w0 the most significant. The words are fields of their own: each is read by its name,
+// with no index to bound.
+#[derive(Clone, Copy, PartialEq, Eq, PartialOrd, Default, Debug)]
 pub struct Key {
     pub w0: u64,
     pub w1: u64,
@@ -45,7 +46,8 @@ impl Key {
         out
     }
 
-    // Internal: the key of a run of 32 bytes. Not of an array: most callers have a run of the host's, whose length they tested.
+    // Internal: the key of a run of 32 bytes. Not of an array: a part of a storage, of a node or of a record is a slice, and each caller would
+    // make the array by `as_array().unwrap()`.
     pub fn load(s: &[u8]) -> Key
         requires { length s.now ≡ key_size }
         ensures { num result ≡ number s.now }
@@ -58,7 +60,7 @@ impl Key {
         }
     }
 
-    // Internal: a run of 32 bytes becomes that of the key.
+    // Internal: a run of 32 bytes becomes that of the key. A slice, as `words::put_u64` says.
     pub fn store(self, s: &mut [u8])
         requires { length s.old ≡ key_size }
         ensures { s.new ≡ bytes key_size (num self) }
@@ -69,29 +71,19 @@ impl Key {
         words::put_u64(&mut s[24..32], self.w3);
     }
 
-    // The keys are equal. Not the derived `==`: the tests are joined by & and not by &&, so that no branch is taken.
+    // The keys are equal. It is the derived `==`, which by itself ensures that the words are equal and says nothing of the numbers.
     pub fn eq(self, other: Key) -> bool
         ensures { result ≡ same (num self) (num other) }
     {
-        (self.w3 == other.w3)
-            & ((self.w2 == other.w2) & ((self.w1 == other.w1) & (self.w0 == other.w0)))
+        self == other
     }
 
-    // The number of the key is less than that of the other: of two distances, the nearer. The highest word decides where it differs. Not a
-    // derived `<`, which ensures an `Ordering` of the four words and not of the number.
+    // The number of the key is less than that of the other: of two distances, the nearer. It is the derived `<`, which by itself ensures an
+    // `Ordering` of the four words.
     pub fn less(self, other: Key) -> bool
         ensures { result ≡ ltb (num self) (num other) }
     {
-        if self.w0 != other.w0 {
-            return self.w0 < other.w0;
-        }
-        if self.w1 != other.w1 {
-            return self.w1 < other.w1;
-        }
-        if self.w2 != other.w2 {
-            return self.w2 < other.w2;
-        }
-        self.w3 < other.w3
+        self < other
     }
 
     // The XOR of the two keys.
@@ -106,7 +98,7 @@ impl Key {
         }
     }
 
-    // How many zero bits stand before the highest set bit.
+    // How many zero bits stand before the highest set bit. By `as`: std counts bits in a u32, of which no usize is `From`.
     pub fn leading_zeros(self) -> usize
         ensures { result ≡ count_leading_zeros 256 (num self) }
     {
@@ -165,7 +157,21 @@ impl Key {
     }
 }
 
-// The highest set bit of a word below bit k.
+// The key of a word, which is its number.
+impl From<u64> for Key {
+    ghost use Rattle.key.specs.Key.{key_from};
+
+    ghost from_gives = { λ k key. key ≡ key_from k };
+
+    fn from(k: u64) -> Key {
+        Key {
+            w3: k,
+            ..Key::default()
+        }
+    }
+}
+
+// The highest set bit of a word below bit k. This and the next are two functions, since the direction is what they are.
 fn last_set(w: u64, k: usize) -> Option<usize>
     requires { (0 < k) × (k ≤ 64) }
     ensures { option_of result ≡ first (sets_down w k) }

@@ -18,7 +18,8 @@ pub fn insert(b: &mut KBucket, node: Node, time: u64) -> Result<InsertResult, Re
     step.result
 }
 
-// Takes the node of the key out, changes its status and inserts it; direction 2 is none given.
+// Takes the node of the key out, changes its status and inserts it; direction 2 is none given. Key, state and direction are what the call
+// is given; nothing is known of them together.
 pub fn update_status(
     b: &mut KBucket,
     key: Key,
@@ -32,7 +33,8 @@ pub fn update_status(
     step.result
 }
 
-// `insert` on a bucket of the function's own, for callers with plain parameters.
+// `insert` on a bucket of the function's own. It promises what `KBucket::insert` does. It and `update_status_by` stay by a rule of the
+// project: they are public, and four edits are of them.
 pub fn insert_by(
     mut b: KBucket,
     node: Node,

@@ -10,7 +10,7 @@ use Rattle.model.specs.Bucket as model
 use Rattle.model.specs.Sort.{insert_by, sort_by}
 use Rattle.model.specs.Result.{BucketInsertResult, UpdateResult, Reply}
 use Rattle.key.specs.declared.Key.{Key}
-use Rattle.key.specs.Key.{num, key_of}
+use Rattle.key.specs.Key.{num, key_of, key_from}
 use Rattle.node.specs.declared.Node.{Node}
 use Rattle.node.specs.declared.Refusal.{Refusal}
 use Rattle.node.specs.Refusal.{number_of, reply_of}
@@ -19,7 +19,7 @@ use Rattle.order.specs.Found.{far}
 use Rattle.bucket.specs.declared.KBucket.{KBucket}
 use Rattle.bucket.specs.Bucket.{key_at, sound}
 use Rattle.bucket.specs.Calls.{insert_call, new_call, update_status_call}
-use Rattle.lent_run.specs.Lends.{key_from, node_from, emptied, two, malformed, found_at, nearest_first}
+use Rattle.lent_run.specs.Lends.{node_from, emptied, two, malformed, found_at, nearest_first}
 
 -- a call's answer and bucket, from its contract, are those of the definition at equal arguments
 pub inserts : {b c : KBucket} {n m : Node} {x : Reply BucketInsertResult × KBucket} → b ≡ c → n ≡ m → insert_call b n 0 ≡ x → x ≡ insert_call c m 0

@@ -1,14 +1,10 @@
 -- The nodes, buckets and found nodes that the program lends.
 use Rattle.std.specs.Prelude.{ℕ, List, ◌∷◌, replicate}
-use Rattle.key.specs.declared.Key.{Key}
+use Rattle.key.specs.Key.{key_from}
 use Rattle.order.specs.declared.FoundNode.{FoundNode}
 use Rattle.node.specs.declared.Node.{Node}
 use Rattle.bucket.specs.declared.KBucket.{KBucket}
 use Rattle.bucket.specs.Calls.{insert_call, new_call}
-
--- the key of a number below 2 ^ 64
-abbrev pub key_from : ℕ → Key
-key_from k = record { w0 = 0; w1 = 0; w2 = 0; w3 = k }
 
 -- a connected outgoing node with no address
 abbrev pub node_from : ℕ → Node
@@ -33,9 +29,7 @@ malformed b = record {
   count = b.count;
   first_connected_pos = 1;
   pending = b.pending;
-  pending_timeout = b.pending_timeout;
-  max_incoming = b.max_incoming;
-  filter = b.filter;
+  settings = b.settings;
 }
 
 -- a node found at distance d, in place j

@@ -5,29 +5,20 @@ ghost use Rattle.model.specs.Result.{Reply};
 ghost use Rattle.node.specs.Refusal.{reply_of};
 ghost use Rattle.bucket.specs.Bucket.{key_at};
 ghost use Rattle.bucket.specs.Calls.{insert_result_of, update_result_of};
-ghost use Rattle.lent_run.specs.Lends.{key_from, node_from, emptied, two, malformed, found_at, nearest_first};
+ghost use Rattle.lent_run.specs.Lends.{node_from, emptied, two, malformed, found_at, nearest_first};
 
 use bucket::{InsertResult, KBucket, Step, UpdateResult};
 use key::Key;
 use node::{Node, NodeStatus, Refusal, Value};
 use order::FoundNode;
 
-// The key of a number. positions has the same: what the two programs share would be a crate of one function.
-pub(crate) fn key_from(k: u64) -> Key
-    ensures { result ≡ key_from k }
-{
-    Key {
-        w3: k,
-        ..Key::default()
-    }
-}
-
-// A connected outgoing node with no address.
+// A connected outgoing node with no address. This and `empty` are of positions too, with more parameters: a crate that the two programs
+// share would be longer than both.
 fn node_from(k: u64) -> Node
     ensures { result ≡ node_from k }
 {
     Node {
-        key: key_from(k),
+        key: Key::from(k),
         value: Value::default(),
         status: NodeStatus {
             state: 1,
@@ -66,7 +57,7 @@ pub(crate) fn refused_status() -> Step<KBucket, Result<UpdateResult, Refusal>>
     ensures answer_value { result.result ≡ Err Refusal.Form }
     ensures bucket_value { result.bucket ≡ malformed emptied }
 {
-    lent::update_status_by(broken(), key_from(32), 1, 2)
+    lent::update_status_by(broken(), Key::from(32), 1, 2)
 }
 
 // Connected 32 and 33 are inserted.
@@ -84,7 +75,7 @@ pub(crate) fn moved() -> Step<KBucket, Result<UpdateResult, Refusal>>
     ensures bucket_value { key_at result.bucket 0 ≡ 33 }
     ensures bucket_value_2 { key_at result.bucket 1 ≡ 32 }
 {
-    lent::update_status_by(inserted().bucket, key_from(32), 1, 2)
+    lent::update_status_by(inserted().bucket, Key::from(32), 1, 2)
 }
 
 // A node found at this distance, in this place.
@@ -92,7 +83,7 @@ fn found(distance: u64, place: usize) -> FoundNode
     ensures { result ≡ found_at distance place }
 {
     FoundNode {
-        distance: key_from(distance),
+        distance: Key::from(distance),
         place,
     }
 }

@@ -6,6 +6,7 @@ ghost use Rattle.std.specs.Prelude.{◌≡◌};
 ghost use Rattle.lent_run.specs.Lends.{emptied, malformed};
 
 use bucket::{InsertResult, KBucket, Step, UpdateResult};
+use key::Key;
 use node::Refusal;
 use std::io;
 
@@ -43,8 +44,8 @@ fn moved(rt: &impl Print) -> io::Result<()> {
     let step = lends::moved();
     let first = step.bucket.nodes[0].key;
     let second = step.bucket.nodes[1].key;
-    prove!(first.eq(lends::key_from(33)));
-    prove!(second.eq(lends::key_from(32)));
+    prove!(first.eq(Key::from(33)));
+    prove!(second.eq(Key::from(32)));
     prove!(matches!(&step.result, Ok(UpdateResult::NotModified)));
     println!(rt; "32 set connected: {}, {}", first.w3, second.w3)
 }

@@ -70,6 +70,13 @@ module _ (x : Shape) (s : List ℕ) (n : ℕ) where
     pub putting_formed : (i : ℕ) → k < n → Putting x s n ns before after k (i ∷ rest) → bucket_formed_at s i ≡ true
     putting_formed i l w = and_left (bucket_formed_at s i) _ (formed_here i l w)
 
+    -- what is written of the others has room behind those that are there
+    pub putting_room : (i : ℕ) → n * size_by x ≤ length before → Putting x s n ns before after k (i ∷ rest) → k * size_by x + (n - k) * size_by x ≤ length after
+    putting_room i h w = let z = w.within in omega (arith, w.size, h, add-mul k (n - k) (size_by x), mul-le-mul_right (size_by x) z, ap (λ (j : ℕ). j * size_by x) (k_left z))
+      where
+        k_left : k ≤ n → k + (n - k) ≡ n
+        k_left z = omega arith
+
     pub putting_next : (i r : ℕ) (after' : List ℕ) → n * size_by x ≤ length before → k < n → Putting x s n ns before after k (i ∷ rest)
         → r ≡ k + length (take (n - k) (shows i)) → after' ≡ splice after (k * size_by x) (items_by x (take (n - k) (shows i))) → Putting x s n ns before after' r rest
     putting_next i r after' h j w e f =

@@ -8,13 +8,13 @@ ghost use Rattle.model.specs.Formed.{header_formed, buckets_formed};
 ghost use Rattle.model.specs.Listing.{visited};
 ghost use Rattle.model.specs.StepBytes.{step_bytes};
 ghost use Rattle.visit.specs.Passes.{buckets_of};
-ghost use Rattle.items.specs.Shape.{size_by};
+ghost use Rattle.items.specs.Shape.{predicate_of, size_by};
 ghost use Rattle.items.specs.Lists.{Lists, list_answer};
 ghost use Rattle.listing.specs.Listed.{closest_listing, visit_order_by, count_in, first_nodes, Put, visit_outcome, list_outcome};
 
 use items::{Form, Predicate, Shape};
-use key::{ClosestBucketsIter, Key};
-use node::{Code, Refusal, Slot};
+use key::ClosestBucketsIter;
+use node::Refusal;
 use storage::Layout;
 use visit::{Order, Visit};
 
@@ -37,12 +37,13 @@ fn put_all(s: &[u8; Layout::STORAGE], visit: Visit, shape: Shape, out: &mut [u8]
     requires shape_in_bounds { n * size_by shape ≤ length out.old }
     ensures { Put shape (first_nodes n shape (table_of s.now) (buckets_of visit.order)) result out.old out.new }
 {
+    let size = shape.item_size();
     let mut k = 0;
     for i in visit.order {
         if k == n {
             break;
         }
-        k = items::put_bucket(s, i, shape, out, k, n);
+        k += items::put_bucket(s, i, shape, &mut out[k * size..], n - k);
     }
     k
 }
@@ -94,8 +95,8 @@ fn closest(
     ensures { Lists (list_answer result) s.new out.new (step_bytes (Call.list (closest_listing form target.now) n time out.old) s.old) }
 {
     let s = s.as_mut_array().ok_or(Refusal::Size)?;
-    on_key::asked(s, target, form.in_range(), Some(time))?;
-    list(s, Shape::Closest(Key::load(target), form), n, time, out)
+    let (key, form) = on_key::asked(s, target, form.in_range().then_some(form), Some(time))?;
+    list(s, Shape::Closest(key, form), n, time, out)
 }
 
 // All nodes, bucket by bucket.
@@ -137,23 +138,12 @@ pub fn closest_values(
 pub fn closest_values_predicate(
     s: &mut [u8],
     target: &[u8],
-    predicate: Code,
-    a: u8,
-    b: u8,
-    c: u8,
-    slot: Slot,
+    p: Predicate,
     n: usize,
     time: u64,
     out: &mut [u8],
 ) -> Result<usize, Refusal>
-    ensures { Lists (list_answer result) s.new out.new (step_bytes (Call.list (Listing.closest_values_predicate target.now (record { predicate = predicate; a = a; b = b; c = c; slot = slot })) n time out.old) s.old) }
+    ensures { Lists (list_answer result) s.new out.new (step_bytes (Call.list (Listing.closest_values_predicate target.now (predicate_of p)) n time out.old) s.old) }
 {
-    let p = Predicate {
-        predicate,
-        a,
-        b,
-        c,
-        slot,
-    };
     closest(s, target, Form::PredicateValue(p), n, time, out)
 }

@@ -16,8 +16,8 @@ use Rattle.model.specs.Sizes.{node_size, pending_at, bucket_size, record_count_a
 use Rattle.model.specs.Layout.{nodes_in, pending_in, bucket_in, bucket_bytes, bucket_part, table_of, record_in, record_part}
 use Rattle.model.specs.Formed.{pending_formed, bucket_formed, formed}
 use Rattle.model.specs.Saved.{saved_count, disconnected_from, loaded_bytes, holds_nothing, three_of_aNet, length_fits, load_fits, loaded_formed}
-use Rattle.laws.proofs.Tests.{split, and_left, and_right, and_none, or_second}
-use Rattle.laws.proofs.Lists.{length_tabulate, all_fails, all_gives, all_if, all_ext}
+use Rattle.laws.proofs.Tests.{split, and_left, and_right, or_second}
+use Rattle.laws.proofs.Lists.{length_tabulate, all_gives, all_if, all_ext}
 use Rattle.laws.proofs.Parts.{length_part, part_all, slot_before}
 use Rattle.laws.proofs.Bytes.{Bytes_part}
 use Rattle.laws.proofs.Zeros.{are_zero_part}
@@ -72,11 +72,8 @@ module _ (s : List ℕ) (l : length s ≡ storage_size) (f : formed s ≡ true) 
   pub holds_records : (get_or s record_count_at 0 ≡ 0 → ⊥) → false ≡ holds_nothing t
   holds_records h = sym (holds_by ∙ ap (λ (b : Bool). b && all_below num_buckets (empty_at s)) (ne_eqb (get_or s record_count_at 0) 0 h))
 
-  pub holds_bucket : (i : ℕ) → i < num_buckets → empty_at s i ≡ false → false ≡ holds_nothing t
-  holds_bucket i m e = sym (holds_by ∙ and_none (eqb (get_or s record_count_at 0) 0) (all_below num_buckets (empty_at s)) (all_fails num_buckets (empty_at s) i m e))
-
-  pub holds_none : get_or s record_count_at 0 ≡ 0 → all_below num_buckets (empty_at s) ≡ true → true ≡ holds_nothing t
-  holds_none e h = sym (holds_by ∙ rw (eq-eqb (get_or s record_count_at 0) 0 e, h))
+  pub holds_all : get_or s record_count_at 0 ≡ 0 → all_below num_buckets (empty_at s) ≡ holds_nothing t
+  holds_all e = sym (holds_by ∙ ap (λ (b : Bool). b && all_below num_buckets (empty_at s)) (eq-eqb (get_or s record_count_at 0) 0 e))
 
   pub blank_of : Bytes s → holds_nothing t ≡ true → Blank s
   unfolding empty_at

@@ -26,7 +26,8 @@ use saved::{Saved, SavedBucket};
 use storage::{Layout, Nodes};
 use well_formed::{FormedTable, Index};
 
-// The value of the node at place j.
+// The value of the node at place j. By its number, as in `is_crowded`, whose proof speaks of places; over `Nodes::places` each test is as
+// long.
 fn value_at(nodes: Nodes, j: usize) -> Value
     requires { j < nodes.count }
     ensures { value_of result ≡ (node_at nodes.entry.bucket.now j).value }
@@ -93,7 +94,7 @@ fn bucket_fits(bucket: SavedBucket, local: Key, settings: Settings) -> bool
     let mut built = [0u8; Layout::BUCKET];
     bucket.build(&mut built);
     let index = Index { local, i: bucket.i };
-    if !well_formed::bucket_formed(&built, index, settings.max_incoming) {
+    if !well_formed::bucket_formed(&built, Some(index), settings.max_incoming) {
         return false;
     }
     if settings.filter != 1 {
@@ -125,13 +126,10 @@ fn holds_nothing(table: FormedTable) -> bool
     if s[Layout::RECORD_COUNT_AT] != 0 {
         return false;
     }
-    for i in 0..model::NUM_BUCKETS {
+    (0..model::NUM_BUCKETS).all(|i| {
         let bucket = storage::bucket(s, i);
-        if !((bucket[0] == 0) & (bucket[Layout::PENDING_AT] == 0)) {
-            return false;
-        }
-    }
-    true
+        (bucket[0] == 0) & (bucket[Layout::PENDING_AT] == 0)
+    })
 }
 
 // The bytes, where they pass question 9.
@@ -157,8 +155,7 @@ fn load_all(saved: Saved, s: &mut [u8; Layout::STORAGE])
     let mut from: usize = 0;
     for i in 0..model::NUM_BUCKETS {
         let bucket = SavedBucket { saved, i, from };
-        let at = Layout::HEADER + i * Layout::BUCKET;
-        bucket.build(&mut s[at..at + Layout::BUCKET]);
+        bucket.build(&mut s[storage::bucket_range(i)]);
         from += bucket.count();
     }
 }

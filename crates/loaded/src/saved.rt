@@ -1,5 +1,5 @@
 // The bytes that the writer puts out: a size for each bucket, then the keys of all nodes, then their entries.
-ghost use Rattle.std.specs.Prelude.{◌≡◌, false, ◌++◌, ◌+◌, ◌*◌, ◌≤◌, ◌<◌, length, get_or, MatchOption};
+ghost use Rattle.std.specs.Prelude.{◌≡◌, false, ◌++◌, ◌+◌, ◌*◌, ◌≤◌, ◌<◌, length, get_or, sum, MatchOption};
 ghost use Rattle.model.specs.Bytes.{part, zeros};
 ghost use Rattle.model.specs.Bucket.{max_nodes_per_bucket};
 ghost use Rattle.model.specs.Table.{num_buckets};
@@ -18,7 +18,7 @@ pub struct Saved<'a> {
     pub ghost sized: { length bytes.now ≡ num_buckets + nodes * node_size },
 }
 
-// Bucket i of the bytes, whose first node is that of index `from`.
+// Bucket i of the bytes, whose first node is that of index `from`: the loops over the buckets count on, since the buckets differ in size.
 #[derive(Clone, Copy)]
 pub struct SavedBucket<'a> {
     pub saved: Saved<'a>,
@@ -38,16 +38,13 @@ fn copy_node(key: &[u8], entry: &[u8], node: &mut [u8])
     storage::put_entry(entry, back);
 }
 
-// How many nodes the sizes say.
-fn saved_nodes(bytes: &[u8]) -> usize
-    requires { num_buckets ≤ length bytes.now }
-    ensures { (result ≡ saved_count bytes.now) × (result ≤ 255 * num_buckets) }
+// How many nodes the sizes say (saved, `total`).
+#[tactic(auto, using(crate::proofs::Built::sums))]
+fn saved_nodes(sizes: &[u8; model::NUM_BUCKETS]) -> usize
+    ensures value { result ≡ sum sizes.now }
+    ensures upper_bound { result ≤ 255 * num_buckets }
 {
-    let mut n: usize = 0;
-    for b in &bytes[..model::NUM_BUCKETS] {
-        n += usize::from(*b);
-    }
-    n
+    sizes.iter().map(|size| usize::from(*size)).sum()
 }
 
 impl<'a> Saved<'a> {
@@ -55,10 +52,7 @@ impl<'a> Saved<'a> {
     pub fn of(bytes: &'a [u8]) -> Option<Saved<'a>>
         ensures { MatchOption result (length_fits bytes.now ≡ false) (λ x. x.bytes.now ≡ bytes.now) }
     {
-        if bytes.len() < model::NUM_BUCKETS {
-            return None;
-        }
-        let nodes = saved_nodes(bytes);
+        let nodes = saved_nodes(bytes.first_chunk()?);
         if bytes.len() != model::NUM_BUCKETS + nodes * Layout::NODE {
             return None;
         }
@@ -100,24 +94,22 @@ impl<'a> SavedBucket<'a> {
         ensures { result ≡ disconnected_from self.entry.saved.bytes.now self.entry.from (get_or self.entry.saved.bytes.now self.entry.i 0) }
     {
         let count = self.count();
-        for j in 0..count {
-            if self.saved.entry(self.from + j)[0] != 0 {
-                return j;
-            }
-        }
-        count
+        (self.from..self.from + count)
+            .position(|j| self.saved.entry(j)[0] != 0)
+            .unwrap_or(count)
     }
 
-    // Internal: the bucket as a table stores it, without a pending, put where all is zero.
+    // Internal: the bucket as a table stores it, without a pending, put where all is zero. Not by `chunks_exact_mut`: of a slice that was
+    // lent in pieces a proof knows the length alone.
     pub fn build(self, bucket: &mut [u8])
         requires bucket_value { bucket.old ≡ zeros bucket_size }
         requires i_bound { get_or self.saved.bytes.now self.i 0 ≤ max_nodes_per_bucket }
         ensures { bucket.new ≡ loaded_bytes self.entry.saved.bytes.now self.entry.i }
     {
-        let count = self.count();
-        bucket[0] = count as u8;
+        bucket[0] = self.saved.bytes[self.i];
+        // By `as`: there are at most sixteen, and `try_from` would leave an `unwrap` to prove.
         bucket[1] = self.disconnected() as u8;
-        for j in 0..count {
+        for j in 0..self.count() {
             let at = Layout::PLACES_AT + j * Layout::NODE;
             let key = self.saved.key(self.from + j);
             let entry = self.saved.entry(self.from + j);

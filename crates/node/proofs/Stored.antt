@@ -1,16 +1,16 @@
 -- A declared node and the model's node that it stands for, there and back.
 use Prim.Native.Nat.{ℕ, ◌≤◌}
-use native.Mathlib.Omega.{arith}
 use mathlib.Core.Path.{◌≡◌, refl, sym, ap, ◌∙◌}
 use mathlib.Core.Bool.{Bool, true, false, cond, ◌&&◌}
 use mathlib.Core.Option.{Option, none, some}
 use lib.Dec.{eqb, leb}
-use borrow.Author.Tests.{eqb-true, eqb-false, le-leb}
+use borrow.Author.Tests.{eqb-true, le-leb}
+use Rattle.std.specs.Prelude as std
+use Rattle.std.specs.Prelude.{Some, None, MatchOption}
+use Rattle.std.specs.Bool.{⊤}
 use Rattle.model.specs.Value as model-value
-use Rattle.model.specs.Base.{given}
 use Rattle.model.specs.Node as model
-use Rattle.model.specs.Call.{is_one, optional}
-use Rattle.model.specs.Layout.{flag_byte}
+use Rattle.model.specs.Call.{is_one}
 use Rattle.laws.proofs.Tests.{and_left, and_right, or_rest}
 use Rattle.laws.proofs.NodeBytes.{flag_there}
 use Rattle.laws.proofs.NodeFormed.{flag_code, flag_back}
@@ -20,6 +20,7 @@ use Rattle.key.specs.declared.Key.{Key}
 use Rattle.key.specs.Key.{Words}
 use Rattle.node.specs.declared.Value.{Value}
 use Rattle.node.specs.declared.Node.{Node}
+use Rattle.node.specs.Status.{optional_of}
 use Rattle.node.specs.Node.{value_of, node_of, value_codes, node_codes, stored_address, stored_value, stored_node, zero_node, is_zero, restated, revalued}
 
 same_words : {a a' b b' c c' d d' : ℕ} → a ≡ a' → b ≡ b' → c ≡ c' → d ≡ d'
@@ -107,25 +108,18 @@ zero_is n h =
 pub stored_codes : (n : Node) → n ≡ stored_node (node_of n) → node_codes n ≡ true
 stored_codes n e = ap node_codes e ∙ codes_stored (node_of n)
 
-direction_by : (t : Bool) (old new : ℕ) → eqb (cond t old new) 1 ≡ given (cond t none (some (eqb new 1))) (eqb old 1)
-direction_by true old new = refl
-direction_by false old new = refl
+pub node_of_restated : (state : ℕ) (direction : std.Option ℕ) (n : Node)
+    → node_of (restated state direction n) ≡ model.with_status (is_one state) (optional_of direction) (node_of n)
+node_of_restated state None n = refl
+node_of_restated state (Some d) n = refl
 
-pub node_of_restated : (state direction : ℕ) (n : Node) → node_of (restated state direction n) ≡ model.with_status (is_one state) (optional direction) (node_of n)
-node_of_restated state direction n = same_node refl refl refl (direction_by (eqb direction 2) n.status.direction direction)
-
-direction_code : (t : Bool) (old new : ℕ) → eqb new 2 ≡ t → old ≡ flag_byte (eqb old 1) → new ≤ 2 → cond t old new ≡ flag_byte (given (cond t none (some (eqb new 1))) (eqb old 1))
-direction_code true old new e h k = h
-direction_code false old new e h k = sym (flag_back new (le-leb new 1 (not_two new k (eqb-false new 2 e))))
-  where
-    not_two : (x : ℕ) → x ≤ 2 → (x ≡ 2 → ⊥) → x ≤ 1
-    not_two x l f = omega (arith, f)
-
-pub stored_restated : (state direction : ℕ) (n : Node) → n ≡ stored_node (node_of n) → state ≤ 1 → direction ≤ 2
-    → restated state direction n ≡ stored_node (model.with_status (is_one state) (optional direction) (node_of n))
-stored_restated state direction n e h k =
-    same_parts (ap (λ (x : Node). x.key) e) (ap (λ (x : Node). x.value) e) (sym (flag_back state (le-leb state 1 h)))
-    (direction_code (eqb direction 2) n.status.direction direction refl (ap (λ (x : Node). x.status.direction) e) k)
+pub stored_restated : (state : ℕ) (direction : std.Option ℕ) (n : Node) → n ≡ stored_node (node_of n) → state ≤ 1
+    → MatchOption direction ⊤ (λ d. d ≤ 1)
+    → restated state direction n ≡ stored_node (model.with_status (is_one state) (optional_of direction) (node_of n))
+stored_restated state None n e h k =
+    same_parts (ap (λ (x : Node). x.key) e) (ap (λ (x : Node). x.value) e) (sym (flag_back state (le-leb state 1 h))) (ap (λ (x : Node). x.status.direction) e)
+stored_restated state (Some d) n e h k =
+    same_parts (ap (λ (x : Node). x.key) e) (ap (λ (x : Node). x.value) e) (sym (flag_back state (le-leb state 1 h))) (sym (flag_back d (le-leb d 1 k)))
 
 pub stored_revalued : (v : Value) (n : Node) → n ≡ stored_node (node_of n) → value_codes v ≡ true
     → revalued v n ≡ stored_node (model.with_value (value_of v) (node_of n))

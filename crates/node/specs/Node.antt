@@ -1,5 +1,7 @@
 -- The model's value and node that a declared one stands for, the codes of question 4, and the declared form of a model's node.
 use Rattle.std.specs.Prelude.{ℕ, Bool, cond, ◌&&◌, eqb, leb}
+use Rattle.std.specs.Prelude as std
+use Rattle.std.specs.Option.{unwrap_or}
 use Rattle.std.proofs.Math.Option.{Option, none, some}
 use Rattle.model.specs.Value as model-value
 use Rattle.model.specs.Node as model
@@ -9,6 +11,7 @@ use Rattle.model.specs.Question.{value_in_range}
 use Rattle.model.specs.Layout.{flag_byte}
 use Rattle.key.specs.Key.{num, key_of}
 use Rattle.node.specs.declared.Value.{Value}
+use Rattle.node.specs.declared.NodeStatus.{NodeStatus}
 use Rattle.node.specs.declared.Node.{Node}
 
 -- as the argument of a call
@@ -32,6 +35,10 @@ abbrev pub value_codes : Value → Bool
 value_codes v = value_in_range (argument_of v)
 
 -- 01, question 4: state and direction 0 or 1
+abbrev pub status_codes : NodeStatus → Bool
+status_codes s = leb s.state 1 && leb s.direction 1
+
+-- 01, question 4, of a node
 abbrev pub node_codes : Node → Bool
 node_codes n = leb n.status.state 1 && (leb n.status.direction 1 && value_codes n.value)
 
@@ -52,10 +59,10 @@ is_zero n =
     && (eqb n.value.b 0 && (eqb n.value.c 0 && (eqb n.value.d 0 && eqb n.value.slot 0)))))
     && (eqb n.status.state 0 && eqb n.status.direction 0))
 
--- the node with another status; direction 2 is none given
-abbrev pub restated : ℕ → ℕ → Node → Node
+-- the node with another status; where no direction is given, the old one stays
+abbrev pub restated : ℕ → std.Option ℕ → Node → Node
 restated state direction n =
-    record { key = n.key; value = n.value; status = record { state = state; direction = cond (eqb direction 2) n.status.direction direction } }
+    record { key = n.key; value = n.value; status = record { state = state; direction = unwrap_or direction n.status.direction } }
 
 abbrev pub revalued : Value → Node → Node
 revalued v n = record { key = n.key; value = v; status = n.status }

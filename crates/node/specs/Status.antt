@@ -1,5 +1,7 @@
 -- The codes of states and directions.
-use Rattle.std.specs.Prelude.{ℕ, Result, Ok, Err, cond, eqb}
+use Rattle.std.specs.Prelude.{ℕ, Bool, Option, Some, None, Result, Ok, Err, cond, eqb}
+use Rattle.std.proofs.Math.Option as math
+use Rattle.model.specs.Call.{is_one}
 use Rattle.node.specs.declared.Refusal.{Refusal}
 use Rattle.node.specs.declared.ConnectionState.{ConnectionState}
 use Rattle.node.specs.declared.ConnectionDirection.{ConnectionDirection}
@@ -22,3 +24,8 @@ state_of x = cond (eqb x 1) (Ok Connected) (cond (eqb x 0) (Ok Disconnected) (Er
 
 abbrev pub direction_of : ℕ → Result ConnectionDirection Refusal
 direction_of x = cond (eqb x 1) (Ok Incoming) (cond (eqb x 0) (Ok Outgoing) (Err Refusal.Code))
+
+-- a code that need not be given, as the model's flag
+abbrev pub optional_of : Option ℕ → math.Option Bool
+optional_of None = math.none
+optional_of (Some x) = math.some (is_one x)

@@ -1,12 +1,14 @@
 // What a bucket holds: values, statuses and nodes (bucket.rs), and the filter's test (filter.rs).
 #![tactic(auto)]
 
-ghost use Rattle.std.specs.Prelude.{◌≡◌, true, ◌≤◌};
+ghost use Rattle.std.specs.Prelude.{◌≡◌, true, ◌&&◌, ◌≤◌, leb, IfSome, MatchOption};
+ghost use Rattle.std.specs.Option.{is_some};
+ghost use Rattle.std.proofs.Props.{props};
 ghost use Rattle.model.specs.Value.{same_value};
 ghost use Rattle.model.specs.Node.{connected_incoming};
-ghost use Rattle.model.specs.Call.{is_one};
-ghost use Rattle.node.specs.Node.{value_of, node_of, value_codes, node_codes, zero_node, is_zero, restated, revalued};
-ghost use Rattle.node.specs.Status.{state_code, direction_code, state_of, direction_of};
+ghost use Rattle.model.specs.Call.{is_one, optional};
+ghost use Rattle.node.specs.Node.{value_of, node_of, value_codes, status_codes, node_codes, zero_node, is_zero, restated, revalued};
+ghost use Rattle.node.specs.Status.{state_code, direction_code, state_of, direction_of, optional_of};
 ghost use Rattle.node.specs.Refusal.{number_of};
 
 use key::Key;
@@ -63,7 +65,8 @@ pub type Code = u8;
 // The number of a slot of the host's record store: 64 bits (02, slip 2).
 pub type Slot = u64;
 
-// An optional IPv4 address and a slot of the host's record store. An absent address has flag 0 and zero octets.
+// An optional IPv4 address and a slot of the host's record store. An absent address has flag 0 and zero octets. The octets are fields of
+// their own: they are public, and each test of them is joined by `&`.
 #[derive(Clone, Copy, Default)]
 pub struct Value {
     pub flag: Code,
@@ -75,18 +78,18 @@ pub struct Value {
 }
 
 // The connection state of a node. It and the direction are the Rust's two enums; a trait for their codes would be longer than both
-// `from_code`.
+// `from_code`, and TryFrom for both proves, but would stand beside `from_code`, which is public, 12 lines longer each.
 #[derive(Clone, Copy)]
 pub enum ConnectionState {
-    Connected,
-    Disconnected,
+    Disconnected = 0,
+    Connected = 1,
 }
 
 // How the node was connected to: it contacted us, or we contacted it.
 #[derive(Clone, Copy)]
 pub enum ConnectionDirection {
-    Incoming,
-    Outgoing,
+    Outgoing = 0,
+    Incoming = 1,
 }
 
 // The status of a node in a bucket, by the codes of question 4.
@@ -106,38 +109,156 @@ pub struct Node {
     pub status: NodeStatus,
 }
 
-// A value that passed question 4.
+// What passed question 4 is of a type of its own, made by `of`, the question's test. One generic type would need a trait for the question,
+// with an impl and two clauses for each of the three. A value that passed it.
 #[derive(Clone, Copy)]
 pub struct ValueInRange {
     pub value: Value,
     pub ghost codes: { value_codes value ≡ true },
 }
 
-// A node that passed question 4. It and the value are two structs: a generic one could not derive Copy, and would need a trait for the
-// question.
+// A status that passed question 4.
+#[derive(Clone, Copy)]
+pub struct StatusInRange {
+    pub status: NodeStatus,
+    pub ghost codes: { status_codes status ≡ true },
+}
+
+// A node that passed question 4.
 #[derive(Clone, Copy)]
 pub struct NodeInRange {
     pub node: Node,
     pub ghost codes: { node_codes node ≡ true },
 }
 
+// All of a node but its key.
+#[derive(Clone, Copy)]
+pub struct NodeFields {
+    pub value: ValueInRange,
+    pub status: StatusInRange,
+}
+
 // A status to be set that passed question 4.
 #[derive(Clone, Copy)]
 pub struct StatusUpdate {
     pub state: Code,
-    // 2 is none given: the old one stays.
-    pub direction: Code,
+    // Where none is given, the old one stays.
+    pub direction: Option<Code>,
     pub ghost state_bound: { state ≤ 1 },
-    pub ghost direction_bound: { direction ≤ 2 },
+    pub ghost direction_bound: { IfSome direction (λ d. d ≤ 1) } by { Prim.hlevel props },
 }
 
 // What update_node sets, where it passed question 4.
 #[derive(Clone, Copy)]
 pub struct NodeUpdate {
     pub value: ValueInRange,
-    // 2 is none given: the old one stays.
-    pub state: Code,
-    pub ghost state_bound: { state ≤ 2 },
+    // Where none is given, the old one stays.
+    pub state: Option<Code>,
+    pub ghost state_bound: { IfSome state (λ u. u ≤ 1) } by { Prim.hlevel props },
+}
+
+// A code that need not be given: 2 is none given.
+fn given(code: Code) -> Option<Code>
+    requires { code ≤ 2 }
+    ensures value { optional_of result ≡ optional code }
+    ensures bound { IfSome result (λ c. c ≤ 1) }
+{
+    (code != 2).then_some(code)
+}
+
+impl ValueInRange {
+    // Internal: the value, if question 4 passes.
+    pub fn of(value: Value) -> Option<ValueInRange>
+        ensures passes { is_some result ≡ value_codes value }
+        ensures value { IfSome result (λ v. v.value ≡ value) }
+    {
+        if !value.in_range() {
+            return None;
+        }
+        Some(ValueInRange { value })
+    }
+}
+
+impl StatusInRange {
+    // Internal: the status, if question 4 passes.
+    pub fn of(status: NodeStatus) -> Option<StatusInRange>
+        ensures passes { is_some result ≡ status_codes status }
+        ensures value { IfSome result (λ s. s.status ≡ status) }
+    {
+        if !status.in_range() {
+            return None;
+        }
+        Some(StatusInRange { status })
+    }
+}
+
+impl NodeFields {
+    // Internal: value and status, if question 4 passes.
+    pub fn of(value: Value, status: NodeStatus) -> Option<NodeFields>
+        ensures passes { is_some result ≡ (value_codes value && status_codes status) }
+        ensures value { IfSome result (λ f. (f.value.value ≡ value) × (f.status.status ≡ status)) }
+    {
+        let value = ValueInRange::of(value)?;
+        let status = StatusInRange::of(status)?;
+        Some(NodeFields { value, status })
+    }
+
+    // Internal: the node of this key.
+    pub fn with_key(self, key: Key) -> NodeInRange
+        ensures { result.node ≡ record { key = key; value = self.value.value; status = self.status.status } }
+    {
+        NodeInRange {
+            node: Node {
+                key,
+                value: self.value.value,
+                status: self.status.status,
+            },
+        }
+    }
+}
+
+impl StatusUpdate {
+    // Internal: a state and a direction that need not be given (2), if question 4 passes.
+    pub fn of(state: Code, direction: Code) -> Option<StatusUpdate>
+        ensures passes { is_some result ≡ (leb state 1 && leb direction 2) }
+        ensures value { IfSome result (λ u. (u.state ≡ state) × (optional_of u.direction ≡ optional direction)) }
+    {
+        if 1 < state || 2 < direction {
+            return None;
+        }
+        Some(StatusUpdate {
+            state,
+            direction: given(direction),
+        })
+    }
+}
+
+impl NodeUpdate {
+    // Internal: a value and a state that need not be given (2), if question 4 passes.
+    pub fn of(value: Value, state: Code) -> Option<NodeUpdate>
+        ensures passes { is_some result ≡ (value_codes value && leb state 2) }
+        ensures value { IfSome result (λ u. (u.value.value ≡ value) × (optional_of u.state ≡ optional state)) }
+    {
+        let value = ValueInRange::of(value)?;
+        if 2 < state {
+            return None;
+        }
+        Some(NodeUpdate {
+            value,
+            state: given(state),
+        })
+    }
+
+    // Internal: the status that it sets, if any.
+    pub fn status(self) -> Option<StatusUpdate>
+        ensures { MatchOption result (self.state ≡ None) (λ s. (self.state ≡ Some s.state) × (s.direction ≡ None)) }
+    {
+        let state = self.state?;
+        Some(StatusUpdate {
+            state,
+            direction: None,
+        })
+    }
 }
 
 impl ConnectionState {
@@ -152,13 +273,10 @@ impl ConnectionState {
         }
     }
 
-    pub fn code(self) -> u8
+    pub fn code(self) -> Code
         ensures { result ≡ state_code self }
     {
-        match self {
-            ConnectionState::Connected => 1,
-            ConnectionState::Disconnected => 0,
-        }
+        self as Code
     }
 }
 
@@ -174,17 +292,25 @@ impl ConnectionDirection {
         }
     }
 
-    pub fn code(self) -> u8
+    pub fn code(self) -> Code
         ensures { result ≡ direction_code self }
     {
-        match self {
-            ConnectionDirection::Incoming => 1,
-            ConnectionDirection::Outgoing => 0,
-        }
+        self as Code
     }
 }
 
 impl NodeInRange {
+    // Internal: the node, if question 4 passes.
+    pub fn of(node: Node) -> Option<NodeInRange>
+        ensures passes { is_some result ≡ node_codes node }
+        ensures value { IfSome result (λ n. n.node ≡ node) }
+    {
+        if !node.in_range() {
+            return None;
+        }
+        Some(NodeInRange { node })
+    }
+
     // Internal: its value, which passed question 4 too.
     pub fn value(self) -> ValueInRange
         ensures { result.value ≡ self.node.value }
@@ -196,11 +322,11 @@ impl NodeInRange {
 
     // Internal: its status, to be set.
     pub fn status(self) -> StatusUpdate
-        ensures { (result.state ≡ self.node.status.state) × (result.direction ≡ self.node.status.direction) }
+        ensures { (result.state ≡ self.node.status.state) × (result.direction ≡ Some self.node.status.direction) }
     {
         StatusUpdate {
             state: self.node.status.state,
-            direction: self.node.status.direction,
+            direction: Some(self.node.status.direction),
         }
     }
 
@@ -224,6 +350,14 @@ impl NodeInRange {
 }
 
 impl NodeStatus {
+    // Question 4 of a status: state and direction 0 or 1.
+    pub fn in_range(self) -> bool
+        ensures { result ≡ status_codes self }
+    {
+        (self.state <= 1) & (self.direction <= 1)
+    }
+
+    // Connected. This test and the next have the Rust's names, and `Node`'s two hand on to them.
     pub fn is_connected(self) -> bool
         ensures { result ≡ is_one self.state }
     {
@@ -291,11 +425,11 @@ impl Node {
     pub fn in_range(self) -> bool
         ensures { result ≡ node_codes self }
     {
-        let value = self.value.in_range();
-        (self.status.state <= 1) & ((self.status.direction <= 1) & value)
+        self.status.in_range() & self.value.in_range()
     }
 
-    // What an unused place holds. By a name of its own, which the contracts cite, and not `default` alone.
+    // What an unused place holds. By a name of its own, and not `default` alone: as one equation, where `default` ensures it field by
+    // field.
     pub fn zero() -> Node
         ensures { result ≡ zero_node }
     {
@@ -312,15 +446,12 @@ impl Node {
         self.key == Key::default() && value && self.status == NodeStatus::default()
     }
 
-    // The node with another status; direction 2 is none given, and the old one stays.
-    pub fn with_status(self, state: Code, direction: Code) -> Node
+    // The node with another status; where no direction is given, the old one stays. This and `with_value` are changed copies by names,
+    // which the contracts cite.
+    pub fn with_status(self, state: Code, direction: Option<Code>) -> Node
         ensures { result ≡ restated state direction self }
     {
-        let direction = if direction == 2 {
-            self.status.direction
-        } else {
-            direction
-        };
+        let direction = direction.unwrap_or(self.status.direction);
         Node {
             status: NodeStatus { state, direction },
             ..self

@@ -1,7 +1,7 @@
 -- How a call on one key ends: question 8, the session hours, and what was written.
 use Rattle.std.specs.Prelude as code
-use Rattle.std.specs.Prelude.{Result, Ok, Err, None}
-use Rattle.std.specs.Option.{ok_or}
+use Rattle.std.specs.Prelude.{Result, Ok, Err, Some, None, IfSome}
+use Rattle.std.specs.Option.{is_some, ok_or}
 use Rattle.std.specs.Result.{IsErrAnd}
 use Rattle.std.proofs.lemmas.Result.{err_from_is_err_and}
 use Prim.Native.Nat.{ℕ}
@@ -26,10 +26,27 @@ use Rattle.model.specs.StepBytes.{BytesOutcome, filtered, runs_filter, step_byte
 use Rattle.key.specs.declared.Key.{Key}
 use Rattle.node.specs.declared.Refusal.{Refusal}
 use Rattle.node.specs.Refusal.{number_of, answer_of}
+use Rattle.bucket.specs.declared.KBucket.{KBucket}
+use Rattle.bucket.specs.Bucket.{bucket_of}
 use Rattle.on_key.specs.Answers.{Answers, room_for, rewritten, Finished}
-use Rattle.on_key.specs.Start.{AtBucket}
+use Rattle.on_key.specs.Start.{AtBucket, Begun}
+use Rattle.on_key.proofs.Steps.{started}
 use Rattle.on_key.proofs.Stored.{room_for_none, no_room, has_room}
 use Rattle.on_key.proofs.OneKey.{refused_bytes, ReadFormed, hours, suits, suits_all, reads_own, refused_room, refused_hours, answers_in, in_refused, in_done}
+
+-- the answer, the bucket that is left and its record are those of the call
+pub record Told (s key : List ℕ) (c : KeyCall) (i : ℕ) (a : Answer) (b : KBucket) (rs : List EndedPending) : Type 0 where
+  pub answer : a ≡ (effect c key (table_of s) i ((table_of s).buckets i)).answer
+  pub bucket : bucket_of b ≡ (effect c key (table_of s) i ((table_of s).buckets i)).bucket
+  pub records : rs ≡ (effect c key (table_of s) i ((table_of s).buckets i)).records
+
+-- what a call on one key has at its start: s is the storage that was handed in as t, P is what is known of the arguments behind question 4,
+-- and the buckets that the call reads pass question 2
+pub record Here {T : Type 0} (P : T → Type 0) (s t key : List ℕ) (c : KeyCall) (k : Key) (i : ℕ) (x : T) : Type 0 where
+  pub same : s ≡ t
+  pub at : AtBucket s key (key_arguments c).codes (key_arguments c).now k i
+  pub given : P x
+  pub read : ReadFormed s key c
 
 -- the exit of a `?`: the call answers the refusal that was met
 pub refused_exit : {A : Type 0} (f : A → Answer) (r : Result A Refusal) (e : Refusal) → IsErrAnd r (λ x. x ≡ e) → {s' : List ℕ} {o : BytesOutcome}
@@ -40,8 +57,12 @@ refused_exit f r e h a = let p = err_from_is_err_and r h in rw (p.1, p.2) a
 pub size_fails : (s : List ℕ) → (length s ≡ storage_size → ⊥) → (qs : List (ℕ × Bool)) → first_failed ((1, eqb (length s) storage_size) ∷ qs) ≡ some 1
 size_fails s n qs = rw (ne_eqb (length s) storage_size n)
 
+-- the refusal that stands for what is not there
+pub refusal_told : {T : Type 0} {o : code.Option T} {q r : Refusal} → ◌≡◌ {A = Result T Refusal} (Err q) (ok_or o r) → o ≡ None → q ≡ r
+refusal_told {o = o} v n = let w = rw n at v in cc
+
 pub size_told : {T : Type 0} {o : code.Option T} {q : Refusal} → ◌≡◌ {A = Result T Refusal} (Err q) (ok_or o Refusal.Size) → o ≡ None → q ≡ Refusal.Size
-size_told {o = o} v n = let w = rw n at v in cc
+size_told v n = refusal_told v n
 
 -- the exit of question 1: q is the refusal, o what was made of the storage
 pub refused_size : {A T : Type 0} (f : A → Answer) (c : Call) {s : List ℕ} {o : code.Option T} {q : Refusal} (r : Result A Refusal)
@@ -52,6 +73,13 @@ refused_size f c {s} {q = q} r v n m h = refused_exit f r q h (rw (size_told v n
 pub own_formed : (s key : List ℕ) (c : KeyCall) {k : Key} {i : ℕ} → AtBucket s key (key_arguments c).codes (key_arguments c).now k i
     → runs_filter (table_of s) i (number key) (filtered c) ≡ false → ReadFormed s key c
 own_formed s key c y r = reads_own s key c y.index y.ready.bucket r
+
+pub here : {T : Type 0} (P : T → Type 0) {s t key : List ℕ} (c : KeyCall) {arguments : code.Option T} {k : Key} {i : ℕ} {x : T} → s ≡ t
+    → is_some arguments ≡ (key_arguments c).codes → IfSome arguments P → Begun s key arguments (key_arguments c).now (Ok (Some (k, i, x)))
+    → runs_filter (table_of s) i (number key) (filtered c) ≡ false → Here P s t key c k i x
+here P {s} {t} {key} c w p v b r =
+    let y = started P p v b in
+    record { same = w; at = y.0; given = y.1; read = own_formed s key c y.0 r }
 
 module _ (s key : List ℕ) (c : KeyCall) {k : Key} {i : ℕ} (y : AtBucket s key (key_arguments c).codes (key_arguments c).now k i) (d : ReadFormed s key c) where
   abbrev e : Effect

@@ -265,7 +265,7 @@ absent_ends_none n b r h = cases (λ (l : List EndedPending). l ≡ []) (is_inse
 
 becomes_formed : {s : BucketSettings} {m : Bucket} {b : KBucket} → Becomes s m b → Formed s.max_incoming m
 becomes_formed {s} {m} {b} x =
-    subst (λ (t : BucketSettings). Formed t.max_incoming m) x.settings (subst (Formed b.max_incoming) x.bucket (formed_of b x.sound))
+    subst (λ (t : BucketSettings). Formed t.max_incoming m) x.settings (subst (Formed b.settings.max_incoming) x.bucket (formed_of b x.sound))
 
 -- after a due pending was applied
 module _ (s : BucketSettings) (now : ℕ) (m : Bucket) (b c : KBucket) (x : Becomes s (apply_pending s now m).0 b) {xs : List EndedPending} (y : xs ≡ (apply_pending s now m).1)

@@ -7,6 +7,7 @@ use mathlib.Core.Path.{◌≡◌, refl, sym, ap, ◌∙◌}
 use mathlib.Core.Bool.{Bool, true, ◌&&◌}
 use mathlib.Core.List.{List, [], ◌++◌, append-nil}
 use mathlib.Core.Option.{Option, none, some}
+use Rattle.std.specs.declared.ops.Range.{Range}
 use lib.ListN.{length, get_or, take, drop, length-take, length-drop}
 use Rattle.model.specs.Key.{bucket_index}
 use Rattle.model.specs.Bytes.{Bytes, number, splice}
@@ -94,14 +95,17 @@ none_recorded (KeyCall.present_update st dr) key t i b e = status_ends_none b e 
 none_recorded (KeyCall.pending_update st dr) key t i b e = refl
 none_recorded (KeyCall.absent_insert v st dr now hs) key t i b e = insert_ends_none b e (node_of key v st dr) (insert t.settings.bucket now (node_of key v st dr) b).0
 
--- the bytes of bucket i, as a range of the storage's bytes has them
-abbrev pub ranged : List ℕ → ℕ → List ℕ
-ranged s i = take (bucket_at i + bucket_size - bucket_at i) (drop (bucket_at i) s)
+-- where the bytes of bucket i stand, and the bytes of a range
+abbrev pub range_of : ℕ → Range ℕ
+range_of i = record { start = bucket_at i; end = bucket_at i + bucket_size }
+
+abbrev pub ranged : List ℕ → Range ℕ → List ℕ
+ranged s r = take (r.end - r.start) (drop r.start s)
 
 -- the bytes of bucket i as they are lent
 module _ (s : List ℕ) (i : ℕ) {bs : List ℕ} (e : bs ≡ bucket_part s i) where
-  pub ranged_is : bs ≡ ranged s i
-  ranged_is = e ∙ sym (sliced s (bucket_at i) bucket_size)
+  pub ranged_is : {r : Range ℕ} → r ≡ range_of i → bs ≡ ranged s r
+  ranged_is x = e ∙ sym (sliced s (bucket_at i) bucket_size) ∙ ap (ranged s) (sym x)
 
   -- they pass question 2, and say whether the bucket has a pending
   pub formed_in : Ready s i → bucket_formed (λ k. is_at (bucket_index (key_in s) k) i) (get_or s max_incoming_at 0) bs ≡ true
@@ -111,7 +115,7 @@ module _ (s : List ℕ) (i : ℕ) {bs : List ℕ} (e : bs ≡ bucket_part s i) w
   unfolding table_of
   none_here p = rw e at p
 
-length_ranged : {s : List ℕ} {i : ℕ} → Ready s i → length (ranged s i) ≡ bucket_size
+length_ranged : {s : List ℕ} {i : ℕ} → Ready s i → length (ranged s (range_of i)) ≡ bucket_size
 length_ranged y = simp (length-take, length-drop) (omega (arith, y.size, y.below))
 
 -- the storage with another bucket i and no further record
@@ -128,16 +132,18 @@ pub record Did {A : Type 0} (x : A × Bucket) (i : ℕ) (s : List ℕ) (answer :
 
 -- what the step F answered and left of bucket i's bytes, with the settings read from the storage and the key as the bytes that were given
 pub did : {A : Type 0} {s key : List ℕ} {codes : Bool} {now : Option ℕ} {k : Key} {i : ℕ} → AtBucket s key codes now k i → (F : BucketSettings → ℕ → Bucket → A × Bucket)
-    → {v : BucketSettings} → v ≡ (table_of s).settings.bucket → {a : A} → a ≡ (F v (num k) (bucket_in (ranged s i))).0
-    → {left : List ℕ} → left ≡ bucket_bytes (F v (num k) (bucket_in (ranged s i))).1 → length left ≡ length (ranged s i)
-    → Did (F (table_of s).settings.bucket (number key) ((table_of s).buckets i)) i s a (put_mid (bucket_at i) (bucket_at i + bucket_size - bucket_at i) s left)
+    → {v : BucketSettings} → v ≡ (table_of s).settings.bucket → {r : Range ℕ} → r ≡ range_of i → {a : A} → a ≡ (F v (num k) (bucket_in (ranged s r))).0
+    → {left : List ℕ} → left ≡ bucket_bytes (F v (num k) (bucket_in (ranged s r))).1 → length left ≡ length (ranged s r)
+    → Did (F (table_of s).settings.bucket (number key) ((table_of s).buckets i)) i s a (put_mid r.start (r.end - r.start) s left)
 unfolding table_of
-did {A} {s} {key} {k = k} {i = i} y F {v} x {a} p {left} q l =
-    let e : F v (num k) (bucket_in (ranged s i)) ≡ F (table_of s).settings.bucket (number key) ((table_of s).buckets i) = rw (x, y.key_is, sliced s (bucket_at i) bucket_size) in
+did {A} {s} {key} {k = k} {i = i} y F {v} x {r} z {a} p {left} q l =
+    let e : F v (num k) (bucket_in (ranged s r)) ≡ F (table_of s).settings.bucket (number key) ((table_of s).buckets i) = rw (z, x, y.key_is, sliced s (bucket_at i) bucket_size) in
     let w : left ≡ bucket_bytes (F (table_of s).settings.bucket (number key) ((table_of s).buckets i)).1 = q ∙ ap (λ (r : A × Bucket). bucket_bytes r.1) e in
     record {
       answers = p ∙ ap (λ (r : A × Bucket). r.0) e;
-      leaves = put_mid_splice s (bucket_at i) (bucket_at i + bucket_size - bucket_at i) w (ap length (sym w) ∙ l ∙ length_ranged y.ready ∙ omega arith);
+      leaves =
+          ap (λ (r : Range ℕ). put_mid r.start (r.end - r.start) s left) z
+          ∙ put_mid_splice s (bucket_at i) (bucket_at i + bucket_size - bucket_at i) w (ap length (sym w) ∙ l ∙ ap (λ (r : Range ℕ). length (ranged s r)) z ∙ length_ranged y.ready ∙ omega arith);
     }
 
 -- what a call did in place is what it does: F is its own step, f its answer

@@ -1,22 +1,22 @@
 -- The steps that the calls on one key share.
 use Rattle.std.specs.Prelude as code
-use Rattle.std.specs.Prelude.{Result, Ok, Err, Some, None}
-use Prim.Native.Nat.{ℕ, ◌+◌, ◌^◌, ◌≤◌, ◌<◌}
+use Rattle.std.specs.Prelude.{Result, Ok, Err, Some, IfSome}
+use Rattle.std.specs.Option.{is_some}
+use Prim.Native.Nat.{ℕ, ◌+◌, ◌^◌, ◌<◌}
 use native.Mathlib.Omega.{arith}
 use mathlib.Core.Path.{◌≡◌, sym, ap, ◌∙◌}
-use mathlib.Core.Bool.{Bool, true, cond, ◌&&◌}
+use mathlib.Core.Bool.{Bool, true, cond}
 use mathlib.Core.List.{List, [], ◌∷◌}
 use mathlib.Core.Option.{Option, none, some}
-use borrow.Author.Tests.{leb-true, eqb-true}
-use lib.Dec.{leb}
+use borrow.Author.Tests.{leb-true}
 use lib.ListN.{length}
+use Rattle.model.specs.Bytes.{number}
 use Rattle.model.specs.Bucket.{Bucket, BucketSettings}
 use Rattle.model.specs.Table.{num_buckets}
-use Rattle.model.specs.Sizes.{key_size, storage_size}
+use Rattle.model.specs.Sizes.{storage_size}
 use Rattle.model.specs.Layout.{table_of}
 use Rattle.model.specs.Formed.{formed}
 use Rattle.laws.proofs.TableBytes.{header_passes, bucket_passes}
-use Rattle.laws.proofs.Tests.{and_left, and_right}
 use Rattle.laws.proofs.Questions.{front_fails, front_passes}
 use Rattle.key.specs.declared.Key.{Key}
 use Rattle.node.specs.declared.Refusal.{Refusal}
@@ -25,34 +25,30 @@ use Rattle.bucket.specs.declared.KBucket.{KBucket}
 use Rattle.bucket.specs.Bucket.{bucket_of, settings_of, Becomes, Sound}
 use Rattle.bucket.proofs.Steps.{told, then_becomes}
 use Rattle.on_key.specs.Answers.{first_five, failed_of_five, Ready}
-use Rattle.on_key.specs.Start.{key_formed, failed_at_start, Located, Begun}
+use Rattle.on_key.specs.Start.{key_formed, failed_at_start, Located, AtBucket, Begun}
 use Rattle.on_key.proofs.Questions.{passed_five}
 
 -- every bucket of formed storage is ready
 pub ready_at : (s : List ℕ) (i : ℕ) → length s ≡ storage_size → formed s ≡ true → i < num_buckets → Ready s i
 ready_at s i l f m = record { size = l; header = header_passes s f; below = m; bucket = bucket_passes s f i m }
 
-module _ (s : List ℕ) (key : List ℕ) (codes : Bool) (now : Option ℕ) (e : failed_of_five key codes now s ≡ none) where
-  pub key_length : length key ≡ key_size
-  key_length = eqb-true _ _ (passed_five s key codes now e).key_size_lem
-
-  -- how a call starts, where questions 1 to 5 have passed
-  pub begun_at : (r : Result (code.Option (Key × ℕ)) Refusal) → Located s key r → Begun s key codes now r
-  unfolding failed_of_five failed_at_start
-  begun_at (Err r) l =
-      front_passes (first_five key codes now s) ((2, key_formed s key) ∷ []) e ∙ ap (λ (b : Bool). cond b none (some 2)) l.1
-      ∙ ap (λ (q : Refusal). some (number_of q)) (sym l.0)
-  begun_at (Ok None) l = (e, l)
-  begun_at (Ok (Some x)) l = record { passed = e; key_is = l.key_is; index = l.index; ready = l.ready }
-
 -- a question of 1 to 5 that failed
 pub begun_refused : (s key : List ℕ) (codes : Bool) (now : Option ℕ) (n : ℕ) → failed_of_five key codes now s ≡ some n → failed_at_start key codes now s ≡ some n
 unfolding failed_of_five failed_at_start
 begun_refused s key codes now n e = front_fails (first_five key codes now s) ((2, key_formed s key) ∷ []) n e
 
--- question 4 of a state and a direction that may be none
-pub status_in_range : (st dr : ℕ) → (leb st 1 && leb dr 2) ≡ true → (st ≤ 1) × (dr ≤ 2)
-status_in_range st dr p = (leb-true st 1 (and_left (leb st 1) (leb dr 2) p), leb-true dr 2 (and_right (leb st 1) (leb dr 2) p))
+-- question 2 of the key's bucket, where they passed
+pub begun_malformed : {T : Type 0} (s key : List ℕ) (arguments : code.Option T) (now : Option ℕ) → failed_of_five key (is_some arguments) now s ≡ none
+    → {r : Refusal} → Located s (number key) (Err r) → Begun s key arguments now (Err r)
+unfolding failed_of_five failed_at_start
+begun_malformed s key arguments now e l =
+    front_passes (first_five key (is_some arguments) now s) ((2, key_formed s key) ∷ []) e ∙ ap (λ (b : Bool). cond b none (some 2)) l.1
+    ∙ ap (λ (q : Refusal). some (number_of q)) (sym l.0)
+
+-- what a call on one key has at its start: codes are what question 4 asks of its arguments, P is what is known of them behind it
+pub started : {T : Type 0} (P : T → Type 0) {s key : List ℕ} {arguments : code.Option T} {codes : Bool} {now : Option ℕ} {k : Key} {i : ℕ} {x : T}
+    → is_some arguments ≡ codes → IfSome arguments P → Begun s key arguments now (Ok (Some (k, i, x))) → AtBucket s key codes now k i × P x
+started P p v b = (rw p at b.0, rw b.1 at v)
 
 pub timely : (s key : List ℕ) (codes : Bool) (time : ℕ) → failed_of_five key codes (some time) s ≡ none
     → time + (table_of s).settings.bucket.pending_timeout < 2 ^ 64
@@ -61,7 +57,7 @@ timely s key codes time e =
 
 -- a new pending's deadline fits in a bucket of the storage's settings
 pub timely_there : (s : List ℕ) (time : ℕ) {m : Bucket} {b : KBucket} → Becomes (table_of s).settings.bucket m b → time + (table_of s).settings.bucket.pending_timeout < 2 ^ 64
-    → time + b.pending_timeout < 2 ^ 64
+    → time + b.settings.pending_timeout < 2 ^ 64
 timely_there s time x t = omega (arith, ap (λ (c : BucketSettings). c.pending_timeout) x.settings)
 
 -- a step on a bucket by value, as a step on the model's bucket, with the key as the bytes that were given

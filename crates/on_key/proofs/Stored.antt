@@ -22,7 +22,7 @@ use Rattle.model.specs.Layout.{header_bytes, bucket_bytes, table_of}
 use Rattle.model.specs.StepBytes.{restore}
 use Rattle.laws.proofs.Tests.{clash, same_self}
 use Rattle.laws.proofs.HeaderBack.{queue_fits_lem}
-use Rattle.bucket.specs.declared.EndedPending as declared
+use Rattle.bucket.specs.declared.ending.EndedPending as declared
 use Rattle.bucket.specs.Calls.{records_of}
 use Rattle.on_key.specs.Answers.{Ready, room_for, rewritten}
 

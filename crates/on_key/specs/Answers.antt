@@ -15,7 +15,7 @@ use Rattle.model.specs.StepBytes.{BytesOutcome, Replied, restore}
 use Rattle.node.specs.declared.Refusal.{Refusal}
 use Rattle.node.specs.Refusal.{failed_of, answer_of}
 use Rattle.bucket.specs.declared.KBucket.{KBucket}
-use Rattle.bucket.specs.declared.EndedPending as code
+use Rattle.bucket.specs.declared.ending.EndedPending as code
 use Rattle.bucket.specs.declared.UpdateResult.{UpdateResult}
 use Rattle.bucket.specs.declared.PendingNode as pending
 use Rattle.bucket.specs.Bucket.{pending_of, Becomes}

@@ -1,6 +1,7 @@
 -- How a call on one key starts: the question that fails, the local key, or the key's bucket.
 use Rattle.std.specs.Prelude as code
 use Rattle.std.specs.Prelude.{Result, Ok, Err, Some, None, ℕ, ◌≡◌, Bool, true, false, List, [], ◌∷◌, ◌++◌}
+use Rattle.std.specs.Option.{is_some}
 use Rattle.std.proofs.Math.Option.{Option, none, some}
 use Rattle.model.specs.Bytes.{number}
 use Rattle.model.specs.Table.{index_in}
@@ -25,17 +26,17 @@ key_formed s key = own_formed s (index_in (table_of s) (number key))
 unfoldable pub failed_at_start : List ℕ → Bool → Option ℕ → List ℕ → Option ℕ
 failed_at_start key codes now s = first_failed (first_five key codes now s ++ ((2, key_formed s key) ∷ []))
 
--- the key is of bucket i, which passes question 2
-pub record OfBucket (s key : List ℕ) (k : Key) (i : ℕ) : Type 0 where
-  pub key_is : num k ≡ number key
-  pub index : index_in (table_of s) (number key) ≡ some i
+-- the key of number n is of bucket i, which passes question 2
+pub record OfBucket (s : List ℕ) (n : ℕ) (k : Key) (i : ℕ) : Type 0 where
+  pub key_is : num k ≡ n
+  pub index : index_in (table_of s) n ≡ some i
   pub ready : Ready s i
 
 -- where questions 1 to 5 have passed: question 2 of the key's bucket, the local key, or the bucket
-abbrev pub Located : List ℕ → List ℕ → Result (code.Option (Key × ℕ)) Refusal → Type 0
-Located s key (Err r) = (r ≡ Refusal.Form) × (key_formed s key ≡ false)
-Located s key (Ok None) = index_in (table_of s) (number key) ≡ none
-Located s key (Ok (Some (k, i))) = OfBucket s key k i
+abbrev pub Located : List ℕ → ℕ → Result (code.Option (Key × ℕ)) Refusal → Type 0
+Located s n (Err r) = (r ≡ Refusal.Form) × (own_formed s (index_in (table_of s) n) ≡ false)
+Located s n (Ok None) = index_in (table_of s) n ≡ none
+Located s n (Ok (Some (k, i))) = OfBucket s n k i
 
 -- no question failed, and the key is of bucket i
 pub record AtBucket (s key : List ℕ) (codes : Bool) (now : Option ℕ) (k : Key) (i : ℕ) : Type 0 where
@@ -44,7 +45,8 @@ pub record AtBucket (s key : List ℕ) (codes : Bool) (now : Option ℕ) (k : Ke
   pub index : index_in (table_of s) (number key) ≡ some i
   pub ready : Ready s i
 
-abbrev pub Begun : List ℕ → List ℕ → Bool → Option ℕ → Result (code.Option (Key × ℕ)) Refusal → Type 0
-Begun s key codes now (Err r) = failed_at_start key codes now s ≡ some (number_of r)
-Begun s key codes now (Ok None) = (failed_of_five key codes now s ≡ none) × (index_in (table_of s) (number key) ≡ none)
-Begun s key codes now (Ok (Some (k, i))) = AtBucket s key codes now k i
+-- how a call starts: the question that fails, the local key, or the key's bucket with the arguments of the call
+abbrev pub Begun : {T : Type 0} → List ℕ → List ℕ → code.Option T → Option ℕ → Result (code.Option (Key × ℕ × T)) Refusal → Type 0
+Begun s key arguments now (Err r) = failed_at_start key (is_some arguments) now s ≡ some (number_of r)
+Begun s key arguments now (Ok None) = (failed_of_five key (is_some arguments) now s ≡ none) × (index_in (table_of s) (number key) ≡ none)
+Begun s key arguments now (Ok (Some (k, i, x))) = AtBucket s key (is_some arguments) now k i × (arguments ≡ Some x)

@@ -1,5 +1,5 @@
 -- What a chain over a list answers, and one step of a loop over a list l at index i, where what is left to look at is `drop i l`.
-use mathlib.Core.Path.{◌≡◌, refl, sym, ap, ◌∙◌}
+use mathlib.Core.Path.{◌≡◌, refl, sym, ap, ◌∙◌, subst}
 use mathlib.Core.Bool.{Bool, true, false, cond, not, ◌&&◌}
 use mathlib.Core.List.{List, [], ◌∷◌, map}
 use Prim.Native.Nat.{ℕ, suc, ◌+◌, ◌-◌, ◌≤◌, ◌<◌, zero-le, suc-le-suc}
@@ -7,12 +7,12 @@ use native.Mathlib.Omega.{arith}
 use native.Mathlib.Numerals.{add-one}
 use lib.ListN.{length, get_or, take, drop, length-drop}
 use lib.Dec.{eqb, leb, ltb, leb-suc-suc}
-use borrow.Author.Tests.{le-ltb, lt-ltb, leb-true, leb-false, ltb-false}
+use borrow.Author.Tests.{le-ltb, lt-ltb, leb-true, leb-false, ltb-true, ltb-false}
 use mir.Val.{bool_byte}
 use lib.Seq.{drop-cons, take_all}
-use Rattle.std.specs.Prelude.{Option, Some, None}
-use Rattle.std.specs.Option.{unwrap_or}
+use Rattle.std.specs.Prelude.{Option, Some, None, MatchOption}
 use Rattle.std.specs.List.{filter, list_all, AllWithin, position_or_len}
+use Rattle.std.specs.Option.{is_some}
 use Rattle.std.specs.Bool.{MatchBool}
 use Rattle.std.proofs.lemmas.List.Recursion.{is_position_or_len}
 use Rattle.model.specs.Base.{every, select}
@@ -65,15 +65,22 @@ before_le p (x ∷ xs) = le_step (p x) (before p xs) (length xs) (before_le p xs
 
 -- what the code's search for a place answers
 pub place_found : {A : Type 0} (p : A → Bool) (xs : List A) (r : Option ℕ)
-    → r ≡ cond (ltb (position_or_len p xs) (length xs)) (Some (position_or_len p xs)) None → unwrap_or r (length xs) ≡ before p xs
+    → r ≡ cond (ltb (position_or_len p xs) (length xs)) (Some (position_or_len p xs)) None
+    → MatchOption r (before p xs ≡ length xs) (λ i. (i ≡ before p xs) × (i < length xs))
 place_found {A} p xs r e =
     let same : before p xs ≡ position_or_len p xs = is_position_or_len (before p) p refl (λ x ys. let e : suc (before p ys) ≡ 1 + before p ys = omega arith in ap (λ (n : ℕ). cond (p x) 0 n) e) xs in
     let most : before p xs ≤ length xs = before_le p xs in
+    let found : Option ℕ → Type 0 = λ (o : Option ℕ). MatchOption o (before p xs ≡ length xs) (λ i. (i ≡ before p xs) × (i < length xs)) in
     split (ltb (position_or_len p xs) (length xs))
-    (λ t. ap (λ (o : Option ℕ). unwrap_or o (length xs)) (rw t at e) ∙ sym same)
+    (λ t. subst found (sym (rw t at e)) (sym same, ltb-true _ _ t))
     (λ t.
     let none : length xs ≤ position_or_len p xs = ltb-false _ _ t in
-    ap (λ (o : Option ℕ). unwrap_or o (length xs)) (rw t at e) ∙ omega arith)
+    subst found (sym (rw t at e)) (omega arith))
+
+-- whether a place was found
+pub found_is : (a n : ℕ) (r : Option ℕ) → MatchOption r (a ≡ n) (λ i. (i ≡ a) × (i < n)) → is_some r ≡ ltb a n
+found_is a n (Some i) h = sym (lt-ltb a n (omega (arith, h.0, h.1)))
+found_is a n None h = sym (le-ltb a n (omega (arith, h)))
 
 -- does an element pass the test?
 none_passes : {A : Type 0} (p : A → Bool) (xs : List A) → every (λ (x : A). not (p x)) xs ≡ not (ltb (before p xs) (length xs))
@@ -108,11 +115,12 @@ module _ (l : List Node) (i : ℕ) (d : Node) (h : i < length l) where
         none_passes (λ (m : Node). same (node_of m).key key) (drop (suc i) l),
       )
 
-  pub different_miss : position (node_of (get_or l i d)).key (behind l i) < length (behind l i) → different (map node_of (drop i l)) ≡ false
-  different_miss k = let t = lt-ltb _ _ k in different_step ∙ rw t
+  pub different_miss : ltb (position (node_of (get_or l i d)).key (behind l i)) (length (behind l i)) ≡ true → different (map node_of (drop i l)) ≡ false
+  different_miss t = different_step ∙ rw t
 
-  pub different_hit : length (behind l i) ≤ position (node_of (get_or l i d)).key (behind l i) → different (map node_of (drop i l)) ≡ different (map node_of (drop (i + 1) l))
-  different_hit k = let t = le-ltb _ _ k in different_step ∙ rw t (ap (λ (ns : List Node). different (map node_of ns)) (behind_all ∙ rw add-one))
+  pub different_hit : ltb (position (node_of (get_or l i d)).key (behind l i)) (length (behind l i)) ≡ false
+      → different (map node_of (drop i l)) ≡ different (map node_of (drop (i + 1) l))
+  different_hit t = different_step ∙ rw t (ap (λ (ns : List Node). different (map node_of ns)) (behind_all ∙ rw add-one))
 
 -- The IP filter.
 

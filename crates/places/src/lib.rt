@@ -1,8 +1,8 @@
-// The nodes of a bucket, in their places (the Rust's ArrayVec): looked at as a slice; put in and taken out by value, as an array of
-// sixteen.
+// The nodes of a bucket, in their places (the Rust's ArrayVec): looked at as a slice; put in and taken out by value, as an array of all
+// places.
 #![tactic(auto)]
 
-ghost use Rattle.std.specs.Prelude.{◌≡◌, ◌<◌, true, not, ◌&&◌, ◌++◌, ◌∷◌, [], map, take, length};
+ghost use Rattle.std.specs.Prelude.{◌≡◌, ◌<◌, true, not, ◌&&◌, ◌++◌, ◌∷◌, [], map, take, length, MatchOption};
 ghost use Rattle.model.specs.Base.{every};
 ghost use Rattle.model.specs.Filter.{ip_filter_fails};
 ghost use Rattle.model.specs.Bucket.{max_nodes_per_bucket, incoming_nodes};
@@ -13,16 +13,14 @@ ghost use Rattle.node.specs.Node.{value_of, node_of, zero_node, is_zero};
 ghost use Rattle.places.specs.Places.{position, insert_at, remove_at, in_state, different};
 
 use key::Key;
+use model::MAX_NODES_PER_BUCKET;
 use node::{Code, Node, Value};
 
-// Internal: the place of the node with this key, or how many nodes there are.
-pub fn position(nodes: &[Node], key: Key) -> usize
-    ensures { result ≡ position (num key) nodes.now }
+// Internal: the place of the node with this key.
+pub fn position(nodes: &[Node], key: Key) -> Option<usize>
+    ensures { MatchOption result (position (num key) nodes.now ≡ length nodes.now) (λ p. (p ≡ position (num key) nodes.now) × (p < length nodes.now)) }
 {
-    nodes
-        .iter()
-        .position(|node| node.key.eq(key))
-        .unwrap_or(nodes.len())
+    nodes.iter().position(|node| node.key.eq(key))
 }
 
 // Internal: how many of the nodes are connected and incoming.
@@ -51,8 +49,13 @@ pub fn ip_filter(nodes: &[Node], value: Value, limit: usize) -> bool
 }
 
 // Internal: the node goes to place pos. Those from there on move up by one, and the last drops out. By value, as the buckets are: a step
-// leaves a new bucket, and its caller may still need the old one.
-pub fn insert_at(nodes: [Node; 16], pos: usize, node: Node) -> [Node; 16]
+// leaves a new bucket, and its caller may still need the old one. That the place is below 16 stays a clause, here and in `remove_at`: of
+// a place and an array nothing else is known.
+pub fn insert_at(
+    nodes: [Node; MAX_NODES_PER_BUCKET],
+    pos: usize,
+    node: Node,
+) -> [Node; MAX_NODES_PER_BUCKET]
     requires { pos < max_nodes_per_bucket }
     ensures { result ≡ take max_nodes_per_bucket (insert_at pos node nodes) }
 {
@@ -63,13 +66,13 @@ pub fn insert_at(nodes: [Node; 16], pos: usize, node: Node) -> [Node; 16]
 }
 
 // Internal: the node at place pos goes. Those after it move down by one, and the last place is zero.
-pub fn remove_at(nodes: [Node; 16], pos: usize) -> [Node; 16]
+pub fn remove_at(nodes: [Node; MAX_NODES_PER_BUCKET], pos: usize) -> [Node; MAX_NODES_PER_BUCKET]
     requires { pos < max_nodes_per_bucket }
     ensures { result ≡ remove_at pos nodes ++ (zero_node ∷ []) }
 {
     let mut out = nodes;
     out[pos..].rotate_left(1);
-    out[15] = Node::zero();
+    out[MAX_NODES_PER_BUCKET - 1] = Node::zero();
     out
 }
 
@@ -84,6 +87,7 @@ pub fn in_places(disconnected: &[Node], connected: &[Node], free: &[Node]) -> bo
         && free.iter().all(|node| node.is_zero())
 }
 
+// Question 4 and the state, with what Rattle knows of the key's words.
 fn has_state(node: Node, state: Code) -> bool
     ensures value { result ≡ in_state state node }
     ensures words { Words node.key }
@@ -98,7 +102,7 @@ pub fn all_different(nodes: &[Node]) -> bool
 {
     for (i, node) in nodes.iter().enumerate() {
         let rest = &nodes[i + 1..];
-        if position(rest, node.key) < rest.len() {
+        if position(rest, node.key).is_some() {
             return false;
         }
     }

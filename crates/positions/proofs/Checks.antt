@@ -3,14 +3,13 @@ use Rattle.std.proofs.Common.{◌≡◌, ℕ, Bool, false, true≢false, nat_eq,
 use Rattle.std.specs.Option.{option_eq}
 use Rattle.model.specs.Base.{same}
 use Rattle.key.specs.declared.Key.{Key}
-use Rattle.key.specs.Key.{num}
+use Rattle.key.specs.Key.{num, key_from}
 use Rattle.key.specs.Answers.{option_of}
 use Rattle.model.specs.Result.{BucketInsertResult, Reply}
 use Rattle.node.specs.declared.Refusal.{Refusal}
 use Rattle.node.specs.Refusal.{reply_of}
 use Rattle.bucket.specs.declared.InsertResult.{InsertResult}
 use Rattle.bucket.specs.Calls.{insert_result_of}
-use Rattle.positions.specs.Positions.{key_from}
 
 pub same_index : (r s : Option ℕ) → option_of r ≡ option_of s → r ≡ s
 same_index None None e = refl

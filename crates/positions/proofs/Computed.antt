@@ -12,13 +12,13 @@ use Rattle.model.specs.Filter.{counts, ip_filter_fails}
 use Rattle.model.specs.Value.{same_net, same_value}
 use Rattle.model.specs.Bucket.{first_connected_pos, is_full, fails_bucket_filter, is_max_incoming, insert, apply_due, apply_pending, reinsert, update_status, remove}
 use Rattle.model.specs.Result.{BucketInsertResult, UpdateResult, Reply}
-use Rattle.key.specs.Key.{num, key_of}
+use Rattle.key.specs.Key.{num, key_of, key_from}
 use Rattle.model.specs.Node.{Ending}
 use Rattle.node.specs.Node.{node_of}
 use Rattle.bucket.specs.declared.KBucket.{KBucket}
 use Rattle.bucket.specs.Bucket.{bucket_of, key_at, sound}
 use Rattle.bucket.specs.Calls.{insert_call, new_call, update_status_call, apply_pending_call, remove_call}
-use Rattle.positions.specs.Positions.{key_from, index_of, plain, addressed, node_from, emptied, filled}
+use Rattle.positions.specs.Positions.{index_of, plain, addressed, node_from, emptied, filled}
 
 -- rows 1 and 2
 

@@ -5,16 +5,11 @@ use Rattle.model.specs.Base.{same}
 use Rattle.model.specs.Key.{bucket_index}
 use Rattle.model.specs.Node.{EndedPending}
 use Rattle.model.specs.Result.{BucketInsertResult, Reply}
-use Rattle.key.specs.declared.Key.{Key}
-use Rattle.key.specs.Key.{num}
+use Rattle.key.specs.Key.{num, key_from}
 use Rattle.node.specs.declared.Value.{Value}
 use Rattle.node.specs.declared.Node.{Node}
 use Rattle.bucket.specs.declared.KBucket.{KBucket}
 use Rattle.bucket.specs.Calls.{insert_call, new_call}
-
--- the key of a number below 2 ^ 64
-abbrev pub key_from : ℕ → Key
-key_from k = record { w0 = 0; w1 = 0; w2 = 0; w3 = k }
 
 -- the index of the key whose highest word is w0 and whose lowest is w3, where the local key is zero
 abbrev pub index_of : ℕ → ℕ → Option ℕ

@@ -64,12 +64,7 @@ impl fmt::Display for Shown<Option<EndedPending>> {
         match ending {
             Ending::Placed(None) => write!(f, "{} inserted", Shown(key)),
             Ending::Placed(Some(evicted)) => {
-                write!(
-                    f,
-                    "{} inserted, {} evicted",
-                    Shown(key),
-                    Shown(evicted.node.key)
-                )
+                write!(f, "{} inserted, {} evicted", Shown(key), Shown(evicted.key))
             }
             _ => write!(f, "{} dropped", Shown(key)),
         }

@@ -6,6 +6,7 @@ ghost use Rattle.std.specs.Prelude.{◌≡◌};
 
 use answers::Shown;
 use bucket::{InsertResult, UpdateResult};
+use key::Key;
 use rows::Inserts;
 use std::io;
 
@@ -54,7 +55,7 @@ fn row5(rt: &impl Print) -> io::Result<()> {
 fn row6(rt: &impl Print) -> io::Result<()> {
     let (early, due) = rows::row6();
     prove!(matches!(&early, Ok(None)));
-    prove!(answers::applied_key(due, rows::key_from(48)));
+    prove!(answers::applied_key(due, Key::from(48)));
     println!(rt;
         "6: 48 pending at 100, timeout 60000; applied at 60099; at 60100: {}; {}",
         Shown(early),
@@ -90,7 +91,7 @@ fn row_of_tests(
 
 fn row9(rt: &impl Print) -> io::Result<()> {
     let (first, second) = rows::row9();
-    prove!(answers::names(first, rows::key_from(32)));
+    prove!(answers::names(first, Key::from(32)));
     prove!(matches!(&second, Ok(InsertResult::Full)));
     println!(rt;
         "9: 32 disconnected, 15 connected; two new connected outgoing: {}; {}",
@@ -103,8 +104,8 @@ fn row10(rt: &impl Print) -> io::Result<()> {
     let step = rows::row10();
     let first = step.bucket.nodes[0].key;
     let second = step.bucket.nodes[1].key;
-    prove!(first.eq(rows::key_from(33)));
-    prove!(second.eq(rows::key_from(32)));
+    prove!(first.eq(Key::from(33)));
+    prove!(second.eq(Key::from(32)));
     prove!(matches!(&step.result, Ok(UpdateResult::NotModified)));
     println!(rt;
         "10: connected 32, 33; 32 set connected: {}, {}; {}",

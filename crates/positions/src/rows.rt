@@ -10,7 +10,7 @@ ghost use Rattle.node.specs.Node.{node_of};
 ghost use Rattle.node.specs.Refusal.{reply_of};
 ghost use Rattle.bucket.specs.Bucket.{bucket_of, key_at};
 ghost use Rattle.bucket.specs.Calls.{insert_result_of, update_result_of, records_of};
-ghost use Rattle.positions.specs.Positions.{key_from, plain, addressed, node_from, emptied, filled, index_of};
+ghost use Rattle.positions.specs.Positions.{plain, addressed, node_from, emptied, filled, index_of};
 
 use bucket::{EndedPending, InsertResult, KBucket, Step, UpdateResult};
 use key::{ClosestBucketsIter, Key};
@@ -19,22 +19,12 @@ use node::{Code, Node, NodeStatus, Refusal, Value};
 // What two inserts answered.
 pub(crate) type Inserts = (Result<InsertResult, Refusal>, Result<InsertResult, Refusal>);
 
-// The key of a number. lent_run has the same: what the two programs share would be a crate of one function.
-pub(crate) fn key_from(k: u64) -> Key
-    ensures { result ≡ key_from k }
-{
-    Key {
-        w3: k,
-        ..Key::default()
-    }
-}
-
-// A node with no address.
+// A node with no address. This and `empty` stand in lent_run too (lends).
 fn node_from(k: u64, state: Code, direction: Code) -> Node
     ensures { result ≡ node_from k plain state direction }
 {
     Node {
-        key: key_from(k),
+        key: Key::from(k),
         value: Value::default(),
         status: NodeStatus { state, direction },
     }
@@ -113,7 +103,7 @@ pub(crate) fn row7() -> KBucket
     ensures first_connected_pos_value { result.first_connected_pos ≡ 2 }
 {
     let two = fill(empty(16, 0), 32, 2, 0);
-    fill(two, 34, 1, 1).remove(key_from(34), 0).bucket
+    fill(two, 34, 1, 1).remove(Key::from(34), 0).bucket
 }
 
 // 8: max_incoming 0; connected incoming; disconnected incoming.
@@ -145,7 +135,7 @@ pub(crate) fn row10() -> Step<KBucket, Result<UpdateResult, Refusal>>
     ensures bucket_value_2 { key_at result.bucket 1 ≡ 32 }
     ensures answer_value { reply_of update_result_of result.result ≡ Reply.Answered results.UpdateResult.NotModified }
 {
-    fill(empty(16, 0), 32, 2, 1).update_status(key_from(32), 1, 2)
+    fill(empty(16, 0), 32, 2, 1).update_status(Key::from(32), 1, 2)
 }
 
 // 12: bucket filter on, 10.0.0.1 and 10.0.0.2 held once each; a new disconnected key with 10.0.0.3; with 10.0.0.2.

@@ -3,10 +3,11 @@
 #![tactic(auto)]
 
 ghost use Rattle.std.specs.Prelude.{◌≡◌, ◌<◌};
-ghost use Rattle.model.specs.Call.{is_one, optional};
+ghost use Rattle.model.specs.Call.{is_one};
 ghost use Rattle.model.specs.Explain.{full_reason, insert_reason, reinsert_reason, if_pending_reason, status_reason, value_reason, update_node_reason, insert_or_update_reason, remove_reason};
 ghost use Rattle.key.specs.Key.{num};
 ghost use Rattle.node.specs.Node.{value_of, node_of};
+ghost use Rattle.node.specs.Status.{optional_of};
 ghost use Rattle.bucket.specs.Bucket.{key_at, bucket_of, settings_of};
 ghost use Rattle.explanation.specs.Explanation.{reason_of};
 
@@ -63,7 +64,7 @@ fn pending_reason(b: &SoundBucket, key: Key) -> Option<Reason<'static>>
 // The status step on the node at place pos. The filter looks at the node's old value.
 fn status_reason_at(b: &SoundBucket, pos: usize, status: StatusUpdate) -> Option<Reason<'static>>
     requires { pos < b.now.bucket.count }
-    ensures { reason_of result ≡ status_reason (settings_of b.now.bucket) (key_at b.now.bucket pos) (is_one status.state) (optional status.direction) (bucket_of b.now.bucket) }
+    ensures { reason_of result ≡ status_reason (settings_of b.now.bucket) (key_at b.now.bucket pos) (is_one status.state) (optional_of status.direction) (bucket_of b.now.bucket) }
 {
     let node = b.node_at(pos).with_status(status).node;
     let rest = b.rest_at(pos, node.is_connected());
@@ -72,13 +73,12 @@ fn status_reason_at(b: &SoundBucket, pos: usize, status: StatusUpdate) -> Option
 
 // Internal: update_status.
 pub fn status_reason(b: &SoundBucket, key: Key, status: StatusUpdate) -> Option<Reason<'static>>
-    ensures { reason_of result ≡ status_reason (settings_of b.now.bucket) (num key) (is_one status.state) (optional status.direction) (bucket_of b.now.bucket) }
+    ensures { reason_of result ≡ status_reason (settings_of b.now.bucket) (num key) (is_one status.state) (optional_of status.direction) (bucket_of b.now.bucket) }
 {
-    let pos = places::position(&b.bucket.nodes[..b.bucket.count], key);
-    if pos < b.bucket.count {
-        return status_reason_at(b, pos, status);
+    match b.position(key) {
+        Some(pos) => status_reason_at(b, pos, status),
+        None => pending_reason(b, key),
     }
-    pending_reason(b, key)
 }
 
 // The value step on the node at place pos. The filter does not see the node itself.
@@ -96,28 +96,21 @@ fn value_reason_at(b: &SoundBucket, pos: usize, value: Value) -> Option<Reason<'
 pub fn value_reason(b: &SoundBucket, key: Key, value: Value) -> Option<Reason<'static>>
     ensures { reason_of result ≡ value_reason (settings_of b.now.bucket) (num key) (value_of value) (bucket_of b.now.bucket) }
 {
-    let pos = places::position(&b.bucket.nodes[..b.bucket.count], key);
-    if pos < b.bucket.count {
-        return value_reason_at(b, pos, value);
+    match b.position(key) {
+        Some(pos) => value_reason_at(b, pos, value),
+        None => pending_reason(b, key),
     }
-    pending_reason(b, key)
 }
 
 // Internal: update_node behind the table filter.
 pub fn update_node_reason(b: &SoundBucket, key: Key, update: NodeUpdate) -> Option<Reason<'static>>
-    ensures { reason_of result ≡ update_node_reason (settings_of b.now.bucket) (num key) (value_of update.value.value) (optional update.state) (bucket_of b.now.bucket) }
+    ensures { reason_of result ≡ update_node_reason (settings_of b.now.bucket) (num key) (value_of update.value.value) (optional_of update.state) (bucket_of b.now.bucket) }
 {
     let valued = b.update_value(key, update.value);
-    match valued.result {
-        UpdateResult::Failed(_) => value_reason(b, key, update.value.value),
-        _ if update.state == 2 => None,
-        _ => {
-            let status = StatusUpdate {
-                state: update.state,
-                direction: 2,
-            };
-            status_reason(&valued.bucket, key, status)
-        }
+    match (valued.result, update.status()) {
+        (UpdateResult::Failed(_), _) => value_reason(b, key, update.value.value),
+        (_, Some(status)) => status_reason(&valued.bucket, key, status),
+        (_, None) => None,
     }
 }
 

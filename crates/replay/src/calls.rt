@@ -11,16 +11,14 @@ impl Record {
         if Layout::STORAGE < at {
             return None;
         }
-        for (i, x) in bytes.iter().enumerate() {
-            if let Some(place) = s.get_mut(at + i) {
-                *place = *x;
-            }
+        for (place, x) in s.iter_mut().skip(at).zip(bytes) {
+            *place = *x;
         }
         Some(0)
     }
 
-    // The calls on the table but the two inserts. A call is matched by its number in the record where it is made: an enum of the calls would
-    // need a match of the same numbers that makes it.
+    // The calls on the table but the two inserts. A call is matched by its number in the record where it is made: an enum of the calls
+    // would need a match of the same numbers that makes it.
     fn on_table(&self, s: &mut [u8], key: &[u8], out: &mut [u8]) -> Option<u32> {
         let Arguments {
             state,

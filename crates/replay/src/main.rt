@@ -24,26 +24,6 @@ const OUTPUT: usize = (4096 + 5) * Layout::NODE;
 // What the output or the answer holds before a call.
 const FILL: u8 = 165;
 
-// Storage for a table.
-fn storage() -> [u8; Layout::STORAGE] {
-    [0; Layout::STORAGE]
-}
-
-// A bucket by itself.
-fn alone() -> [u8; KBucket::BYTES] {
-    [0; KBucket::BYTES]
-}
-
-// An output for 4096 nodes and five more.
-fn output() -> [u8; OUTPUT] {
-    [0; OUTPUT]
-}
-
-// How many calls agree, by call.
-fn no_counts() -> [u64; CALLS] {
-    [0; CALLS]
-}
-
 // The code that a call returns, a number as C sees it, or none where the record cannot be read; and the checksum of what the call may
 // write.
 #[derive(Clone, Copy, PartialEq, Eq)]
@@ -164,9 +144,11 @@ fn replay(
 }
 
 fn main(rt: HostRuntime) -> io::Result<()> {
-    let mut table = storage();
-    let mut bucket = alone();
-    let mut out = output();
-    let mut counts = no_counts();
+    let mut table = [0; Layout::STORAGE];
+    let mut bucket = [0; KBucket::BYTES];
+    // For 4096 nodes and five more.
+    let mut out = [0; OUTPUT];
+    // How many calls agree, by call.
+    let mut counts = [0; CALLS];
     replay(&rt, &mut table, &mut bucket, &mut out, &mut counts)
 }

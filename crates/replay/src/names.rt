@@ -1,4 +1,5 @@
-// The names of the calls, by their numbers in a record. A write of bytes that no call leaves has a number too.
+// The names of the calls, by their numbers in a record. A write of bytes that no call leaves has a number too. A table, as calls.rt matches
+// by the numbers: an enum would be made from them.
 
 // How many calls there are.
 pub(crate) const CALLS: usize = 24;

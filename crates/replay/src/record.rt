@@ -16,7 +16,7 @@
 //   78   the checksum of what the call may write, after the call, 8 bytes
 //   86   five distances of 8 bytes each; the bytes of a write. Of an insert: how many numbers of windows, how many of closed dates,
 //        1 byte each; then 13 numbers of windows and 7 of closed dates, 2 bytes each
-ghost use Rattle.std.specs.Prelude.{◌≡◌, ◌*◌, length};
+ghost use Rattle.std.specs.Prelude.{◌≡◌, length};
 
 use node::{Code, Slot, Value};
 
@@ -77,7 +77,7 @@ pub struct Arguments {
     pub minute: u16,
 }
 
-// The number of four bytes.
+// The number of four bytes. Each by its index, as in `words::get_u64`.
 fn number_of_four(s: &[u8]) -> u32
     requires { length s.now ≡ 4 }
 {
@@ -85,12 +85,10 @@ fn number_of_four(s: &[u8]) -> u32
 }
 
 // The numbers of two bytes each.
-fn numbers_of_two<const N: usize>(s: &[u8]) -> [u16; N]
-    requires { length s.now ≡ 2 * N }
-{
+fn numbers_of_two<const N: usize>(s: &[u8]) -> [u16; N] {
     let mut numbers = [0; N];
-    for k in 0..N {
-        numbers[k] = u16::from_be_bytes([s[2 * k], s[2 * k + 1]]);
+    for (number, bytes) in numbers.iter_mut().zip(s.as_chunks::<2>().0) {
+        *number = u16::from_be_bytes(*bytes);
     }
     numbers
 }
@@ -127,6 +125,7 @@ impl Record {
             d: r[41],
             slot: words::get_u64(&r[SLOT_AT..TIME_AT]),
             time: words::get_u64(&r[TIME_AT..SIZE_AT]),
+            // By `as`, here and below: std has no `From` of a u32 or a u64 for a usize.
             n: words::get_u64(&r[COUNT_AT..ROOM_AT]) as usize,
             year: moment[0],
             month: moment[1],
@@ -160,9 +159,9 @@ impl Record {
 
     pub(crate) fn distances(&self) -> [u64; DISTANCES] {
         let mut distances = [0; DISTANCES];
-        for k in 0..DISTANCES {
-            let at = REST_AT + 8 * k;
-            distances[k] = words::get_u64(&self.bytes[at..at + 8]);
+        let bytes = &self.bytes[REST_AT..BYTES];
+        for (distance, bytes) in distances.iter_mut().zip(bytes.as_chunks::<8>().0) {
+            *distance = u64::from_be_bytes(*bytes);
         }
         distances
     }

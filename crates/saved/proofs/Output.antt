@@ -1,15 +1,16 @@
 -- The whole output, by its three parts, and what the writer answers.
-use mathlib.Core.Path.{◌≡◌, sym, ap, ◌∙◌}
+use mathlib.Core.Path.{◌≡◌, sym, ap, ◌∙◌, subst}
 use mathlib.Core.Bool.{Bool, cond}
 use mathlib.Core.List.{List, [], ◌∷◌, ◌++◌, append_assoc}
 use mathlib.Core.Option.{Option, none, some}
-use Prim.Native.Nat.{ℕ, ◌+◌, ◌*◌, ◌≤◌, ◌<◌}
-use native.Mathlib.Nat.{zero-add}
+use Prim.Native.Nat.{ℕ, zero, suc, ◌+◌, ◌*◌, ◌≤◌, ◌<◌}
 use native.Mathlib.Omega.{arith}
 use lib.Seq.{drop-drop}
-use lib.ListN.{length, drop, set}
-use lib.Dec.{leb}
-use borrow.Author.Tests.{le-leb, lt-leb}
+use lib.ListN.{length, get_or, drop}
+use lib.Dec.{eqb, leb}
+use borrow.Author.Tests.{eqb-true, eqb-false, le-leb, lt-leb}
+use denote.Param.Members.{Mut, Called}
+use Rattle.std.specs.Array.{IsFromFnResultFrom, IsFromFnResult}
 use Rattle.model.specs.Base.{tabulate}
 use Rattle.model.specs.Bytes.{splice}
 use Rattle.model.specs.Node.{Node}
@@ -21,20 +22,32 @@ use Rattle.model.specs.Layout.{table_of}
 use Rattle.model.specs.Formed.{formed}
 use Rattle.model.specs.Saved.{all_nodes, saved_entry_size, saved}
 use Rattle.model.specs.StepBytes.{Replied, tell_unless_refused, write_bytes}
-use Rattle.laws.proofs.Lists.{length_tabulate, tabulate_one_more}
+use Rattle.laws.proofs.Tests.{split}
+use Rattle.laws.proofs.Lists.{tabulate_is}
 use Rattle.laws.proofs.Saved.{length_saved}
 use Rattle.laws.proofs.Questions.{front_fails, front_passes}
-use Rattle.words.proofs.Words.{set_more}
 use Rattle.on_key.proofs.Ended.{size_fails}
 use Rattle.on_key.specs.Answers.{Replies, whole_table, failed_of_table}
 use Rattle.saved.specs.declared.Field.{Field}
 use Rattle.saved.specs.Fields.{field_bytes, field_size}
 use Rattle.saved.proofs.Fields.{written}
 
--- one size more is put
-pub size_put : {t : List ℕ} {b : ℕ} (o : List ℕ) (f : ℕ → ℕ) (i : ℕ) → t ≡ splice o 0 (tabulate i f) → i < length o → b ≡ f i → set t i b ≡ splice o 0 (tabulate (i + 1) f)
-size_put {t} {b} o f i e h g =
-    ap (λ (k : ℕ). set t k b) (sym (zero-add i)) ∙ set_more o 0 i (tabulate i f) b e (length_tabulate i f) (omega arith) ∙ rw (tabulate_one_more i f, g)
+-- what calls at each number gave, where a call leaves the callee as it was
+module _ {F : Type 0} (g : Mut F (ℕ × Unit {0}) ℕ) (f : F) (h : ℕ → ℕ) (k : (i y : ℕ) (q : F) → Called g f (i, tt) y q → (q ≡ f) × (y ≡ h i)) (ys : List ℕ) where
+  none_left : {i j : ℕ} → i ≤ j → j < i + 0 → ⊥
+  none_left a b = omega arith
+
+  made_at : (n i : ℕ) → IsFromFnResultFrom g f ys i n → (j : ℕ) → i ≤ j → j < i + n → h j ≡ get_or ys j 0
+  made_at zero i e j a b = absurd (none_left a b)
+  made_at (suc n) i e j a b =
+      let (q, y, at, called, rest) = e in
+      let w = k i y q called in
+      split (eqb j i)
+      (λ t. let s : j ≡ i = eqb-true j i t in ap h s ∙ sym w.1 ∙ sym (at.1 0) ∙ ap (λ (m : ℕ). get_or ys m 0) (sym s))
+      (λ t. let o : (j ≡ i → ⊥) = eqb-false j i t in made_at n (i + 1) (subst (λ (p : F). IsFromFnResultFrom g p ys (i + 1) n) w.0 rest) j (omega arith) (omega arith))
+
+  pub made : (n : ℕ) → IsFromFnResult g f ys n → ys ≡ tabulate n h
+  made n e = sym (tabulate_is ys 0 n h e.long (λ j l. made_at n 0 e.each j (omega arith) (omega arith)))
 
 module _ (t : Table) where
   abbrev pub sizes : List ℕ

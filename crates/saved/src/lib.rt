@@ -1,9 +1,9 @@
 // The writer: a table's held nodes put out to be loaded elsewhere (document 02, slip 6). A query: nothing but the lent output is written.
 #![tactic(auto, unfolding(model::specs::Bytes::part, model::specs::Bytes::splice))]
 
-ghost use Rattle.std.specs.Prelude.{◌≡◌, true, ◌*◌, ◌≤◌, length};
+ghost use Rattle.std.specs.Prelude.{◌≡◌, true, ◌*◌, ◌≤◌, length, sum};
 ghost use Rattle.model.specs.Base.{joined, tabulate};
-ghost use Rattle.model.specs.Bucket.{num_entries, max_nodes_per_bucket};
+ghost use Rattle.model.specs.Bucket.{num_entries};
 ghost use Rattle.model.specs.Table.{num_buckets};
 ghost use Rattle.model.specs.Sizes.{node_size, storage_size};
 ghost use Rattle.model.specs.Layout.{node_in, nodes_in, table_of};
@@ -51,29 +51,23 @@ impl Field {
     }
 }
 
-// How many nodes the table holds.
-fn total(table: FormedTable) -> usize
-    ensures value { result ≡ length (all_nodes (table_of table.entry.s.now)) }
-    ensures upper_bound { result ≤ num_buckets * max_nodes_per_bucket }
-{
-    let mut n: usize = 0;
-    for i in 0..model::NUM_BUCKETS {
-        n += usize::from(storage::size_at(table.s, i));
-    }
-    n
-}
-
 // The sizes of the buckets, one byte each.
-fn put_sizes(s: &[u8; Layout::STORAGE], out: &mut [u8])
-    requires { length out.old ≡ num_buckets }
-    ensures { out.new ≡ tabulate num_buckets (λ i. num_entries ((table_of s.now).buckets i)) }
+fn sizes(s: &[u8; Layout::STORAGE]) -> [u8; model::NUM_BUCKETS]
+    ensures { result ≡ tabulate num_buckets (λ i. num_entries ((table_of s.now).buckets i)) }
 {
-    for i in 0..model::NUM_BUCKETS {
-        out[i] = storage::size_at(s, i);
-    }
+    std::array::from_fn(|i| storage::size_at(s, i))
 }
 
-// What is written of the nodes of a bucket.
+// How many nodes the sizes say. loaded's `saved_nodes` is the same: shared, the two lines would want a crate below both.
+#[tactic(auto, using(crate::proofs::Held::sums))]
+fn total(sizes: &[u8; model::NUM_BUCKETS]) -> usize
+    ensures value { result ≡ sum sizes.now }
+    ensures upper_bound { result ≤ 255 * num_buckets }
+{
+    sizes.iter().map(|size| usize::from(*size)).sum()
+}
+
+// What is written of the nodes of a bucket. Not by `chunks_exact_mut`: of a slice that was lent in pieces a proof knows the length alone.
 fn put_bucket(formed: FormedNodes, field: Field, out: &mut [u8])
     requires { length out.old ≡ formed.nodes.count * field_size field }
     ensures { out.new ≡ joined (field_bytes field) (nodes_in formed.entry.nodes.bucket.now) }
@@ -84,7 +78,7 @@ fn put_bucket(formed: FormedNodes, field: Field, out: &mut [u8])
     }
 }
 
-// What is written of all nodes, bucket by bucket.
+// What is written of all nodes, bucket by bucket; `at` counts on, since the buckets differ in size.
 fn put_all(table: FormedTable, field: Field, out: &mut [u8])
     requires { length out.old ≡ length (all_nodes (table_of table.s.now)) * field_size field }
     ensures { out.new ≡ joined (field_bytes field) (all_nodes (table_of table.entry.s.now)) }
@@ -106,13 +100,14 @@ pub fn write(s: &[u8], out: &mut [u8]) -> Result<usize, Refusal>
     let s = s.as_array().ok_or(Refusal::Size)?;
     on_key::asked_table(s)?;
     let table = FormedTable { s };
-    let n = total(table);
+    let sizes = sizes(s);
+    let n = total(&sizes);
     if out.len() < model::NUM_BUCKETS + n * Layout::NODE {
         return Err(Refusal::Output);
     }
-    let (sizes, rest) = out.split_at_mut(model::NUM_BUCKETS);
+    let (front, rest) = out.split_at_mut(model::NUM_BUCKETS);
     let (keys, rest) = rest.split_at_mut(n * Layout::KEY);
-    put_sizes(s, sizes);
+    front.copy_from_slice(&sizes);
     put_all(table, Field::Key, keys);
     put_all(table, Field::Entry, &mut rest[0..n * Layout::ENTRY]);
     Ok(n)

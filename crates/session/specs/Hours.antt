@@ -24,7 +24,7 @@ abbrev pub date_in : List ℕ → Date
 date_in e = record { year = get_or e 0 0; month = get_or e 1 0; day = get_or e 2 0 }
 
 abbrev pub session_of : (windows closed : List ℕ) → Moment → model.Session
-session_of ws cs m = record { windows = ws; closed = cs; today = record { year = m.year; month = m.month; day = m.day }; minute = m.minute }
+session_of ws cs m = record { windows = ws; closed = cs; today = date_of m.date; minute = m.minute }
 
 -- the session of a call's hours
 abbrev pub hours_of : Hours → model.Session

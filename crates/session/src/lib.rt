@@ -27,48 +27,33 @@ const FIRST_YEAR: u16 = 2000;
 
 const LAST_YEAR: u16 = 2399;
 
-// The days of each month, and the days before it, in a year that is no leap year.
+// The days of each month, and the days before it, in a year that is no leap year. Tables, as the calendar has them.
 const MONTH_DAYS: [u16; 12] = [31, 28, 31, 30, 31, 30, 31, 31, 30, 31, 30, 31];
 
 const MONTH_STARTS: [u16; 12] = [0, 31, 59, 90, 120, 151, 181, 212, 243, 273, 304, 334];
 
-// The UTC date and minute of a call.
-#[derive(Clone, Copy, PartialEq, Eq)]
-pub struct Moment {
+// A date of the calendar, or three numbers that are none.
+#[derive(Clone, Copy, PartialEq, Eq, Default)]
+pub struct Date {
     pub year: u16,
     pub month: u16,
     pub day: u16,
+}
+
+// The UTC date and minute of a call.
+#[derive(Clone, Copy, PartialEq, Eq, Default)]
+pub struct Moment {
+    pub date: Date,
     pub minute: u16,
 }
 
-impl Moment {
-    // Its date.
-    fn date(self) -> Date
-        ensures { result ≡ record { year = self.year; month = self.month; day = self.day } }
-    {
-        Date {
-            year: self.year,
-            month: self.month,
-            day: self.day,
-        }
-    }
-}
-
 // The session hours of a call: its weekly windows (weekday, opening and closing minute), its closed dates (year, month, day), each three
-// numbers, and the moment of the call.
+// numbers, and the moment of the call. The numbers lie one after another, as the C interface hands them over.
 #[derive(Clone, Copy)]
 pub struct Hours<'a> {
     pub windows: &'a [u16],
     pub closed: &'a [u16],
     pub moment: Moment,
-}
-
-// A date of the calendar, or three numbers that are none.
-#[derive(Clone, Copy, PartialEq, Eq)]
-struct Date {
-    year: u16,
-    month: u16,
-    day: u16,
 }
 
 // The date of an entry.
@@ -202,7 +187,7 @@ fn entries(numbers: &[u16]) -> &[[u16; 3]]
     numbers.as_chunks::<3>().0
 }
 
-// The entry is a date of the calendar.
+// The entry is a date of the calendar. A function: with a closure in place, as for the windows, the search does not find the proof (tried).
 fn is_date(entry: &[u16; 3]) -> bool
     ensures { result ≡ is_date (date_of (date_in entry.now)) }
 {
@@ -233,8 +218,7 @@ impl Hours<'_> {
         ensures { result ≡ session_fits (hours_of self.entry) }
     {
         self.windows_fit()
-            && (self.closed_fit()
-                && (self.moment.date().is_valid() && self.moment.minute < MINUTES))
+            && (self.closed_fit() && (self.moment.date.is_valid() && self.moment.minute < MINUTES))
     }
 
     // The date is among the closed dates.
@@ -259,7 +243,7 @@ impl Hours<'_> {
         requires { session_fits (hours_of self) ≡ true }
         ensures { result ≡ is_open (hours_of self.entry) }
     {
-        let today = self.moment.date();
+        let today = self.moment.date;
         !self.is_closed(today) && self.is_covered(today.weekday(), self.moment.minute)
     }
 }

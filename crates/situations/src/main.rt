@@ -6,15 +6,10 @@
 ghost use Rattle.std.specs.Prelude.{◌≡◌, length};
 
 use bucket::KBucket;
-use node::{NodeStatus, Refusal, Slot, Value};
+use node::{Node, NodeStatus, Refusal, Slot, Value};
 use session::{Hours, Moment};
 use std::{fmt, io};
 use storage::Layout;
-
-// Storage for a table.
-fn storage() -> [u8; Layout::STORAGE] {
-    [0; Layout::STORAGE]
-}
 
 // The key of a member. The local key is 0, so all members are in bucket 255.
 fn key_of(member: u8) -> [u8; 32]
@@ -38,28 +33,20 @@ fn record_of(member: u8, slot: Slot) -> Value {
     }
 }
 
-// The byte of the storage at an offset.
-fn byte(s: &[u8], at: usize) -> u8 {
-    s.get(at).copied().unwrap_or(0)
+// Writes a node: the number of its key, the last octet of its address, and its slot.
+fn print_node(rt: &impl Print, node: Node) -> io::Result<()> {
+    let member = node.key.w3;
+    let Value { d, slot, .. } = node.value;
+    print!(rt; " {member}=10.0.0.{d}/slot {slot}")
 }
 
-// Writes the node at a place of bucket 255: the last byte of its key, the last octet of its address, the last byte of its slot.
-fn print_node(rt: &impl Print, s: &[u8], place: usize) -> io::Result<()> {
-    if KBucket::MAX_NODES_PER_BUCKET <= place {
-        return Ok(());
-    }
-    let at = Layout::HEADER + 255 * Layout::BUCKET + Layout::PLACES_AT + place * Layout::NODE;
-    let member = byte(s, at + 31);
-    let octet = byte(s, at + Layout::VALUE_AT + 4);
-    let slot = byte(s, at + Layout::NODE - 1);
-    print!(rt; " {member}=10.0.0.{octet}/slot {slot}")
-}
-
-fn print_bucket(rt: &impl Print, s: &[u8]) -> io::Result<()> {
-    let count = usize::from(byte(s, Layout::HEADER + 255 * Layout::BUCKET));
+// Writes the nodes of bucket 255. Not by `Nodes`: that its bytes passed question 2 is not known here.
+fn print_bucket(rt: &impl Print, s: &[u8; Layout::STORAGE]) -> io::Result<()> {
+    let bucket = storage::bucket(s, 255);
+    let count = usize::from(bucket[0]).min(KBucket::MAX_NODES_PER_BUCKET);
     print!(rt; "{count} held:")?;
     for place in 0..count {
-        print_node(rt, s, place)?;
+        print_node(rt, storage::load_node(storage::place(bucket, place)))?;
     }
     println!(rt;)
 }
@@ -87,12 +74,7 @@ fn join(rt: &impl Print, s: &mut [u8], member: u8) -> io::Result<()> {
     let hours = Hours {
         windows: &[],
         closed: &[],
-        moment: Moment {
-            year: 0,
-            month: 0,
-            day: 0,
-            minute: 0,
-        },
+        moment: Moment::default(),
     };
     print!(rt; " ")?;
     if 10 < member {
@@ -123,7 +105,7 @@ fn resign(rt: &impl Print, s: &mut [u8], member: u8, slot: Slot) -> io::Result<(
 }
 
 fn situation(rt: &impl Print, members: u8) -> io::Result<()> {
-    let mut space = storage();
+    let mut space = [0; Layout::STORAGE];
     let s = &mut space;
     let local = [0u8; 32];
     match table::new(s, &local, 60000, 16, 1, 0) {

@@ -2,20 +2,23 @@
 // bucket or a record, lent from those around them.
 #![tactic(auto)]
 
-ghost use Rattle.std.specs.Prelude.{◌≡◌, true, ◌+◌, ◌≤◌, ◌<◌, length, get_or};
+ghost use Rattle.std.specs.Prelude.{◌≡◌, Bool, true, List, ℕ, ◌+◌, ◌≤◌, ◌<◌, length, get_or};
+ghost use Rattle.std.specs.Fn.{FnReturnsAt};
+ghost use Rattle.model.specs.Base.{select, tabulate};
 ghost use Rattle.model.specs.Bytes.{part, Bytes};
 ghost use Rattle.model.specs.Bucket.{max_nodes_per_bucket, num_entries};
 ghost use Rattle.model.specs.Table.{num_buckets, max_records};
-ghost use Rattle.model.specs.Sizes.{key_size, value_size, node_size, bucket_size, pending_at};
-ghost use Rattle.model.specs.Layout.{value_bytes, node_bytes, place_in, record_part, bucket_part, table_of};
+ghost use Rattle.model.specs.Sizes.{key_size, value_size, node_size, bucket_size, bucket_at, pending_at};
+ghost use Rattle.model.specs.Layout.{value_bytes, node_bytes, node_in, nodes_in, place_in, record_part, bucket_part, table_of};
 ghost use Rattle.model.specs.Formed.{key_in};
 ghost use Rattle.model.specs.Saved.{saved_entry_size};
 ghost use Rattle.key.specs.Key.{num};
-ghost use Rattle.node.specs.Node.{value_of, node_of, value_codes, node_codes};
+ghost use Rattle.node.specs.Node.{value_of, node_of};
 ghost use Rattle.storage.specs.Read.{read_value, read_node};
 
 use key::Key;
-use node::{Node, NodeStatus, Value};
+use node::{Node, NodeInRange, NodeStatus, Value, ValueInRange};
+use std::ops::Range;
 
 // How many bytes each thing takes, each derived from the others, and where it stands in what holds it.
 #[derive(Clone, Copy)]
@@ -38,14 +41,15 @@ impl Layout {
 
     pub const VALUE_AT: usize = Layout::DIRECTION_AT + 1;
 
-    pub const NODE: usize = Layout::VALUE_AT + Layout::VALUE;
+    pub const NODE: usize = Node::BYTES;
 
     // A node's entry in the bytes that the writer puts out: state, direction, value.
     pub const ENTRY: usize = Layout::NODE - Layout::STATE_AT;
 
     // A record of the queue: key, kind of its ending, evicted node.
     pub const RECORD: usize = Layout::KEY + 1 + Layout::NODE;
-    // The kind of a record with an evicted node, and the greatest kind.
+    // The kind of a record with an evicted node, and the greatest kind. Numbers: question 2 asks them of bytes, below the crate that has
+    // `Ending`.
     pub const EVICTING_KIND: u8 = 1;
 
     pub const LAST_KIND: u8 = 6;
@@ -87,7 +91,9 @@ impl Layout {
     pub const STORAGE: usize = Layout::HEADER + model::NUM_BUCKETS * Layout::BUCKET;
 }
 
-// The nodes that a stored bucket holds.
+// The nodes that a stored bucket holds: `places` lends their bytes as a slice, `place` those of one. It is no iterator itself: a loop whose
+// proof reads the places by their numbers is as short by `for j in 0..count` with `place(j)`. The count is the bucket's first byte, read
+// once, with what question 2 says of it.
 #[derive(Clone, Copy)]
 pub struct Nodes<'a> {
     pub bucket: &'a [u8; Layout::BUCKET],
@@ -118,6 +124,26 @@ impl<'a> Nodes<'a> {
     {
         place(self.bucket, j)
     }
+
+    // Internal: the bytes of the nodes, in their places.
+    pub fn places(self) -> &'a [[u8; Layout::NODE]]
+        ensures { result.now ≡ tabulate self.entry.count (place_in self.entry.bucket.now) }
+    {
+        let bucket = self.bucket;
+        let places = &bucket[Layout::PLACES_AT..Layout::PENDING_AT];
+        let (nodes, _) = places.as_chunks::<{ Layout::NODE }>();
+        &nodes[..self.count]
+    }
+
+    // Internal: how many of the nodes pass the test, which takes a node's bytes.
+    pub fn count<F: Fn(&[u8; Layout::NODE]) -> bool>(self, passes: F) -> usize
+        requires { F.IsAlwaysCallable passes }
+        ensures value { (p : _) → ((bytes : List ℕ) (r : Bool) → FnReturnsAt F.Fn passes bytes r → r ≡ p (node_in bytes))
+            → result ≡ length (select p (nodes_in self.entry.bucket.now)) }
+        ensures few { result ≤ max_nodes_per_bucket }
+    {
+        self.places().iter().filter(|node| passes(node)).count()
+    }
 }
 
 // Internal: the key of the node of these bytes.
@@ -128,11 +154,10 @@ pub fn load_key(node: &[u8; Layout::NODE]) -> Key
     Key::load(&node[0..Layout::KEY])
 }
 
-// Internal: the value of the node of these bytes.
-pub fn load_value(node: &[u8; Layout::NODE]) -> Value
-    ensures { result ≡ read_value (part node.now (key_size + 2) value_size) }
+// Internal: the value of these bytes.
+pub fn value_from(value: &[u8; Layout::VALUE]) -> Value
+    ensures { result ≡ read_value value.now }
 {
-    let value = &node[Layout::VALUE_AT..Layout::NODE];
     Value {
         flag: value[0],
         a: value[1],
@@ -141,6 +166,13 @@ pub fn load_value(node: &[u8; Layout::NODE]) -> Value
         d: value[4],
         slot: words::get_u64(&value[Layout::SLOT_AT..Layout::VALUE]),
     }
+}
+
+// Internal: the value of the node of these bytes.
+pub fn load_value(node: &[u8; Layout::NODE]) -> Value
+    ensures { result ≡ read_value (part node.now (key_size + 2) value_size) }
+{
+    value_from(node[Layout::VALUE_AT..Layout::NODE].as_array().unwrap())
 }
 
 // Internal: the node of these bytes.
@@ -157,11 +189,12 @@ pub fn load_node(node: &[u8; Layout::NODE]) -> Node
     }
 }
 
-// Internal: the bytes become those of a value whose codes are in range.
-pub fn store_value(s: &mut [u8], v: Value)
-    requires { (length s.old ≡ value_size) × (value_codes v ≡ true) }
-    ensures { s.new ≡ value_bytes (value_of v) }
+// Internal: the bytes become those of the value.
+pub fn store_value(s: &mut [u8], v: ValueInRange)
+    requires { length s.old ≡ value_size }
+    ensures { s.new ≡ value_bytes (value_of v.value) }
 {
+    let v = v.value;
     s[0] = v.flag;
     s[1] = v.a;
     s[2] = v.b;
@@ -170,19 +203,19 @@ pub fn store_value(s: &mut [u8], v: Value)
     words::put_u64(&mut s[Layout::SLOT_AT..Layout::VALUE], v.slot);
 }
 
-// Internal: the bytes become those of a node whose codes are in range.
-pub fn store_node(s: &mut [u8], n: Node)
-    requires { (length s.old ≡ node_size) × (node_codes n ≡ true) }
-    ensures { s.new ≡ node_bytes (node_of n) }
+// Internal: the bytes become those of the node.
+pub fn store_node(s: &mut [u8], n: NodeInRange)
+    requires { length s.old ≡ node_size }
+    ensures { s.new ≡ node_bytes (node_of n.node) }
 {
-    n.key.store(&mut s[0..Layout::KEY]);
-    s[Layout::STATE_AT] = n.status.state;
-    s[Layout::DIRECTION_AT] = n.status.direction;
-    store_value(&mut s[Layout::VALUE_AT..Layout::NODE], n.value);
+    n.node.key.store(&mut s[0..Layout::KEY]);
+    s[Layout::STATE_AT] = n.node.status.state;
+    s[Layout::DIRECTION_AT] = n.node.status.direction;
+    store_value(&mut s[Layout::VALUE_AT..Layout::NODE], n.value());
 }
 
-// Internal: the bytes become those of an entry. By words, the eighth byte twice: `copy_from_slice` tests whether the two overlap, which
-// costs more in the loop that builds a bucket.
+// Internal: the bytes become those of an entry. By words, the eighth byte twice: `copy_from_slice` tests whether the two overlap, and takes
+// 294 instructions for the 16 entries of a bucket, where this takes 82.
 #[tactic(auto, unfolding(model::specs::Bytes::part, model::specs::Bytes::splice))]
 pub fn put_entry(entry: &[u8], out: &mut [u8])
     requires { (length entry.now ≡ saved_entry_size) × (length out.old ≡ saved_entry_size) }
@@ -194,7 +227,8 @@ pub fn put_entry(entry: &[u8], out: &mut [u8])
     words::put_u64(&mut out[Layout::ENTRY - 8..Layout::ENTRY], back);
 }
 
-// Internal: the bytes of place j of a bucket.
+// Internal: the bytes of place j of a bucket. This and the four below that lend a part each compute its bounds: one with offset and size as
+// parameters would have a clause for them.
 #[tactic(auto, using(laws::proofs::Parts::sliced))]
 pub fn place(bucket: &[u8; Layout::BUCKET], j: usize) -> &[u8; Layout::NODE]
     requires { j < max_nodes_per_bucket }
@@ -213,15 +247,23 @@ pub fn pending(bucket: &[u8; Layout::BUCKET]) -> &[u8; Layout::NODE]
     bucket[at..at + Layout::NODE].as_array().unwrap()
 }
 
-// Internal: the bytes of bucket i of the storage. That i is below the number of buckets is a clause: a struct for it would be made anew at
-// each call, since most callers count i in a loop.
+// Internal: where bucket i stands in the storage. That i is below the number of buckets is a clause: where i is counted in a loop a struct
+// for it would be made anew at each call, and on one key it comes with `Ready`, which is of the storage and i together.
+pub fn bucket_range(i: usize) -> Range<usize>
+    requires { i < num_buckets }
+    ensures { result ≡ record { start = bucket_at i; end = bucket_at i + bucket_size } }
+{
+    let at = Layout::HEADER + i * Layout::BUCKET;
+    at..at + Layout::BUCKET
+}
+
+// Internal: the bytes of bucket i of the storage.
 #[tactic(auto, using(laws::proofs::Parts::sliced))]
 pub fn bucket(s: &[u8; Layout::STORAGE], i: usize) -> &[u8; Layout::BUCKET]
     requires { i < num_buckets }
     ensures { result.now ≡ bucket_part s.now i }
 {
-    let at = Layout::HEADER + i * Layout::BUCKET;
-    s[at..at + Layout::BUCKET].as_array().unwrap()
+    s[bucket_range(i)].as_array().unwrap()
 }
 
 // Internal: how many nodes bucket i holds.
@@ -243,10 +285,10 @@ pub fn record(s: &[u8; Layout::STORAGE], j: usize) -> &[u8; Layout::RECORD]
     s[at..at + Layout::RECORD].as_array().unwrap()
 }
 
-// Internal: the bytes of the record's evicted node, behind the kind.
+// Internal: the bytes of the evicted node of a record, behind the kind.
 #[tactic(auto, unfolding(model::specs::Bytes::part))]
-pub fn evicted(record: &[u8; Layout::RECORD]) -> &[u8; Layout::NODE]
-    ensures { result.now ≡ part record.now (key_size + 1) node_size }
+pub fn evicted(entry: &[u8; Layout::RECORD]) -> &[u8; Layout::NODE]
+    ensures { result.now ≡ part entry.now (key_size + 1) node_size }
 {
-    record[Layout::KEY + 1..Layout::RECORD].as_array().unwrap()
+    entry[Layout::KEY + 1..Layout::RECORD].as_array().unwrap()
 }

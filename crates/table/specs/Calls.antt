@@ -5,7 +5,7 @@ use Rattle.model.specs.Base.{first}
 use Rattle.model.specs.Table.{Answer}
 use Rattle.node.specs.declared.Refusal.{Refusal}
 use Rattle.node.specs.Refusal.{answer_of}
-use Rattle.bucket.specs.declared.EndedPending.{EndedPending}
+use Rattle.bucket.specs.declared.ending.EndedPending.{EndedPending}
 use Rattle.bucket.specs.Calls.{records_of}
 
 abbrev pub remove_answer : Result Bool Refusal → Answer

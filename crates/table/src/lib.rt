@@ -17,12 +17,11 @@ pub fn remove(s: &mut [u8], key: &[u8], time: u64) -> Result<bool, Refusal>
     ensures { Answers (remove_answer result) s.new (step_bytes (Call.on_key key.now (KeyCall.remove time)) s.old) }
 {
     let s = s.as_mut_array().ok_or(Refusal::Size)?;
-    let Some((k, i)) = on_key::begin(s, key, true, Some(time))? else {
+    let Some((k, i, ())) = on_key::begin(s, key, Some(()), Some(time))? else {
         return Ok(false);
     };
     if held::is_quiet(storage::bucket(s, i)) {
-        let at = Layout::HEADER + i * Layout::BUCKET;
-        return Ok(held::remove(&mut s[at..at + Layout::BUCKET], k));
+        return Ok(held::remove(&mut s[storage::bucket_range(i)], k));
     }
     let applied = on_key::apply_at(s, i, time);
     let step = applied.bucket.remove(k, time);
@@ -41,15 +40,13 @@ pub fn update_node_status(
     ensures { Answers (update_answer result) s.new (step_bytes (Call.on_key key.now (KeyCall.update_node_status state direction time)) s.old) }
 {
     let s = s.as_mut_array().ok_or(Refusal::Size)?;
-    let codes = (state <= 1) & (direction <= 2);
-    let Some((k, i)) = on_key::begin(s, key, codes, Some(time))? else {
+    let status = StatusUpdate::of(state, direction);
+    let Some((k, i, status)) = on_key::begin(s, key, status, Some(time))? else {
         return Ok(UpdateResult::NotModified);
     };
-    let status = StatusUpdate { state, direction };
     if held::is_quiet(storage::bucket(s, i)) {
         let settings = header::settings(s);
-        let at = Layout::HEADER + i * Layout::BUCKET;
-        let bucket = &mut s[at..at + Layout::BUCKET];
+        let bucket = &mut s[storage::bucket_range(i)];
         return Ok(held::update_status(bucket, settings, k, status));
     }
     let applied = on_key::apply_at(s, i, time);
@@ -80,9 +77,7 @@ pub fn new(
     ensures { Answers (new_answer result) s.new (step_bytes (Call.new local_key.now pending_timeout max_incoming table_filter bucket_filter) s.old) }
 {
     let s = s.as_mut_array().ok_or(Refusal::Size)?;
-    if local_key.len() != Layout::KEY {
-        return Err(Refusal::Key);
-    }
+    let key = local_key.as_array().ok_or(Refusal::Key)?;
     let codes = (usize::from(max_incoming) <= model::MAX_NODES_PER_BUCKET)
         & ((table_filter <= 1) & (bucket_filter <= 1));
     if !codes {
@@ -90,7 +85,7 @@ pub fn new(
     }
     header::clear(
         s,
-        Key::load(local_key),
+        Key::from_bytes(key),
         pending_timeout,
         max_incoming,
         table_filter,

@@ -10,45 +10,26 @@ ghost use Rattle.model.specs.Layout.{node_in, bucket_in};
 ghost use Rattle.model.specs.Formed.{bucket_formed_at};
 ghost use Rattle.key.specs.Key.{num};
 ghost use Rattle.node.specs.Node.{value_of};
-ghost use Rattle.table_filter.specs.Counted.{counts_other, net_of};
+ghost use Rattle.table_filter.specs.Counted.{counts_other};
 ghost use Rattle.table_filter.specs.Filtered.{Walked, AskedFilter};
 
 use key::Key;
 use node::{Refusal, Value};
 use storage::{Layout, Nodes};
 
-// The address flag and the first three octets of the value, with which its bytes begin, as one number.
-fn net(value: Value) -> u64
-    ensures { result ≡ net_of value }
-{
-    u64::from(u32::from_be_bytes([value.flag, value.a, value.b, value.c]))
-}
-
-// The node counts against the value of the key. The key's own does not (document 02, slip 3). Where flag and /24 differ, nothing else is
-// read.
+// The node counts against the value of the key. The key's own does not (document 02, slip 3). Its key is read only where its value counts.
 fn counts(node: &[u8; Layout::NODE], key: Key, value: Value) -> bool
     ensures { result ≡ counts_other (num key) (value_of value) (node_in node.now) }
 {
-    if words::get_u64(&node[Layout::VALUE_AT..Layout::VALUE_AT + 8]) / 0x1_0000_0000 != net(value) {
-        return false;
-    }
-    let other = storage::load_value(node);
-    if !node::filter::counts(value, other) {
-        return false;
-    }
-    let held = storage::load_key(node);
-    !held.eq(key)
+    node::filter::counts(value, storage::load_value(node)) && !storage::load_key(node).eq(key)
 }
 
-// How many of the nodes count against the value of the key. The pending is not among them.
+// How many of the nodes count against the value of the key. The pending is not among them. Key and value are what a call is given: nothing
+// is known of them together.
 fn counted(held: Nodes, key: Key, value: Value) -> usize
     ensures { (result ≡ length (select (counts_other (num key) (value_of value)) (nodes (bucket_in held.entry.bucket.now)))) × (result ≤ max_nodes_per_bucket) }
 {
-    let mut n: usize = 0;
-    for j in 0..held.count {
-        n += usize::from(counts(held.place(j), key, value));
-    }
-    n
+    held.count(|node| counts(node, key, value))
 }
 
 // Question 2 of every bucket, each before it is counted for the value of the key; then: does the value fail the IP filter of the table?
@@ -76,17 +57,15 @@ fn walked(s: &[u8; Layout::STORAGE], key: Key, value: Value) -> Result<bool, Ref
 fn holds_value(held: Nodes, key: Key, value: Value) -> bool
     ensures { result ≡ is_duplicate (value_of value) (get (num key) (bucket_in held.entry.bucket.now)) }
 {
-    for j in 0..held.count {
-        let node = held.place(j);
-        if well_formed::has_key(node, key) {
-            return storage::load_value(node).eq(value);
-        }
-    }
-    false
+    let Some(j) = well_formed::position(held.bucket, held.count, key) else {
+        return false;
+    };
+    storage::load_value(held.place(j)).eq(value)
 }
 
 // Internal: does the value of the key, whose bucket is i and has passed question 2, fail the table filter? Where the filter is off, or
-// skipped because the key is held with an equal value, no other bucket is read.
+// skipped because the key is held with an equal value, no other bucket is read. That bucket i is formed is a clause: no value is of the
+// storage and an index.
 pub fn asked_filter(
     s: &[u8; Layout::STORAGE],
     i: usize,

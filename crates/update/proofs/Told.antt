@@ -12,26 +12,21 @@ use Rattle.model.specs.Table.{Answer, EntryKind, fails_table_filter, update_node
 use Rattle.model.specs.Session.{Session, hours_questions}
 use Rattle.model.specs.Call.{KeyCall, value_of, is_one, optional}
 use Rattle.model.specs.Question.{first_failed, is_absent, kind_of_key}
-use Rattle.model.specs.Step.{node_of, effect}
+use Rattle.model.specs.Step.{node_of}
 use Rattle.model.specs.Layout.{table_of}
 use Rattle.key.specs.declared.Key.{Key}
 use Rattle.key.specs.Key.{num}
 use Rattle.node.specs.declared.Value.{Value}
 use Rattle.node.specs.Node.{argument_of}
 use Rattle.bucket.specs.declared.KBucket.{KBucket}
-use Rattle.bucket.specs.declared.EndedPending as ended
+use Rattle.bucket.specs.declared.ending.EndedPending as ended
 use Rattle.bucket.specs.Bucket.{bucket_of, settings_of, Becomes}
 use Rattle.on_key.specs.Answers.{AppliedAt, recorded}
 use Rattle.on_key.specs.Start.{AtBucket}
 use Rattle.on_key.proofs.Steps.{stepped}
+use Rattle.on_key.proofs.Ended.{Told}
 use Rattle.on_key.proofs.Endings.{update_records, insert_or_update_records}
 use Rattle.entry.proofs.Kind.{kind_at}
-
--- the answer, the bucket that is left and its record are those of the call
-pub record Told (s key : List ℕ) (c : KeyCall) (i : ℕ) (a : Answer) (b : KBucket) (rs : List EndedPending) : Type 0 where
-  pub answer : a ≡ (effect c key (table_of s) i ((table_of s).buckets i)).answer
-  pub bucket : bucket_of b ≡ (effect c key (table_of s) i ((table_of s).buckets i)).bucket
-  pub records : rs ≡ (effect c key (table_of s) i ((table_of s).buckets i)).records
 
 -- the table filter's answer on the value
 abbrev filtered : (s key : List ℕ) (i : ℕ) → Value → Bool

@@ -13,7 +13,7 @@ ghost use Rattle.update.specs.Calls.{insert_or_update_answer};
 use bucket::{FailureReason, UpdateResult};
 use bucket_update::InsertResult;
 use held::SettingsAt;
-use node::{Code, Node, NodeInRange, NodeStatus, NodeUpdate, Refusal, Value, ValueInRange};
+use node::{Code, NodeFields, NodeStatus, NodeUpdate, Refusal, Value};
 use session::Hours;
 use storage::Layout;
 
@@ -28,19 +28,14 @@ pub fn update_node(
     ensures { Answers (update_answer result) s.new (step_bytes (Call.on_key key.now (KeyCall.update_node (argument_of value) state time)) s.old) }
 {
     let s = s.as_mut_array().ok_or(Refusal::Size)?;
-    let codes = value.in_range() & (state <= 2);
-    let Some((k, i)) = on_key::begin(s, key, codes, Some(time))? else {
+    let update = NodeUpdate::of(value, state);
+    let Some((k, i, update)) = on_key::begin(s, key, update, Some(time))? else {
         return Ok(UpdateResult::NotModified);
-    };
-    let update = NodeUpdate {
-        value: ValueInRange { value },
-        state,
     };
     let fails = table_filter::asked_filter(s, i, k, value)?;
     if held::is_quiet(storage::bucket(s, i)) {
         let settings = header::settings(s);
-        let at = Layout::HEADER + i * Layout::BUCKET;
-        let bucket = &mut s[at..at + Layout::BUCKET];
+        let bucket = &mut s[storage::bucket_range(i)];
         return Ok(held_update::update_node(bucket, settings, fails, k, update));
     }
     let applied = on_key::apply_at(s, i, time);
@@ -63,28 +58,20 @@ pub fn insert_or_update(
     ensures { Answers (insert_or_update_answer result) s.new (step_bytes (Call.on_key key.now (KeyCall.insert_or_update (argument_of value) status.state status.direction time (hours_of hours.entry))) s.old) }
 {
     let s = s.as_mut_array().ok_or(Refusal::Size)?;
-    let codes = value.in_range() & ((status.state <= 1) & (status.direction <= 1));
-    let Some((k, i)) = on_key::begin(s, key, codes, Some(time))? else {
+    let fields = NodeFields::of(value, status);
+    let Some((k, i, fields)) = on_key::begin(s, key, fields, Some(time))? else {
         session::asked(hours, true)?;
         return Ok(InsertResult::Failed(FailureReason::InvalidSelfUpdate));
     };
-    let node = NodeInRange {
-        node: Node {
-            key: k,
-            value,
-            status,
-        },
-    };
+    let node = fields.with_key(k);
     let fails = table_filter::asked_filter(s, i, k, node.node.value)?;
     let bucket = storage::bucket(s, i);
     if held::is_quiet(bucket) {
-        let nodes = held::nodes(bucket);
-        let pos = held::position(nodes, k);
-        session::asked(hours, pos < nodes.count)?;
+        let pos = held::position(held::nodes(bucket), k);
+        session::asked(hours, pos.is_some())?;
         let settings = header::settings(s);
         let now = SettingsAt { settings, time };
-        let at = Layout::HEADER + i * Layout::BUCKET;
-        let bucket = &mut s[at..at + Layout::BUCKET];
+        let bucket = &mut s[storage::bucket_range(i)];
         return Ok(held_update::insert_or_update(bucket, now, pos, fails, node));
     }
     let applied = on_key::apply_at(s, i, time);

@@ -1,5 +1,5 @@
 -- The visit of the buckets: the pendings that are due, the records that the buckets give, and the table that is left.
-use Rattle.std.specs.Prelude.{ℕ, ◌+◌, ◌-◌, ◌≤◌, ◌<◌, ◌≡◌, Bool, true, false, cond, ◌&&◌, ◌||◌, List, [], ◌∷◌, length, drop, eqb, Result, Ok, Err}
+use Rattle.std.specs.Prelude.{ℕ, ◌+◌, ◌-◌, ◌≤◌, ◌<◌, ◌≡◌, Bool, true, false, cond, not, ◌&&◌, ◌||◌, List, [], ◌∷◌, length, drop, eqb, Result, Ok, Err}
 use Rattle.std.specs.Coded.{×_prop, Unit-prop, le_prop}
 use Rattle.std.proofs.Math.Nat.{ℕ_set}
 use Rattle.model.specs.Base.{tabulate}
@@ -25,9 +25,9 @@ held now t i = num_entries (applied now t i)
 abbrev pub records : ℕ → Table → ℕ → ℕ
 records now t i = length (apply_pending t.settings.bucket now (t.buckets i)).1
 
--- 02, slip 4: those of a placed pending
-abbrev pub placed : ℕ → Table → ℕ → ℕ
-placed now t i = length (placed_of (apply_pending t.settings.bucket now (t.buckets i)).1)
+-- 02, slip 4: whether one is that of a placed pending
+abbrev pub placed : ℕ → Table → ℕ → Bool
+placed now t i = not (eqb (length (placed_of (apply_pending t.settings.bucket now (t.buckets i)).1)) 0)
 
 pub record GivenAt (now : ℕ) (t : Table) (i : ℕ) (g : Given) : Type 0 where
   pub count : g.count ≡ held now t i
@@ -95,7 +95,7 @@ pub record Visitable (is : List ℕ) : Type 0 where
   pub once : Once is
   pub short : length is ≤ num_buckets + num_buckets
 
--- that they are so has one proof at the most
+-- two proofs of it are equal
 all_prop : {P : ℕ → Type 0} → ((i : ℕ) → IsProp (P i)) → (is : List ℕ) → IsProp (All P is)
 all_prop h [] = Unit-prop
 all_prop h (i ∷ is) = ×_prop (h i) (all_prop h is)

@@ -1,9 +1,12 @@
 // Internal: the visit of the buckets in a listing's order. A survey asks question 2 of each bucket and counts the items, and the records
 // that it would give, for question 8; the applying pass applies the due pendings in the storage.
 //
-// That storage passed question 2 (`header_formed`, `Ready`) is a clause, here and in listing, distances, on_key and header, and no struct
-// holds the fact: half of the functions write the storage, which such a struct cannot hold, and for the others each caller would make it
-// for one call.
+// That storage passed question 2 (`header_formed`, `Ready`) is a clause, here and in listing, distances, on_key, header, buckets, admission
+// and explain, and no struct holds the fact: nearly half of the functions that ask it write the storage, which such a struct cannot hold.
+// For those that read, it was tried and proves; but only explain and the survey would hand one on, and all others hold `&mut` storage and
+// would make it for one call each.
+// Nor does a type hold what is known of a list of buckets (they passed question 2, the queue has room for their records): most of the
+// functions write, and each names another part of the list.
 #![tactic(auto)]
 
 ghost use Rattle.std.specs.Prelude.{◌≡◌, true, [], ◌∷◌, ◌+◌, ◌-◌, ◌≤◌, ◌<◌, length};
@@ -17,12 +20,12 @@ use key::ClosestBucketsIter;
 use node::Refusal;
 use storage::Layout;
 
-// What a bucket holds once its due pending is applied, how many records it gives, and how many of them tell of a placed pending.
+// What a bucket holds once its due pending is applied, how many records it gives, and whether one of them tells of a placed pending.
 #[derive(Clone, Copy, Default)]
 pub struct Given {
     pub count: usize,
     pub records: usize,
-    pub placed: usize,
+    pub placed: bool,
 }
 
 // What the survey has counted: the items that are left to find, whether bucket 0 was visited, and the records. `zero` is a plain flag: no
@@ -104,7 +107,7 @@ pub fn given_at(s: &[u8; Layout::STORAGE], i: usize, time: u64) -> Given
     Given {
         count: step.bucket.bucket.count,
         records: usize::from(step.result.is_some()),
-        placed: usize::from(bucket::only_placed(step.result).is_some()),
+        placed: bucket::only_placed(step.result).is_some(),
     }
 }
 

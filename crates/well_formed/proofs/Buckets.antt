@@ -7,7 +7,7 @@ use native.Mathlib.Omega.{arith}
 use lib.Dec.{eqb, leb}
 use lib.ListN.{length, get_or}
 use borrow.Author.Tests.{ne_eqb, le-leb, lt-leb}
-use Rattle.model.specs.Base.{all_below, tabulate}
+use Rattle.model.specs.Base.{all_below}
 use Rattle.model.specs.Bytes.{part}
 use Rattle.model.specs.Bucket.{max_nodes_per_bucket, incoming_nodes, empty_bucket}
 use Rattle.model.specs.Table.{num_buckets, max_records}
@@ -25,7 +25,7 @@ use Rattle.node.specs.declared.Node as declared
 use Rattle.node.specs.Node.{node_codes}
 use Rattle.storage.specs.Read.{read_node}
 use Rattle.storage.proofs.Bytes.{codes_read}
-use Rattle.well_formed.specs.Tests.{of_index, differs, place_formed, node_at, record_at_formed, bucket_at_formed}
+use Rattle.well_formed.specs.Tests.{of_index, differs, place_formed, record_at_formed, bucket_at_formed}
 
 -- tests
 
@@ -63,8 +63,8 @@ module _ (p : ℕ → Bool) (m : ℕ) (bs : List ℕ) where
 
     pub bucket_held : n ≤ max_nodes_per_bucket → bucket_formed p m bs
         ≡ (((all_below n (differs bs) && all_below n (place_formed p f bs)) && are_zero bs (place_at n) ((max_nodes_per_bucket - n) * node_size))
-        && (leb f n && (leb (length (incoming_nodes (tabulate n (node_at bs)))) m && pending_formed p bs)))
-    unfolding bucket_formed nodes_in differs place_formed node_at
+        && (leb f n && (leb (length (incoming_nodes (nodes_in bs))) m && pending_formed p bs)))
+    unfolding bucket_formed differs place_formed
     bucket_held h =
         let c : Bool = all_below n (λ j. model.node_codes (place_in bs j)) in
         let i : Bool = all_below n (λ j. p (key_in (place_in bs j))) in
@@ -73,7 +73,7 @@ module _ (p : ℕ → Bool) (m : ℕ) (bs : List ℕ) where
         all_and n (λ j. model.node_codes (place_in bs j) && p (key_in (place_in bs j))) (λ j. eqb (get_or (place_in bs j) key_size 0) (state_at f j))
         ∙ ap (λ (x : Bool). x && t) (all_and n (λ j. model.node_codes (place_in bs j)) (λ j. p (key_in (place_in bs j)))) in
         rw (e, ← en, ← ef, le-leb n max_nodes_per_bucket h)
-        (regroup (all_below n (differs bs)) i t (leb f n) (leb (length (incoming_nodes (tabulate n (node_at bs)))) m) (pending_formed p bs) c (are_zero bs (place_at n) ((max_nodes_per_bucket - n) * node_size)))
+        (regroup (all_below n (differs bs)) i t (leb f n) (leb (length (incoming_nodes (nodes_in bs))) m) (pending_formed p bs) c (are_zero bs (place_at n) ((max_nodes_per_bucket - n) * node_size)))
 
 -- a record
 

@@ -5,9 +5,8 @@ use mathlib.Core.List.{List, [], ◌∷◌}
 use Prim.Native.Nat.{ℕ, zero, suc, ◌≤◌, ◌<◌}
 use native.Mathlib.Nat.{not-suc-le-zero, le_of_suc-le-suc}
 use native.Mathlib.Omega.{arith}
-use lib.Dec.{eqb}
 use lib.ListN.{length, get_or}
-use borrow.Author.Tests.{not-true, eq-eqb, ne_eqb}
+use borrow.Author.Tests.{not-true}
 use Rattle.model.specs.Base.{same, tabulate}
 use Rattle.model.specs.Node.{Node}
 use Rattle.model.specs.Layout.{node_in, place_in}
@@ -15,7 +14,9 @@ use Rattle.model.specs.Formed.{key_in, not_held}
 use Rattle.laws.proofs.Tests.{clash, split}
 use Rattle.laws.proofs.Lists.{length_tabulate, get_d_tabulate, all_gives, all_if}
 use Rattle.places.specs.Places.{before}
-use Rattle.well_formed.specs.Tests.{node_at, nodes_here, place}
+use Rattle.std.specs.Prelude.{Option, Some, None}
+use Rattle.std.specs.Option.{MatchOption, is_some}
+use Rattle.well_formed.specs.Tests.{node_at, nodes_here, place, Position}
 
 -- the first that passes
 
@@ -63,9 +64,22 @@ module _ (bs : List ℕ) (count k : ℕ) where
       let m = before_past (λ (n : Node). same n.key k) (tabulate count (node_at bs)) (node_in []) (e ∙ sym (length_tabulate count (node_at bs))) j (rw length_tabulate l) in
       ap not (sym (ap (λ (n : Node). same n.key k) (get_d_tabulate count (node_at bs) j (node_in []) l)) ∙ m))
 
-  -- no place has it
-  pub not_held_by_place : eqb (place k (nodes_here bs count)) count ≡ not_held bs count k
-  not_held_by_place =
-      split (not_held bs count k)
-      (λ h. rw h (eq-eqb _ _ (absent_here h)))
-      (λ h. rw h (ne_eqb _ _ (λ e. clash (held_here e) h)))
+  -- whether no place has it, by what a search answers
+  pub none_found : (result : Option ℕ) {r : Bool} → Position k (nodes_here bs count) count result → is_some result ≡ not r → r ≡ not_held bs count k
+  none_found None {r} e f = split r (λ h. h ∙ sym (held_here e)) (λ h. clash (ap not h) (sym f))
+  none_found (Some p) {r} e f =
+      split r (λ h. clash (sym f) (ap not h)) (λ h. h ∙ sym (split (not_held bs count k) (λ t. absurd (omega (arith, absent_here t, e))) (λ t. t)))
+
+  -- a search that goes from place to place
+  abbrev has : ℕ → Bool
+  has j = same (key_in (place_in bs j)) k
+
+  no_place : (i : ℕ) → ((j : ℕ) → 0 ≤ j → j < i → has j ≡ false) → not_held bs i k ≡ true
+  unfolding not_held
+  no_place i m = all_if i (λ j. not (has j)) (λ j l. ap not (m j (omega arith) l))
+
+  pub position_by : (result : Option ℕ)
+      → MatchOption result ((j : ℕ) → 0 ≤ j → j < count → has j ≡ false) (λ i. (0 ≤ i) × (i < count) × (has i ≡ true) × ((j : ℕ) → 0 ≤ j → j < i → has j ≡ false))
+      → Position k (nodes_here bs count) count result
+  position_by None m = absent_here (no_place count m)
+  position_by (Some i) f = (found_here i f.1 (no_place i f.3) f.2, f.1)

@@ -2,3 +2,4 @@
 pub mod Places
 pub mod KeyPlace
 pub mod Buckets
+pub mod Shown

@@ -1,39 +1,33 @@
 -- Question 2 of one place: the tests of a bucket's bytes, by the bytes of the storage that the bucket stands in.
-use mathlib.Core.Path.{◌≡◌, refl, sym, ap, ◌∙◌}
-use mathlib.Core.Bool.{Bool, true, false, cond, not, ◌&&◌}
-use mathlib.Core.List.{List, [], ◌∷◌, append-nil}
-use mathlib.Core.Option.{Option}
-use Prim.Native.Nat.{ℕ, ◌+◌, ◌*◌, ◌-◌, ◌^◌, ◌≤◌, ◌<◌}
+use mathlib.Core.Path.{◌≡◌, sym, ap, ◌∙◌}
+use mathlib.Core.Bool.{Bool, true, false, not, ◌&&◌}
+use mathlib.Core.List.{List, [], ◌∷◌}
+use Prim.Native.Nat.{ℕ, ◌+◌, ◌*◌, ◌^◌, ◌≤◌, ◌<◌}
 use native.Mathlib.Omega.{arith}
-use lib.Count.{count_leading_zeros}
 use lib.Dec.{eqb}
 use lib.ListN.{length, get_or, set}
 use lib.Seq.{get_or-set_same, get_or-set_other}
 use borrow.Author.Tests.{eqb-true, eqb-false, ne_eqb}
-use Rattle.std.specs.Int.{from_bool}
-use Rattle.model.specs.Base.{same, select, tabulate}
+use Rattle.model.specs.Base.{same, select}
 use Rattle.model.specs.Bytes.{number, part, Bytes}
-use Rattle.model.specs.Key.{distance, less_one}
-use Rattle.model.specs.Node.{Node, connected_incoming}
+use Rattle.model.specs.Node.{connected_incoming}
 use Rattle.model.specs.Bucket.{max_nodes_per_bucket, incoming_nodes}
 use Rattle.model.specs.Sizes.{time_size, node_size, place_at, pending_at, bucket_size}
-use Rattle.model.specs.Layout.{place_in}
-use Rattle.model.specs.Formed.{are_zero, key_in, state_at, not_held, pending_formed, is_at}
-use Rattle.laws.proofs.Tests.{cases, split, same_of, same_not}
-use Rattle.laws.proofs.Lists.{length_tabulate, tabulate_one_more, all_if}
-use Rattle.laws.proofs.KeepLists.{more, length_select_insert}
+use Rattle.model.specs.Layout.{nodes_in, place_in}
+use Rattle.model.specs.Formed.{are_zero, key_in, not_held, pending_formed}
+use Rattle.laws.proofs.Tests.{cases, split, same_not}
+use Rattle.laws.proofs.Lists.{all_if}
 use Rattle.laws.proofs.Parts.{part_append, get_d_part, length_part}
 use Rattle.laws.proofs.Bytes.{number_append, number_fits, number_one_more}
-use Rattle.laws.proofs.Index.{bucket_index_lem}
+use Rattle.laws.proofs.BucketBack.{length_nodes_in}
 use Rattle.key.specs.declared.Key.{Key}
 use Rattle.key.specs.Key.{num, Words}
-use Rattle.key.proofs.Leading.{none_left, some_left}
 use Rattle.node.specs.declared.Node as declared
 use Rattle.node.specs.Node.{node_codes}
 use Rattle.key.proofs.Words.{lows, num_key_of}
 use Rattle.storage.specs.Read.{read_node}
 use Rattle.storage.proofs.Bytes.{codes_read}
-use Rattle.well_formed.specs.Tests.{of_index, differs, place_formed}
+use Rattle.well_formed.specs.Tests.{differs}
 
 -- keys
 
@@ -47,33 +41,7 @@ last_differs s w key l b k e h =
     let f : w < 2 ^ 64 = rw e (number_fits s 24 8 (omega arith) b) in
     same_not (key_in s) (num key) (λ q. h (lows (number (part s 0 24)) ((key.w0 * 2 ^ 64 + key.w1) * 2 ^ 64 + key.w2) f k.word3 (sym n ∙ q)))
 
--- the index by the leading zeros of the distance
-pub index_by_zeros : (local key i : ℕ) → distance local key < 2 ^ 256 → of_index local i key ≡ eqb (256 - count_leading_zeros 256 (distance local key)) (i + 1)
-unfolding of_index
-index_by_zeros local key i h =
-    ap (λ (o : Option ℕ). is_at o i) (bucket_index_lem local key)
-    ∙ split (eqb n 0)
-    (λ e. let z : n ≡ 0 = eqb-true n 0 e in ap (λ (o : Option ℕ). is_at (less_one o) i) (sym (none_left d h z)) ∙ sym (ne_eqb n (i + 1) (λ q. omega (arith, q, z))))
-    (λ e. ap (λ (o : Option ℕ). is_at (less_one o) i) (sym (some_left d (eqb-false n 0 e))) ∙ less_one_lem (eqb-false n 0 e))
-  where
-    d : ℕ
-    d = distance local key
-
-    n : ℕ
-    n = 256 - count_leading_zeros 256 (distance local key)
-
-    less_one_lem : (n ≡ 0 → ⊥) → same (n - 1) i ≡ eqb n (i + 1)
-    less_one_lem z =
-        split (eqb n (i + 1))
-        (λ e. let q : n ≡ i + 1 = eqb-true n (i + 1) e in same_of (n - 1) i (omega arith) ∙ sym e)
-        (λ e. same_not (n - 1) i (λ (q : n - 1 ≡ i). eqb-false n (i + 1) e (omega (arith, q, z))) ∙ sym e)
-
 -- places
-
-pub place_formed_lem : (bs : List ℕ) (j : ℕ) (p : ℕ → Bool) (first : ℕ) (n : declared.Node) → n ≡ read_node (place_in bs j)
-    → place_formed p first bs j ≡ ((node_codes n && p (num n.key)) && eqb n.status.state (state_at first j))
-unfolding place_formed read_node
-place_formed_lem bs j p first n e = rw (e, codes_read, num_key_of)
 
 -- the last byte of the key of place k
 abbrev pub last_at : List ℕ → ℕ → ℕ
@@ -107,23 +75,6 @@ marked_more seen f j l m k h =
 
 -- how many are connected and incoming
 
-more_add : (b : Bool) (n : ℕ) → more b n ≡ n + cond b 1 0
-more_add true n = omega arith
-more_add false n = omega arith
-
-pub incoming_more : (f : ℕ → Node) (k : ℕ) → length (incoming_nodes (tabulate (k + 1) f)) ≡ length (incoming_nodes (tabulate k f)) + cond (connected_incoming (f k)) 1 0
-incoming_more f k =
-    rw tabulate_one_more (length_select_insert connected_incoming (f k) (tabulate k f) [] ∙ rw append-nil (more_add (connected_incoming (f k)) (length (incoming_nodes (tabulate k f)))))
-
-as_number : (b : Bool) → from_bool b ≡ cond b 1 0
-as_number true = refl
-as_number false = refl
-
--- one more counted, of b as a number
-pub counted : (f : ℕ → Node) (k : ℕ) {n m : ℕ} {b : Bool} → n ≡ length (incoming_nodes (tabulate k f)) → m ≡ from_bool b → b ≡ connected_incoming (f k)
-    → n + m ≡ length (incoming_nodes (tabulate (k + 1) f))
-counted f k h e g = rw (incoming_more, h, e, g, as_number)
-
 select_at_most : {A : Type 0} (p : A → Bool) (l : List A) → length (select p l) ≤ length l
 select_at_most p [] = omega arith
 select_at_most p (x ∷ l) =
@@ -131,8 +82,8 @@ select_at_most p (x ∷ l) =
     cases (λ (k : List _). length k ≤ length (x ∷ l)) (p x) (λ _. omega arith) (λ _. omega arith)
 
 -- no more are than are held
-pub incoming_at_most : (f : ℕ → Node) (k : ℕ) → length (incoming_nodes (tabulate k f)) ≤ k
-incoming_at_most f k = omega (arith, select_at_most connected_incoming (tabulate k f), length_tabulate k f)
+pub incoming_at_most : (bs : List ℕ) → length (incoming_nodes (nodes_in bs)) ≤ get_or bs 0 0
+incoming_at_most bs = omega (arith, select_at_most connected_incoming (nodes_in bs), length_nodes_in bs)
 
 -- the pending
 

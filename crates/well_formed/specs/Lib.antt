@@ -1,2 +1,3 @@
 -- What the contracts of `well_formed` cite beside the model.
 pub mod Tests
+pub mod Index

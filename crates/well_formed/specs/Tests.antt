@@ -1,5 +1,6 @@
 -- Question 2's tests of one place, as the code runs them: what they are together is the model's `bucket_formed`. And the place of a key.
-use Rattle.std.specs.Prelude.{ℕ, Bool, ◌&&◌, List, get_or, eqb}
+use Rattle.std.specs.Prelude.{ℕ, Bool, ◌&&◌, List, get_or, eqb, ◌≡◌, ◌<◌, Option}
+use Rattle.std.specs.Option.{MatchOption}
 use Rattle.model.specs.Base.{same, tabulate}
 use Rattle.model.specs.Key.{bucket_index}
 use Rattle.model.specs.Node.{Node}
@@ -31,6 +32,10 @@ nodes_here bs count = tabulate count (node_at bs)
 -- the place of a key, or the number of nodes where none has it
 abbrev pub place : ℕ → List Node → ℕ
 place k ns = before (λ (n : Node). same n.key k) ns
+
+-- what a search for a key among n nodes answers: its place, or nothing where none has it
+abbrev pub Position : ℕ → List Node → (n : ℕ) → Option ℕ → Type 0
+Position k ns n result = MatchOption result (place k ns ≡ n) (λ p. (place k ns ≡ p) × (p < n))
 
 -- record j of the queue
 unfoldable pub record_at_formed : List ℕ → ℕ → Bool

@@ -11,11 +11,12 @@ pub fn get_u64(s: &[u8]) -> u64
     requires { length s.now ≡ 8 }
     ensures { result ≡ number s.now }
 {
-    // Each byte by its index: `try_into` and `first_chunk` compile to the same, and have a longer proof.
+    // Each byte by its index: `try_into` and `first_chunk` have a longer proof.
     u64::from_be_bytes([s[0], s[1], s[2], s[3], s[4], s[5], s[6], s[7]])
 }
 
-// Internal: eight bytes become those of x.
+// Internal: eight bytes become those of x. A slice of its exact length, as all runs that are written: with an array of a range of `&mut`
+// bytes the proof of what the bytes become did not close.
 pub fn put_u64(s: &mut [u8], x: u64)
     requires { length s.old ≡ 8 }
     ensures { s.new ≡ bytes 8 x }
@@ -23,7 +24,7 @@ pub fn put_u64(s: &mut [u8], x: u64)
     s.copy_from_slice(&x.to_be_bytes());
 }
 
-// Internal: all bytes become zero.
+// Internal: all bytes become zero. By a name: `fill` says it under a premise on `clone`.
 pub fn put_zeros(s: &mut [u8])
     ensures { s.new ≡ zeros (length s.old) }
 {
@@ -31,7 +32,7 @@ pub fn put_zeros(s: &mut [u8])
 }
 
 // Internal: all bytes are zero. The loop has no early end, so that it takes 16 bytes at a time; a run of constant length is compiled
-// without a loop.
+// without a loop. `iter().all(..)` takes 1.8 times as long of 47 bytes, and 17 times of 752.
 pub fn all_zero(s: &[u8]) -> bool
     ensures { result ≡ every (λ b. eqb b 0) s.now }
 {
@@ -42,56 +43,40 @@ pub fn all_zero(s: &[u8]) -> bool
     x == 0
 }
 
-// All bytes but those behind the last whole STEP are zero. STEP bytes at a time: each step is a run of constant length.
-fn steps_zero<const STEP: usize>(s: &[u8]) -> bool
-    requires { 0 < STEP }
-    ensures { result ≡ are_zero s.now 0 (length s.now / STEP * STEP) }
+// Internal: all bytes are zero, of a long run: STEP bytes at a time, each of them a run of constant length, and at the end the last STEP,
+// some of them for the second time. Of a bucket's free places that takes two thirds of the instructions that it takes to read what is left
+// behind the steps by itself, and four fifths of the time.
+pub fn all_zero_by<const STEP: usize>(s: &[u8]) -> bool
+    requires { (0 < STEP) × (STEP ≤ 512) }
+    ensures { result ≡ every (λ b. eqb b 0) s.now }
 {
-    for i in 0..s.len() / STEP {
-        if !all_zero(&s[i * STEP..i * STEP + STEP]) {
+    let Some(last) = s.last_chunk::<STEP>() else {
+        return all_zero(s);
+    };
+    let (steps, _) = s.as_chunks::<STEP>();
+    for step in steps {
+        if !all_zero(step) {
             return false;
         }
     }
-    true
+    all_zero(last)
 }
 
-// Internal: all bytes are zero, of a long run: 512 bytes at a time.
-pub fn all_zero_long(s: &[u8]) -> bool
-    ensures { result ≡ every (λ b. eqb b 0) s.now }
-{
-    let rest = s.len() % 512;
-    steps_zero::<512>(s) && all_zero(&s[s.len() - rest..])
-}
-
-// Internal: all bytes are zero, of a run of some hundred bytes. 128 bytes at a time, and at the end the last 128, some of them for the
-// second time.
-pub fn all_zero_steps(s: &[u8]) -> bool
-    ensures { result ≡ every (λ b. eqb b 0) s.now }
-{
-    if s.len() < 128 {
-        return all_zero(s);
-    }
-    steps_zero::<128>(s) && all_zero(&s[s.len() - 128..])
-}
-
-// Internal: the bytes go up by `by` bytes, the last first; the last `by` go out, and the first `by` stay. Where `by` is constant the loop
-// is one `memmove`, and `copy_within` is not.
+// Internal: the bytes go up by `by` bytes; the last `by` go out, and the first `by` stay.
+#[tactic(auto, using(crate::proofs::Shift::moved_up))]
 pub fn shift_up(s: &mut [u8], by: usize)
     requires { (1 ≤ by) × (by ≤ length s.old) }
     ensures { s.new ≡ splice s.old by (part s.old 0 (length s.old - by)) }
 {
-    for i in (0..s.len() - by).rev() {
-        s[by + i] = s[i];
-    }
+    s.copy_within(..s.len() - by, by);
 }
 
-// Internal: the bytes go down by `by` bytes, the first first; the first `by` go out, and the last `by` stay. It compiles as `shift_up`
-// does.
+// Internal: the bytes go down by `by` bytes; the first `by` go out, and the last `by` stay. This and `shift_up` are two functions, since the
+// direction is what they are.
+#[tactic(auto, using(crate::proofs::Shift::moved_down))]
 pub fn shift_down(s: &mut [u8], by: usize)
     requires { by ≤ length s.old }
     ensures { s.new ≡ splice s.old 0 (part s.old by (length s.old - by)) }
 {
-    for i in 0..s.len() - by {
-        s[i] = s[by + i];
-    }
+    s.copy_within(by.., 0);
 }

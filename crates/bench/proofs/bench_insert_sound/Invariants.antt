@@ -7,4 +7,4 @@ invariant-loop-i l = l.seen ≤ l._i
 
 -- the bucket is a value with a fact, which a loop hands on as a pair
 abbrev pub invariant-loop-k : goal.invariant-loop-k
-invariant-loop-k l = (l.b.0.pending_timeout ≤ 60000) × Sound l.b.0
+invariant-loop-k l = (l.b.0.settings.pending_timeout ≤ 60000) × Sound l.b.0

@@ -1,28 +1,34 @@
-use Rattle.std.proofs.Common.{ℕ, [], refl, ap, ◌∙◌}
+use Rattle.std.proofs.Common.{ℕ, [], refl, ap}
 use Rattle.model.specs.Bucket as rules
-use Rattle.model.specs.Call.{is_one, optional}
+use Rattle.model.specs.Call.{is_one}
+use Rattle.node.specs.Status.{optional_of}
 use Rattle.on_key.proofs.Steps.{stepped}
 use Rattle.codes.specs.Codes.{update_code}
-use Rattle.bucket_calls.specs.Calls.{BucketCall, bucket_act}
+use Rattle.bucket_calls.specs.Calls.{BucketCall, updated_code, bucket_act}
 use Rattle.bucket_calls.proofs.Outcome.{size_asked, left_by, left_done}
 use Rattle.bucket_calls.proofs.update_status.Goals as goal
 
 pub returns-in_err-s : goal.returns-in_err-s
 returns-in_err-s c =
     let a = c.args in
-    left_by (BucketCall.update_status a.key.now a.state a.direction) a.s.now _ (size_asked a.s.now [] (BucketCall.update_status a.key.now a.state a.direction) c.in_err-s.ensures.value c.in_err-s.ensures.ok_part (rw c.in_err-s.ensures.ok_part at c.as_mut_array.ensures.cases)) c.from_residual.result c.from_residual.ensures.1
+    left_by (BucketCall.update_status a.key.now a.state a.direction) a.s.now updated_code _ (size_asked a.s.now [] (BucketCall.update_status a.key.now a.state a.direction) c.in_err-s.ensures.value c.in_err-s.ensures.ok_part (rw c.in_err-s.ensures.ok_part at c.as_mut_array.ensures.cases)) c.from_residual.result c.from_residual.ensures.1
 
-pub returns-in_err-asked : goal.returns-in_err-asked
-returns-in_err-asked c =
+pub returns-in_err-k : goal.returns-in_err-k
+returns-in_err-k c =
     let a = c.args in
     let w = rw c.in_ok-s.ensures.ok_part at c.as_mut_array.ensures.cases in
-    rw (← w.same) (left_by (BucketCall.update_status a.key.now a.state a.direction) c.in_ok-s.s.now _ c.in_err-asked.ensures.value c.from_residual-in_err-asked.result c.from_residual-in_err-asked.ensures.1)
+    rw (← w.same) (left_by (BucketCall.update_status a.key.now a.state a.direction) c.in_ok-s.s.now updated_code _ (rw (c.key_of.ensures.passes, c.of-status.ensures.passes) at c.in_err-k.ensures.value) c.from_residual-in_err-k.result c.from_residual-in_err-k.ensures.1)
 
 pub returns : goal.returns
 unfolding bucket_act
 returns c =
     let a = c.args in
     let w = rw c.in_ok-s.ensures.ok_part at c.as_mut_array.ensures.cases in
-    let z = stepped c.load.ensures (λ (u : rules.BucketSettings) (k : ℕ) (b : rules.Bucket). rules.update_status u k (is_one a.state) (optional a.direction) b) c.load-k.ensures c.update_status-step.ensures.result_value c.update_status-step.ensures.becomes in
+    let f = rw c.in_ok-k.ensures.passed.1 at c.of-status.ensures.value in
+    let step = c.update_status-step.ensures in
+    let u = c.in_ok-k.status in
+    let z =
+    rw (f.0, f.1) at (stepped c.load.ensures (λ (t : rules.BucketSettings) (k : ℕ) (b : rules.Bucket). rules.update_status t k (is_one u.state) (optional_of u.direction) b)
+    (rw c.in_ok-k.ensures.passed.0 at c.key_of.ensures.value) step.result_value step.becomes) in
     rw (← w.same)
-    (left_done (BucketCall.update_status a.key.now a.state a.direction) c.in_ok-s.s.now c.in_ok-asked.ensures.value (c.update_code.ensures ∙ ap update_code z.answer) z.bucket c.store.ensures refl)
+    (left_done (BucketCall.update_status a.key.now a.state a.direction) c.in_ok-s.s.now (rw (c.key_of.ensures.passes, c.of-status.ensures.passes) at c.in_ok-k.ensures.value) (ap update_code z.answer) z.bucket c.store.ensures refl)

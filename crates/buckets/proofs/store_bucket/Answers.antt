@@ -8,4 +8,5 @@ use Rattle.buckets.proofs.store_bucket.Goals as goal
 pub returns : goal.returns
 returns c =
     let s = c.args.b.now.sound in
-    put_mid_splice c.args.s.now _ _ c.store.ensures (length_bucket (bucket_of c.args.b.now.bucket) (rw (← count_of c.args.b.now.bucket s) s.few) ∙ omega arith)
+    rw c.bucket_range.ensures
+    (put_mid_splice c.args.s.now _ _ c.store.ensures (length_bucket (bucket_of c.args.b.now.bucket) (rw (← count_of c.args.b.now.bucket s) s.few) ∙ omega arith))

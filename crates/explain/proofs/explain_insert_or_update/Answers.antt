@@ -7,8 +7,7 @@ use Rattle.model.specs.Call.{is_one, value_of}
 use Rattle.model.specs.Session.{hours_questions}
 use Rattle.model.specs.Question.{first_failed, is_absent}
 use Rattle.model.specs.Explain.{told, table_filter_reason, insert_or_update_reason}
-use Rattle.laws.proofs.Tests.{and_turned}
-use Rattle.node.specs.Node.{argument_of, value_codes}
+use Rattle.node.specs.Node.{argument_of}
 use Rattle.table_filter.proofs.Asked.{failed_formed}
 use Rattle.on_key.proofs.Questions.{passed_five}
 use Rattle.on_key.proofs.Steps.{timely, timely_there, stepped}
@@ -16,7 +15,7 @@ use Rattle.on_key.proofs.Endings.{insert_or_update_records}
 use Rattle.session.specs.Hours.{hours_of}
 use Rattle.entry.proofs.Kind.{kind_self, kind_at}
 use Rattle.explanation.specs.Explanation.{reason_of}
-use Rattle.explain.proofs.Ends.{refused_exit, refused_size, refused_opening, refused_read, ends_local, ends_at, reason_told, node_with}
+use Rattle.explain.proofs.Ends.{opened_self, opened, refused_exit, refused_size, refused_opening, refused_read, ends_local, ends_at, reason_told, node_with}
 use Rattle.explain.proofs.explain_insert_or_update.Goals as goal
 use Rattle.explain.proofs.explain_insert_or_update.Goals.{then-fails, else-fails}
 
@@ -28,41 +27,36 @@ returns-in_err-s c =
 pub returns-in_err-k : goal.returns-in_err-k
 returns-in_err-k c =
     let same = rw c.in_ok-s.ensures.ok_part at c.as_array.ensures.cases in
-    rw (← same.same) (refused_opening _ _ _ _ _ _ c.from_residual-in_err-k.ensures.1 (rw c.in_range.ensures at c.in_err-k.ensures))
+    rw (← same.same) (refused_opening _ _ _ _ _ _ c.from_residual-in_err-k.ensures.1 (rw c.of-fields.ensures.passes at c.in_err-k.ensures))
 
 pub ended-requires-clause-header : goal.ended-requires-clause-header
 ended-requires-clause-header c =
-    let y = rw c.in_default.is at c.in_ok-k.ensures in
+    let y = opened_self _ _ _ _ c.of-fields.ensures.passes (rw c.in_default.is at c.in_ok-k.ensures) in
     (passed_five _ _ _ _ y.1.0).header
 
 pub returns-in_default : goal.returns-in_default
 returns-in_default c =
-    let y = rw (c.in_default.is, c.in_range.ensures) at c.in_ok-k.ensures in
+    let y = opened_self _ _ _ _ c.of-fields.ensures.passes (rw c.in_default.is at c.in_ok-k.ensures) in
     let hours = c.asked.ensures ∙ ap (λ (k : EntryKind). first_failed (hours_questions (hours_of c.args.hours) (not (is_absent k)))) (sym (kind_self c.in_ok-s.s.now c.args.key.now y.1.1)) in
     let same = rw c.in_ok-s.ensures.ok_part at c.as_array.ensures.cases in
     rw (← same.same) (ends_local _ _ _ _ y refl hours c.ended.ensures)
 
 pub returns-in_err-fails : goal.returns-in_err-fails
 returns-in_err-fails c =
-    let y = rw (c.in-Some.is, c.in_range.ensures) at c.in_ok-k.ensures in
+    let y = (opened _ c.of-fields.ensures.passes c.of-fields.ensures.value (rw c.in-Some.is at c.in_ok-k.ensures)).0 in
     let w = rw y.1.key_is at c.in_err-fails.ensures in
     let same = rw c.in_ok-s.ensures.ok_part at c.as_array.ensures.cases in
     rw (← same.same) (refused_exit _ _ c.from_residual-in_err-fails.ensures.1 (rw w.1 (refused_read _ _ _ _ y w.0)))
 
-pub invariant_of-node : goal.invariant_of-node
-invariant_of-node c =
-    let y = rw (c.in-Some.is, c.in_range.ensures) at c.in_ok-k.ensures in
-    record { codes = and_turned (value_codes c.args.value) _ _ (passed_five _ _ _ _ y.1.passed).in_range }
-
 pub insert_or_update_in-step-requires : goal.insert_or_update_in-step-requires
 insert_or_update_in-step-requires c =
     let y = rw c.in-Some.is at c.in_ok-k.ensures in
-    timely_there c.in_ok-s.s.now c.args.time c.apply_at-applied.ensures.bucket (timely c.in_ok-s.s.now c.args.key.now _ c.args.time y.1.passed)
+    timely_there c.in_ok-s.s.now c.args.time c.apply_at-applied.ensures.bucket (timely c.in_ok-s.s.now c.args.key.now _ c.args.time y.1.0.passed)
 
 pub invariant_of-why : goal.invariant_of-why
 invariant_of-why c =
     let y = rw c.in-Some.is at c.in_ok-k.ensures in
-    record { formed = failed_formed c.in_ok-s.s.now c.in-Some.i _ _ c.in_ok-fails.fails c.in_ok-fails.ensures c.if-fails.true y.1.ready.header }
+    record { formed = failed_formed c.in_ok-s.s.now c.in-Some.i _ _ c.in_ok-fails.fails c.in_ok-fails.ensures c.if-fails.true y.1.0.ready.header }
 
 pub returns : goal.returns
 returns c =
@@ -70,10 +64,12 @@ returns c =
     let s = c.in_ok-s.s.now in
     let same = rw c.in_ok-s.ensures.ok_part at c.as_array.ensures.cases in
     let x = hours_of a.hours in
-    let y = rw (c.in-Some.is, c.in_range.ensures) at c.in_ok-k.ensures in
+    let opening = opened _ c.of-fields.ensures.passes c.of-fields.ensures.value (rw c.in-Some.is at c.in_ok-k.ensures) in
+    let y = opening.0 in
     let w = rw y.1.key_is at c.in_ok-fails.ensures in
     let p = c.apply_at-applied.ensures in
-    let step = c.insert_or_update_in-step.ensures in
+    let made = rw (opening.1.0, opening.1.1) at c.with_key-node.ensures in
+    let step = rw made at c.insert_or_update_in-step.ensures in
     let t = table_of s in
     let i = c.in-Some.i in
     let v = value_of (argument_of a.value) in
@@ -88,8 +84,8 @@ returns c =
     let hours = c.asked-asked.ensures ∙ ap (λ (q : EntryKind). first_failed (hours_questions x (not (is_absent q)))) (ap (λ (n : ℕ). kind_of n (t.buckets i)) y.1.key_is ∙ sym (kind_at s a.key.now i y.1.index)) in
     let told_why : reason_of c.if-fails.why ≡ why c.in_ok-fails.fails =
     elim c.if-fails.branch [
-      | then-fails z ↦ rw (z.why-is, z.if-fails.true) (ap (λ (n : ℕ). table_filter_reason n v t.buckets) y.1.key_is)
-      | else-fails z ↦ rw (z.why-is, z.if-fails.false) (reason_told _ p.bucket G y.1.key_is z.insert_or_update_reason-why.ensures)
+      | then-fails z ↦ rw (z.why-is, z.if-fails.true, made) (ap (λ (n : ℕ). table_filter_reason n v t.buckets) y.1.key_is)
+      | else-fails z ↦ rw (z.why-is, z.if-fails.false) (reason_told _ p.bucket G y.1.key_is (rw made at z.insert_or_update_reason-why.ensures))
     ] in
     rw (← same.same)
     (ends_at _ _ _ _ y (inr w.0) refl hours

@@ -34,7 +34,7 @@ returns c =
     let same = rw c.in_ok-s.ensures.ok_part at c.as_array.ensures.cases in
     let y = rw c.in-Some.is at c.in_ok-k.ensures in
     let x = c.apply_at-applied.ensures in
-    let z = stepped x.bucket (λ (u : rules.BucketSettings) (n : ℕ) (b : rules.Bucket). rules.remove u c.args.time n b) y.1.key_is c.remove-step.ensures.result_value c.remove-step.ensures.becomes in
+    let z = stepped x.bucket (λ (u : rules.BucketSettings) (n : ℕ) (b : rules.Bucket). rules.remove u c.args.time n b) y.1.0.key_is c.remove-step.ensures.result_value c.remove-step.ensures.becomes in
     rw (← same.same)
-    (ends_at _ _ _ _ y (inl refl) refl refl (no_own x.records) (ap model.Told.Removed z.answer)
-    (reason_told _ x.bucket (λ (u : rules.BucketSettings) (n : ℕ) (b : rules.Bucket). remove_reason n b) y.1.key_is c.remove_reason-why.ensures) c.ended-2.ensures)
+    (ends_at _ _ _ _ (y.0, y.1.0) (inl refl) refl refl (no_own x.records) (ap model.Told.Removed z.answer)
+    (reason_told _ x.bucket (λ (u : rules.BucketSettings) (n : ℕ) (b : rules.Bucket). remove_reason n b) y.1.0.key_is c.remove_reason-why.ensures) c.ended-2.ensures)

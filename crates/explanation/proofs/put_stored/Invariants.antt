@@ -4,5 +4,5 @@ use Rattle.well_formed.specs.Tests.{node_at}
 use Rattle.explanation.specs.Put.{PutKeys, passes}
 use Rattle.explanation.proofs.put_stored.Given as goal
 
-abbrev pub invariant-loop-j : goal.invariant-loop-j
-invariant-loop-j l = PutKeys (keys_of (select (passes l.test) (tabulate l.j (node_at l.held.bucket.now)))) l.fn.out l.out l.n
+abbrev pub invariant-loop-place : goal.invariant-loop-place
+invariant-loop-place l = PutKeys (keys_of (select (passes l.test) (tabulate l.place-index (node_at l.held.bucket.now)))) l.fn.out l.out l.n

@@ -4,5 +4,7 @@ use Rattle.bucket.specs.Settings.{settings_of}
 use Rattle.held.proofs.Steps.{insert_held}
 use Rattle.held.proofs.insert.Goals as goal
 
-pub returns-then-position-from : goal.returns-then-position-from
-returns-then-position-from c = insert_held c.requires (settings_of c.args.now.settings) (node_of c.args.node.node) c.args.now.time (omega (arith, rw c.nodes.ensures at c.position.ensures))
+pub returns-in-Some : goal.returns-in-Some
+returns-in-Some c =
+    let f = rw c.nodes.ensures at c.in-Some.ensures in
+    insert_held c.requires (settings_of c.args.now.settings) (node_of c.args.node.node) c.args.now.time (omega (arith, f.0, f.1))

@@ -3,8 +3,8 @@ use Rattle.kbuckets.proofs.kbuckets_insert_or_update.Goals as goal
 
 pub returns-in-Ok : goal.returns-in-Ok
 returns-in-Ok c =
-    let x = c.insert_reply in
-    replied _ _ _ c.if-answer-lt-BYTES.false x.result c.in-Ok.ensures x.ensures.code x.ensures.carried c.put.ensures.code c.put.ensures.answer_after
+    let x = c.from in
+    replied _ _ _ c.if-answer-lt-BYTES.false x.result (rw (c.value_of-value.ensures, c.hours_of-hours.ensures) at c.in-Ok.ensures) x.ensures.0 x.ensures.1 c.put.ensures.code c.put.ensures.answer_after
 
 pub returns-in-Err : goal.returns-in-Err
-returns-in-Err c = refuses _ _ _ c.if-answer-lt-BYTES.false c.in-Err.ensures c.refused.ensures
+returns-in-Err c = refuses _ _ _ c.if-answer-lt-BYTES.false (rw (c.value_of-value.ensures, c.hours_of-hours.ensures) at c.in-Err.ensures) c.refused.ensures

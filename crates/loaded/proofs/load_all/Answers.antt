@@ -11,7 +11,7 @@ pub build-requires : goal.build-requires
 build-requires c =
     let i = c.loop-i.i in
     record {
-      bucket_value = filling_zero c.args.s.now c.args.saved.bytes.now i c.loop-i-test.true _ c.loop-i.invariant.1;
+      bucket_value = rw c.bucket_range.ensures (filling_zero c.args.s.now c.args.saved.bytes.now i c.loop-i-test.true _ c.loop-i.invariant.1);
       i_bound = c.requires.held i c.loop-i-test.true;
     }
 
@@ -19,8 +19,8 @@ pub loop-i-preserved : goal.loop-i-preserved
 loop-i-preserved c =
     let b = c.args.saved in
     let l = c.loop-i in (
-      omega (arith, below_next b.bytes.now l.i, c.count-from.ensures.count),
-      filling_next c.args.s.now b.bytes.now b.counted b.sized c.requires.held l.i c.loop-i-test.true _ l.invariant.1 c.build.ensures,
+      omega (arith, below_next b.bytes.now l.i, c.count.ensures.count),
+      rw c.bucket_range.ensures (filling_next c.args.s.now b.bytes.now b.counted b.sized c.requires.held l.i c.loop-i-test.true _ l.invariant.1 c.build.ensures),
     )
 
 pub returns : goal.returns

@@ -1,4 +1,4 @@
-use Rattle.std.proofs.Common.{rules, ◌∙◌}
+use Rattle.std.proofs.Common.{rules}
 use borrow.Author.Tests.{tests}
 use Rattle.std.proofs.lemmas.Iterator.{YieldsList-from_slice}
 use Rattle.std.proofs.lemmas.Iterator.Search.{position_from_yields_List}
@@ -10,6 +10,5 @@ use Rattle.places.proofs.position.Goals as goal
 
 pub returns : goal.returns
 returns c =
-    c.unwrap_or.ensures
-    ∙ place_found (λ (n : Node). same (num n.key) (num c.args.key)) c.args.nodes.now c.position.result
+    place_found (λ (n : Node). same (num n.key) (num c.args.key)) c.args.nodes.now c.position.result
     (position_from_yields_List (λ (n : Node). same (num n.key) (num c.args.key)) _ _ c.position.result c.position.ensures.ran (YieldsList-from_slice c.args.nodes.now cc) (λ x b q k. search (rules, tests)))

@@ -1,32 +1,27 @@
-use Rattle.std.proofs.Common.{◌≡◌, ◌≤◌, Bool, ◌&&◌, sym, ap, ◌∙◌}
+use Rattle.std.proofs.Common.{◌≡◌, Bool, refl, sym, ap, ◌∙◌}
+use Rattle.std.specs.Prelude.{Some}
 use Rattle.std.proofs.Math.Option.{Option, some}
-use lib.Dec.{leb}
-use borrow.Author.Tests.{leb-true}
 use Rattle.model.specs.Result.{is_failed}
 use Rattle.model.specs.Bucket as rules
-use Rattle.model.specs.Call.{is_one, optional}
+use Rattle.model.specs.Call.{is_one}
 use Rattle.model.specs.Explain.{status_reason, value_reason}
-use Rattle.laws.proofs.Tests.{and_left, and_right}
 use Rattle.key.specs.Key.{num}
 use Rattle.node.specs.declared.NodeInRange.{NodeInRange}
 use Rattle.node.specs.declared.StatusUpdate.{StatusUpdate}
-use Rattle.node.specs.Node.{value_of, node_of, value_codes}
+use Rattle.node.specs.Node.{value_of, node_of}
+use Rattle.node.specs.Status.{optional_of}
 use Rattle.bucket.specs.declared.UpdateResult.{UpdateResult}
 use Rattle.bucket.specs.Bucket.{bucket_of, settings_of}
 use Rattle.bucket.specs.Calls.{update_result_of}
 use Rattle.bucket.proofs.Steps.{told}
-use Rattle.bucket.proofs.Answers.{given_direction}
 use Rattle.bucket_update.proofs.Rules.{not_failed}
 use Rattle.reasons.proofs.Rules.{inserts, updates_failed, updates}
 use Rattle.reasons.proofs.insert_or_update_reason.Goals as goal
 
 -- the status of a node in range is given, and so is its direction
-module _ (n : NodeInRange) (x : StatusUpdate) (e : (x.state ≡ n.node.status.state) × (x.direction ≡ n.node.status.direction)) where
-  given : {A : Type 0} (F : Bool → Option Bool → A) → F (is_one x.state) (optional x.direction) ≡ F (node_of n.node).connected (some (node_of n.node).incoming)
-  given F =
-      let d = n.node.status.direction in
-      let low : d ≤ 1 = leb-true d 1 (and_left (leb d 1) (value_codes n.node.value) (and_right (leb n.node.status.state 1) (leb d 1 && value_codes n.node.value) n.codes)) in
-      rw (e.0, e.1, given_direction d low)
+module _ (n : NodeInRange) (x : StatusUpdate) (e : (x.state ≡ n.node.status.state) × (x.direction ≡ Some n.node.status.direction)) where
+  given : {A : Type 0} (F : Bool → Option Bool → A) → F (is_one x.state) (optional_of x.direction) ≡ F (node_of n.node).connected (some (node_of n.node).incoming)
+  given F = rw (e.0, e.1) refl
 
 pub returns-then-not-holds : goal.returns-then-not-holds
 returns-then-not-holds c =

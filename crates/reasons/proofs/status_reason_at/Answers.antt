@@ -2,9 +2,10 @@ use Rattle.std.proofs.Common.{◌≡◌, Bool, ap, ap₂, ◌∙◌}
 use lib.ListN.{get_or}
 use Rattle.model.specs.Node as model
 use Rattle.model.specs.Bucket as rules
-use Rattle.model.specs.Call.{is_one, optional}
+use Rattle.model.specs.Call.{is_one}
 use Rattle.model.specs.Explain.{reinsert_reason}
 use Rattle.node.specs.Node.{node_of, zero_node, restated}
+use Rattle.node.specs.Status.{optional_of}
 use Rattle.node.proofs.Stored.{node_of_restated}
 use Rattle.bucket.specs.Bucket.{bucket_of, settings_of, key_at}
 use Rattle.bucket.proofs.Steps.{told, get_at}
@@ -17,7 +18,7 @@ returns c =
     let status = c.args.status in
     let k = key_at b.bucket c.args.pos in
     let u = is_one status.state in
-    let d = optional status.direction in
+    let d = optional_of status.direction in
     let old = get_or b.bucket.nodes c.args.pos zero_node in
     let new : node_of c.with_status.result.node ≡ model.with_status u d (node_of old) =
     ap node_of (c.with_status.ensures ∙ ap (restated status.state status.direction) c.node_at.ensures) ∙ node_of_restated status.state status.direction old in

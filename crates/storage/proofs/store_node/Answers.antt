@@ -2,4 +2,4 @@ use Rattle.storage.proofs.Bytes.{node_put}
 use Rattle.storage.proofs.store_node.Goals as goal
 
 pub returns : goal.returns
-returns c = node_put c.args.s.now c.args.n c.requires.1 c.requires.0 _ _ c.store.ensures c.store_value.ensures
+returns c = node_put c.args.s.now c.args.n.node c.args.n.codes c.requires _ _ c.store.ensures (rw c.value.ensures at c.store_value.ensures)

@@ -1,27 +1,21 @@
-use Rattle.std.proofs.Common.{◌≡◌, sym, ap, get_or, ◌∙◌, arith}
-use Rattle.laws.proofs.Lists.{all_none, all_more, all_fails}
-use Rattle.key.specs.Key.{num}
-use Rattle.storage.specs.Read.{read_node}
-use Rattle.well_formed.specs.Tests.{of_index, place_formed}
-use Rattle.well_formed.proofs.Places.{place_formed_lem}
+use Rattle.std.proofs.Common.{rules, ◌∙◌, List, ℕ, Bool, ap, get_or}
+use Rattle.std.proofs.lemmas.Iterator.{YieldsList-from_slice}
+use Rattle.std.proofs.lemmas.Iterator.Consumers.{YieldsList-from_enumerate}
+use Rattle.std.proofs.lemmas.Iterator.Search.{all_from_yields_List}
+use Rattle.std.specs.List.{enumerate_from, list_all}
+use Rattle.model.specs.Layout.{place_in}
+use Rattle.well_formed.specs.Index.{has_index}
+use Rattle.well_formed.specs.Tests.{place_formed}
+use Rattle.well_formed.proofs.Shown.{all_shown, formed_by, formed_by_lem}
 use Rattle.well_formed.proofs.places_formed.Goals as goal
-use Rattle.well_formed.proofs.places_formed.Goals.{After-node_formed}
 
--- what node_formed answers is the test of the place
-tested : (c : After-node_formed) → let a = c.args in place_formed (of_index (num a.index.local) a.index.i) (get_or a.nodes.bucket.now 1 0) a.nodes.bucket.now c.loop-j.j ≡ c.node_formed.result
-tested c =
+pub returns : goal.returns
+unfolding place_formed
+returns c =
     let a = c.args in
-    place_formed_lem a.nodes.bucket.now c.loop-j.j (of_index (num a.index.local) a.index.i) (get_or a.nodes.bucket.now 1 0) c.load_node-n.result (c.load_node-n.ensures ∙ ap read_node c.place.ensures)
-    ∙ rw (← c.from-first.ensures, ← c.state_at.ensures) (sym c.node_formed.ensures)
-
-pub loop-j-init : goal.loop-j-init
-loop-j-init c = all_none _
-
-pub returns-then-not-node_formed : goal.returns-then-not-node_formed
-returns-then-not-node_formed c =
-    sym (all_fails c.args.nodes.count _ c.loop-j.j (omega arith) (tested (goal.at.returns-then-not-node_formed c).After-node_formed ∙ c.if-not-node_formed.true))
-
-pub loop-j-preserved : goal.loop-j-preserved
-loop-j-preserved c =
-    let x = tested (goal.at.loop-j-preserved c).After-node_formed ∙ c.if-not-node_formed.false in
-    rw (all_more, c.loop-j.invariant, x)
+    let bs : List ℕ = a.nodes.bucket.now in
+    let first : ℕ = get_or bs 1 0 in
+    let t : ℕ × List ℕ → Bool = formed_by (has_index a.index) first in
+    all_from_yields_List t _ _ c.all.result c.all.ensures.ran (YieldsList-from_enumerate (YieldsList-from_slice c.places.result.now cc) (cc)) (λ x b q k. (search rules, search (rules, formed_by_lem)))
+    ∙ ap (λ (l : List (List ℕ)). list_all t (enumerate_from 0 l)) c.places.ensures
+    ∙ all_shown t a.nodes.count (place_in bs)

@@ -45,12 +45,12 @@ returns c =
     let free : c.split_at.result.1.now ≡ drop b.count (take 16 b.nodes) = c.split_at.ensures.back ∙ ap (drop b.count) (sym (take_all 16 b.nodes (omega arith))) in
     let d = c.all_different-different.result in
     let p = c.in_places-placed.result in
-    let i = leb c.incoming.result b.max_incoming in
+    let i = leb c.incoming.result b.settings.max_incoming in
     let w = c.pending_sound-pending.result in
-    let rest = i && (w && (leb b.max_incoming 16 && leb b.filter 1)) in
+    let rest = i && (w && (leb b.settings.max_incoming 16 && leb b.settings.filter 1)) in
     let e =
     passes b (le-leb _ _ c.if-self-gt-MAX_NODES_PER_BUCKET.false) (le-leb _ _ c.if-self.false) d p i w (rw held at c.all_different-different.ensures)
-    (c.in_places-placed.ensures.value ∙ in_parts low high free) (ap (λ (k : ℕ). leb k b.max_incoming) (rw held at c.incoming.ensures))
+    (c.in_places-placed.ensures.value ∙ in_parts low high free) (ap (λ (k : ℕ). leb k b.settings.max_incoming) (rw held at c.incoming.ensures))
     ((rw held at c.pending_sound-pending.ensures.value) ∙ pending_test b b.pending) in
     record {
       value = e;

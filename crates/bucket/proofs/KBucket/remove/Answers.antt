@@ -14,7 +14,7 @@ unfolding remove_call
 returns-in-Ok c =
     let b = c.args.self in
     accepted b (first_failed (questions b (true) (some c.args.now))) (rules.remove (settings_of b) c.args.now (num c.args.key) (bucket_of b)) (λ (found : Bool). found) c.answered.result _ _
-    (sym c.in-Ok.ensures.value) c.answered.ensures c.remove.ensures.result_value c.remove.ensures.becomes
+    (sym c.in-Ok.ensures.value) c.answered.ensures c.remove.ensures
 
 pub returns-in-Err : goal.returns-in-Err
 unfolding remove_call

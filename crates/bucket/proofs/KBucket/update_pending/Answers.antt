@@ -1,5 +1,5 @@
-use mathlib.Core.Path.{refl, sym}
-use mathlib.Core.Bool.{◌&&◌}
+use mathlib.Core.Path.{◌≡◌, refl, sym, ap, ◌∙◌}
+use mathlib.Core.Bool.{Bool, ◌&&◌}
 use mathlib.Core.Option.{none}
 use lib.Dec.{leb}
 use Rattle.model.specs.Bucket as rules
@@ -16,8 +16,10 @@ returns-in-Ok c =
     let b = c.args.self in
     let st = c.args.status in
     let x : Unit {0} × rules.Bucket = (tt, rules.update_pending (is_one st.state) (is_one st.direction) (bucket_of b)) in
+    let codes = ap (λ (t : Bool). first_failed (questions b t none)) (sym c.of.ensures.passes) in
+    let same : c.in-Ok.status.status ≡ st = rw c.in-Ok.ensures.passed.1 at c.of.ensures.value in
     accepted b (first_failed (questions b (leb st.state 1 && leb st.direction 1) none)) x (λ (u : Unit {0}). u) _ _ _
-    (sym c.in-Ok.ensures.value) refl refl c.update_pending.ensures
+    (codes ∙ sym c.in-Ok.ensures.value) refl (record { result_value = refl; becomes = rw same at c.update_pending.ensures })
 
 pub returns-in-Err : goal.returns-in-Err
 unfolding update_pending_call
@@ -25,5 +27,6 @@ returns-in-Err c =
     let b = c.args.self in
     let st = c.args.status in
     let x : Unit {0} × rules.Bucket = (tt, rules.update_pending (is_one st.state) (is_one st.direction) (bucket_of b)) in
+    let codes = ap (λ (t : Bool). first_failed (questions b t none)) c.of.ensures.passes in
     refused b (first_failed (questions b (leb st.state 1 && leb st.direction 1) none)) x (λ (u : Unit {0}). u) c.refused.result c.in-Err.refusal
-    c.in-Err.ensures.value c.refused.ensures
+    (c.in-Err.ensures.value ∙ codes) c.refused.ensures

@@ -1,4 +1,4 @@
-use mathlib.Core.Path.{sym, ap, ◌∙◌}
+use mathlib.Core.Path.{◌≡◌, sym, ap, ◌∙◌}
 use mathlib.Core.Bool.{Bool}
 use mathlib.Core.Option.{none}
 use Rattle.model.specs.Bucket as rules
@@ -14,16 +14,17 @@ pub returns-in-Ok : goal.returns-in-Ok
 unfolding update_value_call
 returns-in-Ok c =
     let b = c.args.self in
-    let codes = ap (λ (t : Bool). first_failed (questions b t none)) (sym c.in_range.ensures) in
+    let codes = ap (λ (t : Bool). first_failed (questions b t none)) (sym c.of.ensures.passes) in
+    let same : c.in-Ok.value.value ≡ c.args.value = rw c.in-Ok.ensures.passed.1 at c.of.ensures.value in
     accepted b (first_failed (questions b (value_codes c.args.value) none))
     (rules.update_value (settings_of b) (num c.args.key) (value_of c.args.value) (bucket_of b)) update_result_of c.answered.result _ _
-    (codes ∙ sym c.in-Ok.ensures.value) c.answered.ensures c.update_value.ensures.result_value c.update_value.ensures.becomes
+    (codes ∙ sym c.in-Ok.ensures.value) c.answered.ensures (rw same at c.update_value.ensures)
 
 pub returns-in-Err : goal.returns-in-Err
 unfolding update_value_call
 returns-in-Err c =
     let b = c.args.self in
-    let codes = ap (λ (t : Bool). first_failed (questions b t none)) (c.in_range.ensures) in
+    let codes = ap (λ (t : Bool). first_failed (questions b t none)) c.of.ensures.passes in
     refused b (first_failed (questions b (value_codes c.args.value) none))
     (rules.update_value (settings_of b) (num c.args.key) (value_of c.args.value) (bucket_of b)) update_result_of c.refused.result c.in-Err.refusal
     (c.in-Err.ensures.value ∙ codes) c.refused.ensures

@@ -1,15 +1,14 @@
-use mathlib.Core.Path.{◌≡◌, sym, ap, ◌∙◌, subst}
+use mathlib.Core.Path.{◌≡◌, refl, ap, ◌∙◌}
 use Rattle.model.specs.Bucket as rules
-use Rattle.model.specs.Node as model
 use Rattle.key.specs.Key.{num}
 use Rattle.laws.proofs.Applied.{apply_none}
 use Rattle.node.specs.declared.Node.{Node}
 use Rattle.node.specs.Node.{node_of}
-use Rattle.bucket.specs.Bucket.{pending_of, bucket_of, settings_of, Becomes}
-use mathlib.Core.List.{List, []}
+use Rattle.bucket.specs.Bucket.{pending_of, bucket_of, settings_of, records_first}
+use mathlib.Core.List.{[]}
 use Rattle.node.proofs.Stored.{stored_codes}
 use Rattle.bucket.proofs.Sound.{becomes_itself}
-use Rattle.bucket.proofs.Steps.{done_apply, told, then_becomes}
+use Rattle.bucket.proofs.Steps.{by_apply, told, then_does}
 use Rattle.bucket.proofs.Rules.{apply_later, apply_due_lem}
 use Rattle.bucket.proofs.Answers.{pending_stored, pending_apart}
 use Rattle.bucket.proofs.SoundBucket.apply_pending.Goals.{in_default-via-in-Some+else-pending-now, in_default-via-in_default}
@@ -37,15 +36,8 @@ returns-in-Some c =
     let now = c.args.now in
     let n : Node = c.in-Some.pending.node in
     let x = c.without_pending.ensures in
-    let a = apply_due_lem s now (bucket_of b) _ (ap pending_of c.in-Some.is) c.if-pending-now.true in
-    record {
-      result_value =
-          c.apply_due.ensures.result_value now ∙ told x (λ (s' : rules.BucketSettings) (m' : rules.Bucket). (rules.apply_due s' now (node_of n) m').1)
-          ∙ ap (λ (y : rules.Bucket × List model.EndedPending). y.1) (sym a);
-      becomes =
-          subst (λ (y : rules.Bucket × List model.EndedPending). Becomes s y.0 c.apply_due.result.bucket.bucket) (sym a)
-          (then_becomes x (λ (s' : rules.BucketSettings) (m' : rules.Bucket). (rules.apply_due s' now (node_of n) m').0) (c.apply_due.ensures.becomes now));
-    }
+    by_apply (apply_due_lem s now (bucket_of b) _ (ap pending_of c.in-Some.is) c.if-pending-now.true)
+    (then_does x (λ (s' : rules.BucketSettings) (m' : rules.Bucket). records_first (rules.apply_due s' now (node_of n) m')) (c.apply_due.ensures now))
 
 pub returns-in_default : goal.returns-in_default
 returns-in_default c =
@@ -57,5 +49,4 @@ returns-in_default c =
       | in_default-via-in-Some+else-pending-now w ↦ apply_later s c.args.now m _ (ap pending_of w.in-Some.is) w.if-pending-now.false
       | in_default-via-in_default w ↦ apply_none s c.args.now m (ap pending_of w.in_default.is)
     ] in
-    let d = done_apply s (rules.apply_pending s c.args.now m) m [] b later (becomes_itself b c.args.self.sound) in
-    rw c.stays.ensures (record { result_value = d.0; becomes = d.1 })
+    rw c.stays.ensures (by_apply later (record { result_value = refl; becomes = becomes_itself b c.args.self.sound }))

@@ -4,8 +4,7 @@ use Prim.Native.Nat.{◌+◌}
 use native.Mathlib.Omega.{arith}
 use lib.ListN.{get_or}
 use Rattle.model.specs.Bucket as rules
-use Rattle.model.specs.Result.{BucketInsertResult}
-use Rattle.key.specs.Key.{num, Words}
+use Rattle.key.specs.Key.{Words}
 use Rattle.node.specs.declared.Node.{Node}
 use Rattle.node.specs.Node.{node_of, zero_node}
 use Rattle.node.proofs.Stored.{stored_node_of}
@@ -20,7 +19,7 @@ use Rattle.bucket.proofs.SoundBucket.insert_full.Goals.{After-with_pending}
 
 module _ (c : After-with_pending) where
   abbrev waiting : PendingNode
-  waiting = record { node = c.args.node.node; deadline = c.args.now + c.args.self.bucket.pending_timeout }
+  waiting = record { node = c.args.node.node; deadline = c.args.now + c.args.self.bucket.settings.pending_timeout }
 
   pends : Becomes (settings_of c.args.self.bucket) (rules.with_pending (pending_of (Some waiting)) (bucket_of c.args.self.bucket)) c.with_pending.result
   pends =
@@ -33,16 +32,15 @@ module _ (c : After-with_pending) where
 pub invariant_of-result : goal.invariant_of-result
 invariant_of-result c = record { sound = (pends (goal.at.invariant_of-result c).After-with_pending).sound }
 
-pub returns-clause-becomes : goal.returns-clause-becomes
-returns-clause-becomes c =
+pub returns : goal.returns
+returns c =
     let b = c.args.self.bucket in
     let s = settings_of b in
     let m = bucket_of b in
     let n = node_of c.args.node.node in
     let now = c.args.now in
-    let x = rules.insert_full s now n m n.connected m.disconnected m.pending in
     let rest = some_disconnected b c.args.self.sound (omega (arith, c.if-b-eq0.false)) in
     let empty : m.pending ≡ none = none_is m.pending (waits b.pending ∙ sym c.is_some.ensures ∙ c.if-is_some.false) in
-    (done s x (BucketInsertResult.Pending (num (get_or b.nodes 0 zero_node).key)) _ c.with_pending.result
+    done
     (full_becomes_pending s now n m (node_of (get_or b.nodes 0 zero_node)) rest.0 (sym c.is_connected.ensures ∙ c.if-not-is_connected.false) rest.1 empty)
-    (pends (goal.at.returns-clause-becomes c).After-with_pending)).1
+    (pends (goal.at.returns c).After-with_pending)

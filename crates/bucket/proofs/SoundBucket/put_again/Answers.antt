@@ -2,8 +2,8 @@ use Rattle.std.proofs.Common.{ℕ, sym, ap, ◌∙◌}
 use lib.ListN.{get_or}
 use Rattle.model.specs.Bucket as rules
 use Rattle.node.specs.Node.{node_of, zero_node}
-use Rattle.bucket.specs.Bucket.{bucket_of, settings_of}
-use Rattle.bucket.proofs.Steps.{then_becomes, told}
+use Rattle.bucket.specs.Bucket.{bucket_of, settings_of, stated}
+use Rattle.bucket.proofs.Steps.{then_does}
 use Rattle.bucket.proofs.Held.{room, not_held}
 use Rattle.bucket.proofs.SoundBucket.put_again.Goals as goal
 
@@ -23,8 +23,4 @@ returns c =
     let n = node_of c.args.node.node in
     let old = node_of (get_or b.nodes c.args.pos zero_node) in
     let x = rw (c.is_connected.ensures, c.requires.pos_value) at c.rest_at.ensures in
-    record {
-      result_value =
-          c.reinserted.ensures.result_value ∙ told x (λ (t : rules.BucketSettings) (m : rules.Bucket). rules.status_result old n (rules.reinsert t n m).0);
-      becomes = then_becomes x (λ (t : rules.BucketSettings) (m : rules.Bucket). (rules.reinsert t n m).1) c.reinserted.ensures.becomes;
-    }
+    then_does x (λ (t : rules.BucketSettings) (m : rules.Bucket). stated old n (rules.reinsert t n m)) c.reinserted.ensures

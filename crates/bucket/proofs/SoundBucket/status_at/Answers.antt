@@ -1,15 +1,16 @@
 use mathlib.Core.Path.{◌≡◌, refl, sym, ap, ◌∙◌, subst}
 use lib.ListN.{get_or}
 use Rattle.model.specs.Bucket as rules
-use Rattle.model.specs.Result.{UpdateResult}
 use Rattle.model.specs.Node as model
-use Rattle.model.specs.Call.{is_one, optional}
+use Rattle.model.specs.Call.{is_one}
+use Rattle.node.specs.Status.{optional_of}
 use Rattle.key.specs.Key.{num}
 use Rattle.node.specs.declared.Node.{Node}
 use Rattle.node.specs.Node.{node_of, zero_node, restated}
 use Rattle.node.proofs.Stored.{node_of_restated}
-use Rattle.bucket.specs.Bucket.{bucket_of, settings_of, Becomes, key_at}
-use Rattle.bucket.proofs.Steps.{get_at}
+use Rattle.bucket.specs.Bucket.{bucket_of, settings_of, Does, stated, key_at}
+use Rattle.bucket.specs.Calls.{update_result_of}
+use Rattle.bucket.proofs.Steps.{get_at, by_rule}
 use Rattle.bucket.proofs.Rules.{status_held}
 use Rattle.bucket.proofs.SoundBucket.status_at.Goals as goal
 use Rattle.bucket.proofs.SoundBucket.status_at.Goals.{After-with_status}
@@ -29,18 +30,12 @@ returns c =
     let m = bucket_of b in
     let old = node_of (get_or b.nodes c.args.pos zero_node) in
     let u = is_one c.args.status.state in
-    let d = optional c.args.status.direction in
+    let d = optional_of c.args.status.direction in
     let new = model.with_status u d old in
     let is-new : node_of c.with_status.result.node ≡ new =
     ap node_of (made (goal.at.returns c).After-with_status) ∙ node_of_restated c.args.status.state c.args.status.direction (get_or b.nodes c.args.pos zero_node) in
     let r = rules.reinsert s new (rules.taken_out new.key u m) in
     let held = status_held s (key_at b c.args.pos) u d m old r.0 r.1 (get_at b c.args.self.now.sound c.args.pos c.requires) refl in
-    record {
-      result_value =
-          c.put_again.ensures.result_value
-          ∙ ap (λ (n : model.Node). rules.status_result old n (rules.reinsert s n (rules.taken_out n.key n.connected m)).0) is-new
-          ∙ ap (λ (y : UpdateResult × rules.Bucket). y.0) (sym held);
-      becomes =
-          subst (λ (y : UpdateResult × rules.Bucket). Becomes s y.1 c.put_again.result.bucket.bucket) (sym held)
-          (subst (λ (n : model.Node). Becomes s (rules.reinsert s n (rules.taken_out n.key n.connected m)).1 c.put_again.result.bucket.bucket) is-new c.put_again.ensures.becomes);
-    }
+    by_rule held
+    (subst (λ (n : model.Node). Does s (stated old n (rules.reinsert s n (rules.taken_out n.key n.connected m))) (update_result_of c.put_again.result.result) c.put_again.result.bucket.bucket)
+    is-new c.put_again.ensures)

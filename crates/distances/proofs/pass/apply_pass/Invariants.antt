@@ -1,5 +1,9 @@
-use Rattle.distances.proofs.Passes.{Passing}
+use Rattle.std.proofs.Common.{length, drop}
+use Rattle.model.specs.Listing.{buckets_at}
+use Rattle.visit.proofs.Applying.{Appliable, Applying}
 use Rattle.distances.proofs.pass.apply_pass.Given as goal
 
-abbrev pub invariant-loop-d : goal.invariant-loop-d
-invariant-loop-d l = Passing l.fn.s l.time l.tally.taken.now l.s l.d-index
+abbrev pub invariant-loop-i : goal.invariant-loop-i
+invariant-loop-i l =
+    Appliable l.fn.s l.time (buckets_at l.tally.taken.now)
+    × Applying l.fn.s l.time (buckets_at l.tally.taken.now) l.s (drop (length l.yielded) (buckets_at l.tally.taken.now))

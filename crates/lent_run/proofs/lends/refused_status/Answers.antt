@@ -7,7 +7,7 @@ use Rattle.lent_run.proofs.lends.refused_status.Goals as goal
 
 pub returns : goal.returns
 returns c =
-    let e = steps c.broken.ensures c.key_from.ensures c.update_status_by.ensures ∙ step_refused in record {
+    let e = steps c.broken.ensures c.from.ensures c.update_status_by.ensures ∙ step_refused in record {
       answer_value = is_form update_result_of c.update_status_by.result.result (ap (λ (y : Reply UpdateResult × KBucket). y.0) e);
       bucket_value = ap (λ (y : Reply UpdateResult × KBucket). y.1) e;
     }

@@ -2,7 +2,7 @@ use Rattle.std.proofs.Common.{◌≡◌, ap, ◌∙◌, rules}
 use Rattle.model.specs.Key.{bucket_index}
 use Rattle.key.specs.declared.Key.{Key}
 use Rattle.key.specs.Key.{num}
-use Rattle.positions.specs.Positions.{key_from}
+use Rattle.key.specs.Key.{key_from}
 use Rattle.positions.proofs.rows.index_of.Goals as goal
 
 pub returns : goal.returns

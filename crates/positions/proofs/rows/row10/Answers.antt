@@ -12,8 +12,8 @@ use Rattle.positions.proofs.rows.row10.Goals as goal
 pub returns : goal.returns
 returns c =
     let e = c.fill.ensures ∙ ap (filled 2 32 1) c.empty.ensures in
-    let s = ap (λ (b : KBucket). update_status_call b c.key_from.result 1 2) e
-    ∙ ap (λ (x : Key). update_status_call (filled 2 32 1 (emptied 16 0)) x 1 2) c.key_from.ensures in
+    let s = ap (λ (b : KBucket). update_status_call b c.from.result 1 2) e
+    ∙ ap (λ (x : Key). update_status_call (filled 2 32 1 (emptied 16 0)) x 1 2) c.from.ensures in
     let b = bucket_of_lem c.update_status.ensures ∙ ap (λ (y : Reply UpdateResult × KBucket). y.1) s in record {
       bucket_value = ap (λ (x : KBucket). key_at x 0) b ∙ moved.0;
       bucket_value_2 = ap (λ (x : KBucket). key_at x 1) b ∙ moved.1;

@@ -5,7 +5,7 @@ use Rattle.key.specs.declared.Key.{Key}
 use Rattle.key.specs.Key.{num}
 use Rattle.key.specs.Answers.{option_of}
 use Rattle.key.specs.Visits.{remaining}
-use Rattle.positions.specs.Positions.{key_from}
+use Rattle.key.specs.Key.{key_from}
 use Rattle.positions.proofs.Computed.{visited, first_visits}
 use Rattle.positions.proofs.Checks.{same_index}
 use Rattle.positions.proofs.rows.row5.Goals as goal

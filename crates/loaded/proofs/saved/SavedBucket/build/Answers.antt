@@ -3,8 +3,8 @@ use Rattle.laws.proofs.Loaded.{disconnected_most}
 use Rattle.loaded.proofs.Built.{nodes_none, nodes_more, bucket_built}
 use Rattle.loaded.proofs.saved.SavedBucket.build.Goals as goal
 
-pub overflow_cast-bucket-2 : goal.overflow_cast-bucket-2
-overflow_cast-bucket-2 c =
+pub overflow_cast-bucket : goal.overflow_cast-bucket
+overflow_cast-bucket c =
     let b = c.args.self in
     record { fits = omega (arith, c.disconnected.ensures, c.requires.i_bound, disconnected_most b.saved.bytes.now b.from (get_or b.saved.bytes.now b.i 0)) }
 
@@ -14,13 +14,13 @@ loop-j-init c = nodes_none _ _ _ _
 pub loop-j-preserved : goal.loop-j-preserved
 loop-j-preserved c =
     let b = c.args.self in
-    nodes_more b.saved.bytes.now b.saved.nodes b.saved.counted b.saved.sized b.from b.i b.below b.start c.requires.bucket_value c.requires.i_bound _ c.count-count.ensures.count c.loop-j.j
-    c.loop-j-test.true c.loop-j.invariant
+    nodes_more b.saved.bytes.now b.saved.nodes b.saved.counted b.saved.sized b.from b.i b.below b.start c.requires.bucket_value c.requires.i_bound _ c.loop-j.j
+    (omega (arith, c.count-j-end.ensures.count)) c.loop-j.invariant
     (c.copy_node.ensures ∙ ap₂ (λ (k e : List ℕ). k ++ e) c.key-key.ensures.key c.entry-entry.ensures.entry)
 
 pub returns : goal.returns
 returns c =
     let b = c.args.self in
-    let n : c.loop-j.j ≡ c.count-count.result = omega arith in
-    bucket_built b.saved.bytes.now b.saved.nodes b.saved.counted b.saved.sized b.from b.i b.below b.start c.requires.bucket_value c.requires.i_bound _ c.count-count.ensures.count c.disconnected.ensures
+    let n : c.loop-j.j ≡ get_or b.saved.bytes.now b.i 0 = omega (arith, c.count-j-end.ensures.count) in
+    bucket_built b.saved.bytes.now b.saved.nodes b.saved.counted b.saved.sized b.from b.i b.below b.start c.requires.bucket_value c.requires.i_bound _ c.disconnected.ensures
     (rw n at c.loop-j.invariant)
