@@ -7,7 +7,8 @@ use Rattle.model.specs.Call.{is_one, value_of}
 use Rattle.model.specs.Session.{hours_questions}
 use Rattle.model.specs.Question.{first_failed, is_absent}
 use Rattle.model.specs.Explain.{told, table_filter_reason, insert_or_update_reason}
-use Rattle.node.specs.Node.{argument_of}
+use Rattle.node.specs.declared.Node.{Node}
+use Rattle.node.specs.Node.{argument_of, node_of}
 use Rattle.table_filter.proofs.Asked.{failed_formed}
 use Rattle.on_key.proofs.Questions.{passed_five}
 use Rattle.on_key.proofs.Steps.{timely, timely_there, stepped}
@@ -82,9 +83,12 @@ returns c =
     let why = λ (fails : Bool). cond fails (table_filter_reason k v t.buckets) (G u k there) in
     let z = stepped p.bucket (does c.in_ok-fails.fails) y.1.key_is step.result_value step.becomes in
     let hours = c.asked-asked.ensures ∙ ap (λ (q : EntryKind). first_failed (hours_questions x (not (is_absent q)))) (ap (λ (n : ℕ). kind_of n (t.buckets i)) y.1.key_is ∙ sym (kind_at s a.key.now i y.1.index)) in
+    let filtered =
+    ap (λ (n : ℕ). table_filter_reason n (node_of c.with_key-node.result.node).value t.buckets) y.1.key_is
+    ∙ ap (λ (n : Node). table_filter_reason k (node_of n).value t.buckets) made in
     let told_why : reason_of c.if-fails.why ≡ why c.in_ok-fails.fails =
     elim c.if-fails.branch [
-      | then-fails z ↦ rw (z.why-is, z.if-fails.true, made) (ap (λ (n : ℕ). table_filter_reason n v t.buckets) y.1.key_is)
+      | then-fails z ↦ rw (z.why-is, z.if-fails.true) filtered
       | else-fails z ↦ rw (z.why-is, z.if-fails.false) (reason_told _ p.bucket G y.1.key_is (rw made at z.insert_or_update_reason-why.ensures))
     ] in
     rw (← same.same)
