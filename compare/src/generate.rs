@@ -330,12 +330,14 @@ fn saved(mut list: Vec<String>, random: &mut Random) -> Vec<String> {
         let mut text = Vec::new();
         text.hexadecimal(&bytes);
         let text = if text.is_empty() { "-".to_string() } else { String::from_utf8(text).unwrap() };
-        if random.percent(90) {
+        let is_new = random.percent(90);
+        if is_new {
             list.push(list[0].clone());
         }
         match random.below(40) {
-            // Behind a malformed bucket, where the two need not have the same queue, there may be no room for it.
-            0 if !list.iter().any(|line| line.starts_with("raw_byte ")) => {
+            // Where the table is not new its queue may have no room for it; nor behind a malformed bucket, where the two need not have the
+            // same queue.
+            0 if is_new && !list.iter().any(|line| line.starts_with("raw_byte ")) => {
                 list.push(format!("raw_record {} -", hex(&local)));
             }
             1 | 2 => list.push(format!("raw_byte {} 2", layout::HEADER_OFFSETS[2])),

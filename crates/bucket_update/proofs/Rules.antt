@@ -3,7 +3,7 @@ use Prim.Native.Nat.{ℕ}
 use mathlib.Core.Path.{◌≡◌, refl, ap, ◌∙◌, subst}
 use mathlib.Core.Bool.{Bool, true, false, cond}
 use mathlib.Core.Option.{Option, none, some}
-use borrow.Author.Tests.{eq-eqb, ne_eqb}
+use borrow.Author.Tests.{eq-eqb}
 use Rattle.model.specs.Value.{Value}
 use Rattle.model.specs.Node.{Node}
 use Rattle.model.specs.Result.{FailureReason, UpdateResult, InsertResult, is_failed}
@@ -28,9 +28,6 @@ both_failed UpdateResult.NotModified r = refl
 -- a code that may be "not given"
 pub not_given : (n : ℕ) → n ≡ 2 → optional n ≡ none
 not_given n e = ap (λ (t : Bool). cond t none (some (is_one n))) (eq-eqb n 2 e)
-
-pub is_given : (n : ℕ) → (n ≡ 2 → ⊥) → optional n ≡ some (is_one n)
-is_given n e = ap (λ (t : Bool). cond t none (some (is_one n))) (ne_eqb n 2 e)
 
 -- the status's step, with the direction that a code gives
 pub stated : (s : BucketSettings) (m : Bucket) (k : ℕ) (u : Bool) {d e : Option Bool} {r : UpdateResult} {t : KBucket} → d ≡ e → r ≡ (update_status s k u d m).0

@@ -1,6 +1,5 @@
 -- What is written of a bucket, part by part, is its bytes.
 use mathlib.Core.Path.{◌≡◌, refl, sym, ap, ap₂, ◌∙◌}
-use mathlib.Core.Bool.{true}
 use mathlib.Core.List.{List, [], ◌∷◌, ◌++◌, map, append_assoc, map-append}
 use Prim.Native.Nat.{ℕ, ◌+◌, ◌*◌, ◌-◌, ◌≤◌, ◌<◌}
 use native.Mathlib.Nat.{zero-add}
@@ -25,14 +24,13 @@ use Rattle.laws.proofs.All.{all_any}
 use Rattle.key.proofs.Bytes.{splice_all}
 use Rattle.words.proofs.Words.{set_2, put_mid_splice}
 use Rattle.node.specs.declared.Node.{Node}
-use Rattle.node.specs.Node.{node_of, node_codes, stored_node, zero_node}
-use Rattle.node.proofs.Stored.{stored_codes}
+use Rattle.node.specs.Node.{node_of, stored_node, zero_node}
 use Rattle.places.proofs.Padded.{padded_length}
 use Rattle.bucket.specs.declared.PendingNode.{PendingNode}
 use Rattle.bucket.specs.declared.KBucket.{KBucket}
 use Rattle.bucket.specs.Bucket.{pending_of, bucket_of, Sound}
 use Rattle.bucket.proofs.Sound.{nodes_of, count_of, first_of, places_of}
-use Rattle.bucket.proofs.Steps.{nodes_count, stored_at}
+use Rattle.bucket.proofs.Steps.{nodes_count}
 
 -- the places of a sound bucket, and the codes of the nodes in them
 
@@ -42,9 +40,6 @@ module _ (b : KBucket) (s : Sound b) where
       let xs : List Node = map stored_node (nodes (bucket_of b)) in
       let n : length xs ≡ b.count = length-map (nodes (bucket_of b)) stored_node ∙ nodes_count b s in
       ap length (places_of b s) ∙ padded_length xs (omega (arith, s.few))
-
-  pub codes_place : (i : ℕ) → i < b.count → node_codes (get_or b.nodes i zero_node) ≡ true
-  codes_place i l = stored_codes (get_or b.nodes i zero_node) (stored_at b s i l)
 
 -- the bytes of the nodes of the first i places
 unfoldable pub held_bytes : List Node → ℕ → List ℕ

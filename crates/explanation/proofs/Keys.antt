@@ -6,7 +6,7 @@ use Prim.Native.Nat.{ℕ, ◌+◌, ◌*◌, ◌-◌, ◌≤◌, ◌<◌}
 use borrow.Rule.Slice.PartMut.{put_mid}
 use native.Mathlib.Numerals.{add-one}
 use native.Mathlib.Omega.{arith}
-use lib.ListN.{length, get_or, take, drop, length-take, length-drop, length-map, take-append-drop}
+use lib.ListN.{length, get_or, take, drop, length-take, length-drop, length-map}
 use lib.Seq.{take-nil, take-suc, take_all}
 use Rattle.model.specs.Base.{select, joined, tabulate}
 use Rattle.model.specs.Node as model
@@ -24,6 +24,7 @@ use Rattle.node.specs.declared.Node.{Node}
 use Rattle.node.specs.Node.{node_of}
 use Rattle.places.proofs.Model.{map_take}
 use Rattle.bucket.specs.declared.KBucket.{KBucket}
+use Rattle.bucket.proofs.Sound.{nodes_of}
 use Rattle.bucket.specs.Bucket.{bucket_of, held_of}
 use Rattle.well_formed.specs.Tests.{node_at}
 use Rattle.explanation.specs.Put.{Put, PutKeys, key_room, spaced_key_size}
@@ -63,9 +64,6 @@ keys_one {k} {m} {o} h p = let l : length (k ∷ []) ≤ key_room o = omega arit
 length_keys : (ks o : List ℕ) → length (keys_text (take (key_room o) ks)) ≤ length o
 length_keys ks o = omega (arith, length_keys_text (take (key_room o) ks), length-take (key_room o) ks)
 
-pub keys_in : {ks o u : List ℕ} {m : ℕ} → PutKeys ks o u m → m ≤ length o
-keys_in {ks} {o} p = omega (arith, p.put.next, length_keys ks o)
-
 pub keys_then : {xs ys o t v : List ℕ} {n m : ℕ} → PutKeys xs o t n → PutKeys ys (take (length t - n) (drop n t)) v m → PutKeys (xs ++ ys) o (put_mid n (length t - n) t v) (n + m)
 keys_then {xs} {ys} {o} {t} {v} {n} {m} p q =
     let l : length t ≡ length o = ap length p.put.output ∙ length_splice o 0 (keys_text (take (key_room o) xs)) (omega (arith, length_keys xs o)) in
@@ -102,11 +100,8 @@ module _ (p : model.Node → Bool) where
 
 -- the nodes of a bucket, place by place
 
-pub held_nodes_lem : (b : KBucket) → nodes (bucket_of b) ≡ map node_of (held_of b)
-held_nodes_lem b = take-append-drop b.first_connected_pos (map node_of (held_of b))
-
 pub held_few : (b : KBucket) → b.count ≤ 16 → length (nodes (bucket_of b)) ≤ 16
-held_few b h = rw (held_nodes_lem, length-map (held_of b) node_of, length-take) (omega arith)
+held_few b h = rw (nodes_of, length-map (held_of b) node_of, length-take) (omega arith)
 
 -- a filter's keys behind its words
 pub filter_put : {a o t u : List ℕ} {n m : ℕ} (k limit : ℕ) (v : Value) (ns : List model.Node) → k ≡ limit * spaced_key_size → length a + k ≤ length o → Put a o t n

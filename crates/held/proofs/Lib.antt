@@ -3,4 +3,3 @@ pub mod Quiet
 pub mod Places
 pub mod Moves
 pub mod Steps
-pub mod Again

@@ -9,10 +9,9 @@ use lib.ListN.{length, drop, length-append}
 use lib.Seq.{drop-length}
 use Rattle.model.specs.Bytes.{number, bytes, part, splice}
 use Rattle.laws.proofs.Parts.{part_append, length_part, splice_next}
-use Rattle.laws.proofs.Bytes.{length_bytes, number_append, number_there, bytes_append, bytes_mod}
+use Rattle.laws.proofs.Bytes.{length_bytes, number_append, bytes_append, bytes_mod}
 use Rattle.key.specs.declared.Key.{Key}
 use Rattle.key.specs.Key.{num, Words}
-use Rattle.key.proofs.Words.{num_lt}
 
 -- ---- one word more
 
@@ -43,10 +42,6 @@ unfolding num
 bytes_num k h =
     bytes_more 24 _ k.w3 h.word3
     ∙ ap (λ (l : List ℕ). l ++ bytes 8 k.w3) (bytes_more 16 _ k.w2 h.word2 ∙ ap (λ (l : List ℕ). l ++ bytes 8 k.w2) (bytes_more 8 k.w0 k.w1 h.word1))
-
--- the number is that of the four words' bytes
-pub num_bytes : (k : Key) → Words k → number (bytes 8 k.w0 ++ bytes 8 k.w1 ++ bytes 8 k.w2 ++ bytes 8 k.w3) ≡ num k
-num_bytes k h = ap number (sym (bytes_num k h)) ∙ number_there 32 (num k) (num_lt k h)
 
 -- four words that are put one behind the other
 pub num_put : (s : List ℕ) (at : ℕ) (k : Key) → Words k → at + 32 ≤ length s

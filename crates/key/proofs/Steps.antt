@@ -11,7 +11,6 @@ use native.Mathlib.Omega.{arith}
 use lib.Bits.{bit_and, and_mask}
 use lib.Count.{count_leading_zeros, count_trailing_zeros, leading_of_zero, leading_top}
 use lib.Dec.{eqb, ltb}
-use lib.ListN.{drop}
 use lib.Pow.{pow_pos, pow_mono}
 use borrow.Author.Tests.{ltb-true, ltb-false}
 use Rattle.std.specs.Prelude as code
@@ -42,10 +41,6 @@ first_none (x ∷ l) e = let w : ◌≡◌ {A = ℕ} 0 1 = cc in absurd (omega a
 
 no_first : {A : Type 0} {j : ℕ} → none ≡ some j → A
 no_first e = let w : ◌≡◌ {A = ℕ} 0 1 = cc in absurd (omega arith)
-
-pub first_some : (l : List ℕ) (j : ℕ) → first l ≡ some j → l ≡ j ∷ drop 1 l
-first_some [] j e = no_first e
-first_some (x ∷ l) j e = ap (λ (y : ℕ). y ∷ l) (some-injective x j e)
 
 pub sets_split : (D i j : ℕ) → first (sets_down D i) ≡ some j → sets_down D i ≡ j ∷ sets_down D j
 unfolding sets_down

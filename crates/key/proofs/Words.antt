@@ -1,7 +1,7 @@
 -- Keys as numbers: the four words decide equality, order, XOR and bits. `omega` stops at numbers of more than 38 digits, so each law is
 -- proved for one word and used three times.
 use mathlib.Core.Path.{◌≡◌, sym, ap, ap₂, ◌∙◌}
-use mathlib.Core.Bool.{Bool, true, cond, false, ◌&&◌}
+use mathlib.Core.Bool.{Bool, cond, false, ◌&&◌, true≢false}
 use Prim.Native.Nat.{ℕ, ◌+◌, ◌*◌, ◌/◌, ◌%◌, ◌^◌, ◌<◌, ◌≤◌}
 use native.Mathlib.Nat.{div-eq_of_lt, lt_of_lt_of_le, mod-lt}
 use native.Mathlib.Omega.{arith}
@@ -18,7 +18,7 @@ use Rattle.model.specs.Key.{test_bit}
 use Rattle.laws.proofs.Tests.{split}
 use Rattle.laws.proofs.Bits as Bits
 use Rattle.key.specs.declared.Key.{Key}
-use Rattle.key.specs.Key.{num, key_of, Words}
+use Rattle.key.specs.Key.{num, key_of, key_from, Words}
 
 -- ---- one word more
 
@@ -237,3 +237,12 @@ module _ (k : Key) (h : Words k) (i : ℕ) where
   pub bit_above : 256 ≤ i → test_bit (num k) i ≡ false
   unfolding test_bit
   bit_above l = ap (λ (x : ℕ). eqb (x % 2) 1) (div-eq_of_lt (lt_of_lt_of_le (num_lt k h) (pow_mono l)))
+
+-- ---- a key made of a number, in a test
+
+-- a key whose number is n is equal to the key of n
+pub is_key : (n : ℕ) {m : ℕ} {k : Key} {b : Bool} → m ≡ n → k ≡ key_from n → b ≡ same m (num k) → b ≡ false → ⊥
+unfolding same num
+is_key n {m} {k} {b} e f g h =
+    let z : n ≡ num (key_from n) = omega arith in
+    true≢false (sym (g ∙ eq-eqb m (num k) (e ∙ z ∙ ap num (sym f))) ∙ h)

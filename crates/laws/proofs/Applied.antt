@@ -5,6 +5,7 @@ use mathlib.Core.List.{List, [], ◌∷◌, ◌++◌, append-nil, append_assoc}
 use mathlib.Core.Option.{Option, none, some}
 use Prim.Native.Nat.{ℕ}
 use lib.Dec.{leb}
+use lib.ListN.{length}
 use Rattle.model.specs.Base.{same, every}
 use Rattle.model.specs.Node.{Node, PendingNode, EndedPending}
 use Rattle.model.specs.Result.{BucketInsertResult, is_inserted}
@@ -45,6 +46,17 @@ module _ (s : BucketSettings) (now : ℕ) where
       full (d ∷ ds) =
           cases (λ (r : Bucket × List EndedPending). r.0.pending ≡ none) (fails_bucket_filter s n.value b) (λ h. e)
           (λ h. cases (λ (r : Bucket × List EndedPending). r.0.pending ≡ none) (is_max_incoming s n b) (λ i. e) (λ i. refl))
+
+  -- applying what is due gives one record
+  pub due_one : (n : Node) (b : Bucket) → length (apply_due s now n b).1 ≡ 1
+  unfolding apply_due
+  due_one n b = cases (λ (r : Bucket × List EndedPending). length r.1 ≡ 1) (is_full b) (λ _. full b.disconnected) (λ _. refl)
+    where
+      full : (ds : List Node) → length (apply_full s n b ds).1 ≡ 1
+      full [] = refl
+      full (d ∷ ds) =
+          cases (λ (r : Bucket × List EndedPending). length r.1 ≡ 1) (fails_bucket_filter s n.value b) (λ _. refl)
+          (λ _. cases (λ (r : Bucket × List EndedPending). length r.1 ≡ 1) (is_max_incoming s n b) (λ _. refl) (λ _. refl))
 
   pub apply_none : (b : Bucket) → b.pending ≡ none → apply_pending s now b ≡ (b, [])
   unfolding apply_pending

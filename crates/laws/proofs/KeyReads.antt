@@ -18,7 +18,7 @@ use Rattle.model.specs.Step.{Outcome, on_key, node_of, own_answer, effect, act}
 use Rattle.model.specs.StepBytes.{every_bucket, filtered, runs_filter, key_reads, reads}
 use Rattle.model.specs.Fits.{All}
 use Rattle.model.specs.Explain.{Reason, told, filter_keys, table_filter_reason, status_reason, update_node_reason, insert_or_update_reason, remove_reason, insert_reason, bucket_reason, key_reason, reason, explanation}
-use Rattle.laws.proofs.Tests.{clash, and_left}
+use Rattle.laws.proofs.Tests.{clash, and_left, second}
 use Rattle.laws.proofs.KeepStep.{bucket_index_below}
 use Rattle.laws.proofs.Touched.{every_bucket_lem}
 
@@ -37,11 +37,6 @@ held_same : (n : ℕ) (bs cs : ℕ → Bucket) → ((j : ℕ) → j < n → bs j
 unfolding held_nodes
 held_same zero bs cs h = refl
 held_same (suc n) bs cs h = ap₂ (λ (x y : List Node). x ++ y) (held_same n bs cs (λ j m. h j (omega arith))) (ap nodes (h n (omega arith)))
-
--- the second is looked at only where the first holds
-second : (a x y : Bool) → (a ≡ true → x ≡ y) → (a && x) ≡ (a && y)
-second true x y h = h refl
-second false x y h = refl
 
 chosen : {A : Type 0} (f g : Bool) (x x' y y' : A) → f ≡ g → (g ≡ true → x ≡ x') → y ≡ y' → cond f x y ≡ cond g x' y'
 chosen f true x x' y y' e h i = ap (λ (b : Bool). cond b x y) e ∙ h refl

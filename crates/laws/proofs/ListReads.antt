@@ -18,12 +18,13 @@ use Rattle.laws.proofs.Applied.{apply_all_queue, apply_all_buckets}
 use Rattle.laws.proofs.DistanceReads.{joined_all, found_reads}
 use Rattle.laws.proofs.KeyReads.{with_buckets, Alike, SameBucket}
 
-visited_same : (f g : ℕ → ℕ) (n : ℕ) (is : List ℕ) → All (λ (i : ℕ). g i ≡ f i) (visited f n is) → visited g n is ≡ visited f n is
+-- only the sizes of the buckets visited matter
+pub visited_agree : (f g : ℕ → ℕ) (n : ℕ) (is : List ℕ) → All (λ (i : ℕ). g i ≡ f i) (visited f n is) → visited g n is ≡ visited f n is
 unfolding visited
-visited_same f g n [] a = refl
-visited_same f g zero (i ∷ is) a = refl
-visited_same f g (suc n) (i ∷ is) a =
-    ap (λ (k : ℕ). i ∷ visited g (suc n - k) is) a.0 ∙ ap (λ (r : List ℕ). i ∷ r) (visited_same f g (suc n - f i) is a.1)
+visited_agree f g n [] a = refl
+visited_agree f g zero (i ∷ is) a = refl
+visited_agree f g (suc n) (i ∷ is) a =
+    ap (λ (k : ℕ). i ∷ visited g (suc n - k) is) a.0 ∙ ap (λ (r : List ℕ). i ∷ r) (visited_agree f g (suc n - f i) is a.1)
 
 -- one bucket of the applying pass, with b for the bucket
 abbrev pass_from : ℕ → ℕ → ℕ → ℕ → List ℕ → Table → Bucket → List ℕ
@@ -82,7 +83,7 @@ module _ (t : Table) (bs : ℕ → Bucket) where
   visit_same : (now n : ℕ) (is : List ℕ) → All (SameBucket t bs) (visited (λ i. num_entries (applied now t i)) n is)
       → visited (λ i. num_entries (applied now u i)) n is ≡ visited (λ i. num_entries (applied now t i)) n is
   visit_same now n is h =
-      visited_same (λ i. num_entries (applied now t i)) (λ i. num_entries (applied now u i)) n is (sizes_same now (visited (λ i. num_entries (applied now t i)) n is) h)
+      visited_agree (λ i. num_entries (applied now t i)) (λ i. num_entries (applied now u i)) n is (sizes_same now (visited (λ i. num_entries (applied now t i)) n is) h)
 
   pub applies_same : (l : Listing) (n now : ℕ) → All (SameBucket t bs) (applies l n now t) → applies l n now u ≡ applies l n now t
   applies_same Listing.iter n now h = visit_same now n (visit_order Listing.iter t) h

@@ -1,6 +1,6 @@
--- Laws of lists by index: `tabulate`, `joined`, `all_below` and `All`.
+-- Laws of lists: `tabulate`, `joined`, `all_below`, `All` and `select`.
 use mathlib.Core.Path.{◌≡◌, refl, sym, ap, ap₂, ◌∙◌}
-use mathlib.Core.Bool.{Bool, true, false, ◌&&◌, and-false, and_assoc}
+use mathlib.Core.Bool.{Bool, true, false, cond, ◌&&◌, and-false, and_assoc}
 use mathlib.Core.List.{List, [], ◌∷◌, ◌++◌, map, map-append, append_assoc, append-nil}
 use mathlib.Core.Logic.{◌⊎◌, ⊎_elim, inl, inr}
 use Prim.Native.Nat.{ℕ, zero, suc, ◌+◌, ◌*◌, ◌≤◌, ◌<◌}
@@ -10,8 +10,9 @@ use native.Mathlib.Decide.{dec_lt}
 use native.Mathlib.Omega.{arith}
 use lib.ListN.{length, get_or, take, length-append, get_or-append}
 use lib.Seq.{ext_get_or, get_or_at, get_or-take, length-take-le}
-use Rattle.model.specs.Base.{every, tabulate, joined, all_below}
+use Rattle.model.specs.Base.{every, select, tabulate, joined, all_below}
 use Rattle.model.specs.Fits.{All}
+use Rattle.std.specs.List.{filter}
 use Rattle.laws.proofs.Tests.{and_left, and_right}
 
 pub order : (i j : ℕ) → (i < j) ⊎ ((i ≡ j) ⊎ (j < i))
@@ -174,3 +175,13 @@ conj_gives b (c ∷ cs) h = (and_left b (conj c cs) h, conj_gives c cs (and_righ
 pub conj_if : (b : Bool) (bs : List Bool) → All (λ (x : Bool). x ≡ true) (b ∷ bs) → conj b bs ≡ true
 conj_if b [] h = h.0
 conj_if b (c ∷ cs) h = rw h.0 (conj_if c cs h.1)
+
+-- how many of a list pass a test on what f gives of them, as a chain over the list counts them
+pub filter_select : {A B : Type 0} (p : B → Bool) (f : A → B) (xs : List A) → length (filter (λ (x : A). p (f x)) xs) ≡ length (select p (map f xs))
+filter_select p f [] = refl
+filter_select {A} p f (x ∷ xs) = go (p (f x)) (filter_select p f xs)
+  where
+    go : (t : Bool) → length (filter (λ (y : A). p (f y)) xs) ≡ length (select p (map f xs))
+        → length (cond t (x ∷ filter (λ (y : A). p (f y)) xs) (filter (λ (y : A). p (f y)) xs)) ≡ length (cond t (f x ∷ select p (map f xs)) (select p (map f xs)))
+    go true e = ap suc e
+    go false e = e

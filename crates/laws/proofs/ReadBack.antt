@@ -13,17 +13,16 @@ use Rattle.model.specs.Key.{bucket_index}
 use Rattle.model.specs.Node.{EndedPending}
 use Rattle.model.specs.Bucket.{Bucket, apply_pending}
 use Rattle.model.specs.Table.{Settings, Table, num_buckets, max_records, write}
-use Rattle.model.specs.Sizes.{bucket_size, record_count_at, bucket_at, storage_size}
+use Rattle.model.specs.Sizes.{record_count_at, storage_size}
 use Rattle.model.specs.Listing.{apply_all}
 use Rattle.model.specs.Layout.{header_bytes, bucket_bytes, record_in, record_part, bucket_in, settings_in, bucket_part, table_of}
 use Rattle.model.specs.Formed.{is_at, bucket_formed, header_formed, bucket_formed_at, buckets_formed}
 use Rattle.model.specs.Fits.{All, FitsRecord, FitsSettings}
 use Rattle.laws.proofs.Tests.{cases, and_left, and_right}
 use Rattle.laws.proofs.Lists.{lt_or_le}
-use Rattle.laws.proofs.Bytes.{Bytes_append, Bytes_joined, Bytes_part}
-use Rattle.laws.proofs.BucketBytes.{Bytes_bucket, bucket_there}
+use Rattle.laws.proofs.BucketBytes.{bucket_there}
 use Rattle.laws.proofs.BucketFormed.{bucket_formed_lem}
-use Rattle.laws.proofs.HeaderBytes.{Bytes_header, settings_there, queue_there, header_formed_lem}
+use Rattle.laws.proofs.HeaderBytes.{settings_there, queue_there, header_formed_lem}
 use Rattle.laws.proofs.HeaderBack.{header_back, settings_fit, records_fit, queue_fits_lem}
 use Rattle.laws.proofs.TableBytes.{at_index, formed_map, fits_at, well_formed_at, empty_past}
 use Rattle.laws.proofs.Keep as Keep
@@ -31,7 +30,7 @@ use Rattle.laws.proofs.KeepStep.{FitsAt, apply_at}
 use Rattle.laws.proofs.Applied.{apply_all_buckets}
 use Rattle.laws.proofs.Frame.{Untouched}
 use Rattle.laws.proofs.Touched.{Below}
-use Rattle.laws.proofs.All.{all_append, all_left, all_right, all_map, all_zip, all_tabulate}
+use Rattle.laws.proofs.All.{all_append, all_left, all_right, all_map, all_zip}
 use Rattle.laws.proofs.Restored.{Restored, Short, among, whole}
 
 -- settings and queue fit their bytes
@@ -144,19 +143,6 @@ module _ (s₀ is : List ℕ) (t : Table) (s : List ℕ) (r : Restored s₀ is t
       all_stay e (j ∷ js) a p =
           rw (formed_stays e j a.0 (and_left (bucket_formed_at s₀ j) (buckets_formed s₀ js) p))
           (all_stay e js a.1 (and_right (bucket_formed_at s₀ j) (buckets_formed s₀ js) p))
-
-      pub bytes_back : Bytes s₀ → Bytes s
-      bytes_back h =
-          rw cut
-          (Bytes_append (header_bytes t) behind (Bytes_header t f.settings f.records f.queue)
-          (Bytes_joined (bucket_part s) (tabulate num_buckets (λ i. i))
-          (all_tabulate (λ (i : ℕ). Bytes (bucket_part s i)) num_buckets (λ i. i)
-          (λ i m. ⊎_elim (λ p. p) (λ u. subst⁻¹ Bytes (r.others i m u) (Bytes_part s₀ (bucket_at i) bucket_size h)) (among (λ (j : ℕ). Bytes (bucket_part s j)) i is written_bytes)))))
-        where
-          written_bytes : All (λ (j : ℕ). Bytes (bucket_part s j)) is
-          written_bytes =
-              all_zip (λ (i : ℕ). bucket_part s i ≡ bucket_bytes (t.buckets i)) (λ (i : ℕ). FitsAt t.settings i (t.buckets i)) (λ (i : ℕ). Bytes (bucket_part s i))
-              (λ i e w. subst⁻¹ Bytes e (Bytes_bucket (t.buckets i) w.formed.formed.at_most w.fits)) is r.written g
 
       -- the table, where its other buckets are those that were there
       pub table_back : length s₀ ≡ storage_size → ((j : ℕ) → Untouched j is → t.buckets j ≡ (table_of s₀).buckets j) → table_of s ≡ t

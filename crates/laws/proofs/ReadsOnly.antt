@@ -26,7 +26,7 @@ use Rattle.model.specs.Formed.{are_zero, record_formed, header_formed, bucket_fo
 use Rattle.model.specs.StepBytes.{BytesOutcome, reads, holds_header, all_questions, output_of, written, unless_refused_bytes, step_bytes}
 use Rattle.model.specs.Explain.{explanation, line, explanation_room, line_unless_refused, explain_bytes}
 use Rattle.model.specs.Fits.{All}
-use Rattle.laws.proofs.Tests.{split}
+use Rattle.laws.proofs.Tests.{split, second}
 use Rattle.laws.proofs.Lists.{all_ext, tabulate_ext}
 use Rattle.laws.proofs.Parts.{get_d_part, part_part, slot_before}
 use Rattle.laws.proofs.All.{all_map}
@@ -101,11 +101,6 @@ module _ (t : Table) (bs : ℕ → Bucket) where
   late_same c h = λ x. (7, kind_same c h x) ∷ (8, room_same c h x) ∷ (9, bytes_same c h x) ∷ (10, hours_in_range c) ∷ (11, admitted_same c h x) ∷ []
 
 -- ---- the header
-
--- where the first test fails the second is not looked at
-second : (a x y : Bool) → (a ≡ true → x ≡ y) → (a && x) ≡ (a && y)
-second true x y h = h refl
-second false x y h = refl
 
 module _ (s : List ℕ) where
   abbrev head : List ℕ

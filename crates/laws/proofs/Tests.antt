@@ -1,5 +1,7 @@
 -- Laws of the tests: `same`, and going by cases on a test.
-use Prim.Native.Nat.{ℕ}
+use Prim.Native.Nat.{ℕ, ◌≤◌}
+use native.Mathlib.Omega.{arith}
+use mir.Val.{bool_byte}
 use mathlib.Core.Path.{◌≡◌, refl, sym, ◌∙◌}
 use mathlib.Core.Bool.{Bool, true, false, cond, ◌&&◌, ◌||◌, true≢false}
 use borrow.Author.Tests.{eqb-true, eq-eqb, ne_eqb, eqb-false}
@@ -75,6 +77,12 @@ or_second false b e = e
 pub same_sym : (a b : ℕ) → same a b ≡ same b a
 same_sym a b = split (same b a) (λ e. same_of a b (sym (same_true b a e)) ∙ sym e) (λ e. same_not a b (λ p. same_false b a e (sym p)) ∙ sym e)
 
--- three tests in another order
-pub and_turned : (a b c : Bool) → (a && (b && c)) ≡ true → (b && (c && a)) ≡ true
-and_turned a b c e = let f = and_right a (b && c) e in rw (and_left b c f, and_right b c f, and_left a (b && c) e)
+-- the second of two tests is looked at only where the first holds
+pub second : (a x y : Bool) → (a ≡ true → x ≡ y) → (a && x) ≡ (a && y)
+second true x y h = h refl
+second false x y h = refl
+
+-- a test's flag as a number, as the code's `flag as usize` has it
+pub flag≤1 : (b : Bool) → bool_byte b ≤ 1
+flag≤1 true = omega arith
+flag≤1 false = omega arith

@@ -1,5 +1,5 @@
 -- What the calls on the program's buckets give: on equal arguments the same, and at the program's by computing.
-use Rattle.std.proofs.Common.{Bool, false, true≢false, ℕ, arith, eq-eqb, Result, Ok, Err}
+use Rattle.std.proofs.Common.{arith, Result, Ok, Err}
 use mathlib.Core.Path.{◌≡◌, refl, sym, ap, ◌∙◌}
 use mathlib.Core.List.{List, ◌++◌}
 use lib.ListN.{take, drop, set, replicate}
@@ -45,13 +45,6 @@ form Refusal.Closed e = absurd (omega arith)
 pub is_form : {A B : Type 0} (f : A → B) (r : Result A Refusal) → reply_of f r ≡ Reply.Refused 2 → r ≡ Err Refusal.Form
 is_form f (Ok x) e = cc
 is_form f (Err r) e = let n : number_of r ≡ 2 = cc in ap Err (form r n)
-
--- a key whose number is n is equal to the key of n
-pub is_key : (n : ℕ) {m : ℕ} {k : Key} {b : Bool} → m ≡ n → k ≡ key_from n → b ≡ same m (num k) → b ≡ false → ⊥
-unfolding same num
-is_key n {m} {k} {b} e f g h =
-    let z : n ≡ num (key_from n) = omega arith in
-    true≢false (sym (g ∙ eq-eqb m (num k) (e ∙ z ∙ ap num (sym f))) ∙ h)
 
 -- the calls on the program's buckets
 

@@ -30,7 +30,7 @@ use Rattle.laws.proofs.DistanceReads.{visited_applied}
 use Rattle.on_key.specs.Answers.{first_three, first_five, failed_of_three, failed_of_five}
 use Rattle.laws.proofs.Questions.{front_fails, front_passes}
 use Rattle.visit.specs.Passes.{held, visited_by, visit_all, applied_in, left_of}
-use Rattle.visit.proofs.Visitable.{visited_agree}
+use Rattle.laws.proofs.ListReads.{visited_agree}
 use Rattle.visit.proofs.Counts.{left_none}
 use Rattle.visit.proofs.Applying.{Appliable, Applying, applying_done, applying_table, applying_formed}
 use Rattle.items.specs.declared.Form.{Form}

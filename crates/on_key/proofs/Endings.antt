@@ -12,14 +12,14 @@ use Rattle.model.specs.Base.{same, is_some}
 use Rattle.model.specs.Value.{Value, same_value}
 use Rattle.model.specs.Node.{Node, PendingNode, Ending, EndedPending, ended, ended_if, with_status, with_value}
 use Rattle.model.specs.Result.{FailureReason, BucketInsertResult, UpdateResult, is_inserted, is_failed}
-use Rattle.model.specs.Bucket.{Bucket, BucketSettings, nodes, find, get, holds, is_full, fails_bucket_filter, is_max_incoming, cleared, with_pending, take_out, of_key, insert_endings, insert_full, insert, apply_full, apply_due, apply_if_due, apply_pending, reinsert, is_first, taken_out, status_endings, update_if_pending, update_status_of, update_status, update_value_of, update_value, remove}
+use Rattle.model.specs.Bucket.{Bucket, BucketSettings, nodes, find, get, holds, is_full, fails_bucket_filter, is_max_incoming, cleared, with_pending, take_out, of_key, insert_endings, insert_full, insert, apply_due, apply_if_due, apply_pending, reinsert, is_first, taken_out, status_endings, update_if_pending, update_status_of, update_status, update_value_of, update_value, remove}
 use Rattle.model.specs.Table.{Answer, kind_if_pending, kind_of_node, kind_of, then_status, update_node_in, given_status_endings, update_node_endings, then_value, insert_or_update_in, insert_or_update_endings}
 use Rattle.model.specs.Question.{is_absent}
 use Rattle.model.specs.Fits.{Opt, Formed}
 use Rattle.laws.proofs.Tests.{cases, clash, split, same_not}
 use Rattle.laws.proofs.KeepLists.{get_nodes, get_key}
 use Rattle.laws.proofs.KeepFormed.{update_value_formed}
-use Rattle.laws.proofs.Applied.{apply_ends, apply_again}
+use Rattle.laws.proofs.Applied.{apply_ends, apply_again, due_one}
 use Rattle.bucket.specs.declared.KBucket.{KBucket}
 use Rattle.bucket.specs.Bucket.{pending_of, bucket_of, Becomes}
 use Rattle.bucket.proofs.Sound.{formed_of}
@@ -62,16 +62,6 @@ with_own s now b k q =
     apply_ends s now (λ (rs : List EndedPending) (o : Option PendingNode). either_of rs (gone k o q) ≡ rs ++ gone k o q) (λ o. refl) either_nothing b
 
 -- nothing is due once the due pending was applied
-
-due_one : (s : BucketSettings) (now : ℕ) (n : Node) (b : Bucket) → length (apply_due s now n b).1 ≡ 1
-unfolding apply_due
-due_one s now n b = cases (λ (r : Bucket × List EndedPending). length r.1 ≡ 1) (is_full b) (λ _. full b.disconnected) (λ _. refl)
-  where
-    full : (ds : List Node) → length (apply_full s n b ds).1 ≡ 1
-    full [] = refl
-    full (d ∷ ds) =
-        cases (λ (r : Bucket × List EndedPending). length r.1 ≡ 1) (fails_bucket_filter s n.value b) (λ _. refl)
-        (λ _. cases (λ (r : Bucket × List EndedPending). length r.1 ≡ 1) (is_max_incoming s n b) (λ _. refl) (λ _. refl))
 
 undue : (s : BucketSettings) (now : ℕ) (b : Bucket) → (apply_pending s now b).1 ≡ [] → is_due now b.pending ≡ false
 unfolding apply_pending
@@ -304,7 +294,3 @@ module _ (s : BucketSettings) (m : Bucket) (b c : KBucket) (x : Becomes s m b) {
 
   pub stored_status_records : (u : Bool) (d : Option Bool) → bucket_of c ≡ (update_status s k u d m).1 → rs ≡ status_endings k u m
   stored_status_records u d z = stored_told z ∙ status_told s k u d m (becomes_formed x)
-
-  pub stored_insert_records : (now : ℕ) (n : Node) → n.key ≡ k → bucket_of c ≡ (insert s now n m).1 → rs ≡ insert_endings n m (insert s now n m).0
-  stored_insert_records now n o z =
-      stored_told z ∙ ap (λ (i : ℕ). gone i m.pending (insert s now n m).1.pending) (sym o) ∙ insert_told s now n m

@@ -1,22 +1,17 @@
 -- The steps that the calls on one key share.
 use Rattle.std.specs.Prelude as code
-use Rattle.std.specs.Prelude.{Result, Ok, Err, Some, IfSome}
+use Rattle.std.specs.Prelude.{Ok, Err, Some, IfSome}
 use Rattle.std.specs.Option.{is_some}
 use Prim.Native.Nat.{ℕ, ◌+◌, ◌^◌, ◌<◌}
 use native.Mathlib.Omega.{arith}
 use mathlib.Core.Path.{◌≡◌, sym, ap, ◌∙◌}
-use mathlib.Core.Bool.{Bool, true, cond}
+use mathlib.Core.Bool.{Bool, cond}
 use mathlib.Core.List.{List, [], ◌∷◌}
 use mathlib.Core.Option.{Option, none, some}
 use borrow.Author.Tests.{leb-true}
-use lib.ListN.{length}
 use Rattle.model.specs.Bytes.{number}
 use Rattle.model.specs.Bucket.{Bucket, BucketSettings}
-use Rattle.model.specs.Table.{num_buckets}
-use Rattle.model.specs.Sizes.{storage_size}
 use Rattle.model.specs.Layout.{table_of}
-use Rattle.model.specs.Formed.{formed}
-use Rattle.laws.proofs.TableBytes.{header_passes, bucket_passes}
 use Rattle.laws.proofs.Questions.{front_fails, front_passes}
 use Rattle.key.specs.declared.Key.{Key}
 use Rattle.node.specs.declared.Refusal.{Refusal}
@@ -24,13 +19,9 @@ use Rattle.node.specs.Refusal.{number_of}
 use Rattle.bucket.specs.declared.KBucket.{KBucket}
 use Rattle.bucket.specs.Bucket.{bucket_of, settings_of, Becomes, Sound}
 use Rattle.bucket.proofs.Steps.{told, then_becomes}
-use Rattle.on_key.specs.Answers.{first_five, failed_of_five, Ready}
+use Rattle.on_key.specs.Answers.{first_five, failed_of_five}
 use Rattle.on_key.specs.Start.{key_formed, failed_at_start, Located, AtBucket, Begun}
 use Rattle.on_key.proofs.Questions.{passed_five}
-
--- every bucket of formed storage is ready
-pub ready_at : (s : List ℕ) (i : ℕ) → length s ≡ storage_size → formed s ≡ true → i < num_buckets → Ready s i
-ready_at s i l f m = record { size = l; header = header_passes s f; below = m; bucket = bucket_passes s f i m }
 
 -- a question of 1 to 5 that failed
 pub begun_refused : (s key : List ℕ) (codes : Bool) (now : Option ℕ) (n : ℕ) → failed_of_five key codes now s ≡ some n → failed_at_start key codes now s ≡ some n

@@ -8,15 +8,13 @@ use native.Mathlib.Numerals.{add-one}
 use lib.ListN.{length, get_or, take, drop, length-drop}
 use lib.Dec.{eqb, leb, ltb, leb-suc-suc}
 use borrow.Author.Tests.{le-ltb, lt-ltb, leb-true, leb-false, ltb-true, ltb-false}
-use mir.Val.{bool_byte}
 use lib.Seq.{drop-cons, take_all}
 use Rattle.std.specs.Prelude.{Option, Some, None, MatchOption}
-use Rattle.std.specs.List.{filter, list_all, AllWithin, position_or_len}
+use Rattle.std.specs.List.{list_all, AllWithin, position_or_len}
 use Rattle.std.specs.Option.{is_some}
 use Rattle.std.specs.Bool.{MatchBool}
 use Rattle.std.proofs.lemmas.List.Recursion.{is_position_or_len}
-use Rattle.model.specs.Base.{every, select}
-use Rattle.model.specs.Base.{same}
+use Rattle.model.specs.Base.{every, same}
 use Rattle.model.specs.Fits.{All}
 use Rattle.model.specs.Node as model
 use Rattle.model.specs.Filter.{counted, ip_filter_fails}
@@ -25,21 +23,6 @@ use Rattle.node.specs.declared.Value.{Value}
 use Rattle.node.specs.declared.Node.{Node}
 use Rattle.node.specs.Node.{node_of, value_of}
 use Rattle.places.specs.Places.{before, position, different}
-
--- a test's flag as a number, as the code's `flag as usize` has it
-pub flag≤1 : (b : Bool) → bool_byte b ≤ 1
-flag≤1 true = omega arith
-flag≤1 false = omega arith
-
--- how many of a list pass a test on what f gives of them, as a chain over the list counts them
-pub filter_select : {A B : Type 0} (p : B → Bool) (f : A → B) (xs : List A) → length (filter (λ (x : A). p (f x)) xs) ≡ length (select p (map f xs))
-filter_select p f [] = refl
-filter_select {A} p f (x ∷ xs) = go (p (f x)) (filter_select p f xs)
-  where
-    go : (t : Bool) → length (filter (λ (y : A). p (f y)) xs) ≡ length (select p (map f xs))
-        → length (cond t (x ∷ filter (λ (y : A). p (f y)) xs) (filter (λ (y : A). p (f y)) xs)) ≡ length (cond t (f x ∷ select p (map f xs)) (select p (map f xs)))
-    go true e = ap suc e
-    go false e = e
 
 -- whether all of a list pass a test, as a chain over the list answers it
 pub list_all_every : {A : Type 0} (p : A → Bool) (xs : List A) → list_all p xs ≡ every p xs

@@ -1,9 +1,7 @@
 -- What a check reads of an answer: an index, a key, and the result of an insert.
-use Rattle.std.proofs.Common.{◌≡◌, ℕ, Bool, false, true≢false, nat_eq, Option, Some, None, sym, ap, ◌∙◌, refl, arith, eq-eqb, Result, Ok, Err}
+use Rattle.std.proofs.Common.{◌≡◌, ℕ, Bool, false, true≢false, nat_eq, Option, Some, None, sym, ap, ◌∙◌, refl, eq-eqb, Result, Ok, Err}
 use Rattle.std.specs.Option.{option_eq}
 use Rattle.model.specs.Base.{same}
-use Rattle.key.specs.declared.Key.{Key}
-use Rattle.key.specs.Key.{num, key_from}
 use Rattle.key.specs.Answers.{option_of}
 use Rattle.model.specs.Result.{BucketInsertResult, Reply}
 use Rattle.node.specs.declared.Refusal.{Refusal}
@@ -20,13 +18,6 @@ same_index (Some x) (Some y) e = cc
 -- an index that is i passes its check
 pub is_index : (r : Option ℕ) (i : ℕ) {b : Bool} → option_of r ≡ option_of (Some i) → b ≡ option_eq nat_eq r (Some i) → b ≡ false → ⊥
 is_index r i e f h = true≢false (sym (f ∙ ap (λ (s : Option ℕ). option_eq nat_eq s (Some i)) (same_index r (Some i) e) ∙ eq-eqb i i refl) ∙ h)
-
--- so does a key whose number is n
-pub is_key : (n : ℕ) {m : ℕ} {k : Key} {b : Bool} → m ≡ n → k ≡ key_from n → b ≡ same m (num k) → b ≡ false → ⊥
-unfolding same num
-is_key n {m} {k} {b} e f g h =
-    let z : n ≡ num (key_from n) = omega arith in
-    true≢false (sym (g ∙ eq-eqb m (num k) (e ∙ z ∙ ap num (sym f))) ∙ h)
 
 -- An insert's answer that names no key, from what it means.
 

@@ -1,4 +1,3 @@
--- Laws of the bytes of declared values and nodes, and of the nodes counted.
+-- Laws of the bytes of declared values and nodes.
 pub mod Bytes
-pub mod Counted
 pub mod Chunks

@@ -1,4 +1,4 @@
 -- Laws of the table filter.
 pub mod Held
 pub mod Asked
-pub mod Net
+pub mod Octets

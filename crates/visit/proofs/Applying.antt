@@ -9,8 +9,8 @@ use lib.ListN.{length, length-append}
 use lib.Dec.{leb}
 use Rattle.model.specs.Base.{same, at}
 use Rattle.model.specs.Bytes.{Bytes}
-use Rattle.model.specs.Node.{Node, PendingNode, EndedPending}
-use Rattle.model.specs.Bucket.{Bucket, BucketSettings, max_nodes_per_bucket, num_entries, is_full, fails_bucket_filter, is_max_incoming, with_pending, apply_full, apply_due, apply_if_due, apply_pending}
+use Rattle.model.specs.Node.{PendingNode, EndedPending}
+use Rattle.model.specs.Bucket.{Bucket, BucketSettings, max_nodes_per_bucket, num_entries, with_pending, apply_if_due, apply_pending}
 use Rattle.model.specs.Table.{Settings, Table, num_buckets, max_records, write}
 use Rattle.model.specs.Sizes.{bucket_size, bucket_at, storage_size}
 use Rattle.model.specs.Listing.{applied, apply_all}
@@ -26,11 +26,11 @@ use Rattle.laws.proofs.Parts.{length_part, slot_before}
 use Rattle.laws.proofs.BucketBack.{bucket_back}
 use Rattle.laws.proofs.HeaderBack.{header_back}
 use Rattle.laws.proofs.KeepStep.{FitsAt}
-use Rattle.laws.proofs.Applied.{apply_all_queue, apply_all_append}
+use Rattle.laws.proofs.Applied.{due_one, apply_all_queue, apply_all_append}
 use Rattle.laws.proofs.Frame.{apply_all_other, apply_all_settings}
 use Rattle.laws.proofs.Touched.{Below}
 use Rattle.laws.proofs.Restored.{Restored, Short, restore_restored, restored_is}
-use Rattle.laws.proofs.ReadBack.{FitsHeader, FitsBuckets, fit_short, header_fits, buckets_fit, restored_none, restored_then, header_passes, all_stay, bytes_back, table_back, apply_all_buckets_fit, apply_all_records_fit}
+use Rattle.laws.proofs.ReadBack.{FitsHeader, FitsBuckets, fit_short, header_fits, buckets_fit, restored_none, restored_then, header_passes, all_stay, table_back, apply_all_buckets_fit, apply_all_records_fit}
 use Rattle.laws.proofs.DistanceReads.{visited_applied}
 use Rattle.on_key.specs.Answers.{Ready}
 use Rattle.visit.specs.Passes.{visit_one, applied_in}
@@ -38,16 +38,6 @@ use Rattle.visit.specs.Passes.{visit_one, applied_in}
 -- no record, nothing due
 
 module _ (s : BucketSettings) (now : ℕ) where
-  due_gives : (n : Node) (b : Bucket) → length (apply_due s now n b).1 ≡ 1
-  unfolding apply_due
-  due_gives n b = cases (λ (r : Bucket × List EndedPending). length r.1 ≡ 1) (is_full b) (λ _. full b.disconnected) (λ _. refl)
-    where
-      full : (ds : List Node) → length (apply_full s n b ds).1 ≡ 1
-      full [] = refl
-      full (d ∷ ds) =
-          cases (λ (r : Bucket × List EndedPending). length r.1 ≡ 1) (fails_bucket_filter s n.value b) (λ _. refl)
-          (λ _. cases (λ (r : Bucket × List EndedPending). length r.1 ≡ 1) (is_max_incoming s n b) (λ _. refl) (λ _. refl))
-
   none_due : (b : Bucket) → length (apply_pending s now b).1 ≡ 0 → apply_pending s now b ≡ (b, [])
   unfolding apply_pending
   none_due b = go b.pending
@@ -56,7 +46,7 @@ module _ (s : BucketSettings) (now : ℕ) where
       go none = λ e. refl
       go (some p) =
           cases (λ (r : Bucket × List EndedPending). length r.1 ≡ 0 → r ≡ (b, [])) (leb p.deadline now)
-          (λ _ e. absurd (omega (arith, due_gives p.node (with_pending none b)))) (λ _ e. refl)
+          (λ _ e. absurd (omega (arith, due_one s now p.node (with_pending none b)))) (λ _ e. refl)
 
 module _ (now : ℕ) where
   pub visit_same : (i : ℕ) (t : Table) → apply_pending t.settings.bucket now (t.buckets i) ≡ (t.buckets i, []) → visit_one now i t ≡ t
@@ -170,9 +160,6 @@ module _ (s₀ : List ℕ) (now : ℕ) (is : List ℕ) (p : Appliable s₀ now i
     pub applying_table : table_of s ≡ u
     applying_table =
         table_back s₀ d u s w.restored (fits_header d rest w.all) (fits_buckets d rest w.all) p.size (λ j o. apply_all_other now j d t₀ o)
-
-    pub applying_bytes : Bytes s
-    applying_bytes = bytes_back s₀ d u s w.restored (fits_header d rest w.all) (fits_buckets d rest w.all) p.bytes
 
     pub applying_header : header_formed s ≡ true
     applying_header = header_passes s₀ d u s w.restored (fits_header d rest w.all)

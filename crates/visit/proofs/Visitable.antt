@@ -138,11 +138,3 @@ module _ (size : ℕ → ℕ) where
   unfolding visited
   visited_next zero i is h = absurd (omega arith)
   visited_next (suc n) i is h = refl
-
--- only the sizes of the buckets visited matter
-pub visited_agree : (f g : ℕ → ℕ) (n : ℕ) (is : List ℕ) → All (λ (i : ℕ). g i ≡ f i) (visited f n is) → visited g n is ≡ visited f n is
-unfolding visited
-visited_agree f g n [] h = refl
-visited_agree f g zero (i ∷ is) h = refl
-visited_agree f g (suc n) (i ∷ is) h =
-    ap (λ (m : ℕ). i ∷ visited g (suc n - m) is) h.0 ∙ ap (λ (js : List ℕ). i ∷ js) (visited_agree f g (suc n - f i) is h.1)

@@ -3,3 +3,4 @@ pub mod Places
 pub mod KeyPlace
 pub mod Buckets
 pub mod Shown
+pub mod Leading

@@ -15,10 +15,11 @@ pub struct Index {
 }
 
 impl Index {
-    // Internal: the key has this index.
+    // Internal: the key has this index. By the leading zeros: by `bucket_index`, an `Option`, the table filter's walk of 4,047 nodes takes a
+    // sixth longer, and with `counts` alone in the filter too it has missed its bar of 1.8 (docs/MEASUREMENTS.md, last section).
     pub(crate) fn is_of(self, key: Key) -> bool
         ensures { result ≡ of_index (num self.local) self.i (num key) }
     {
-        self.local.bucket_index(key) == Some(self.i)
+        Key::BITS - self.local.distance(key).leading_zeros() == self.i + 1
     }
 }

@@ -10,7 +10,8 @@ use Rattle.table_filter.proofs.Held.{counted_others}
 use Rattle.explanation.specs.declared.Reason.TheVariants as reason
 use Rattle.explanation.specs.Explanation.{why_text}
 use Rattle.explanation.proofs.Text.{put_left, put_then}
-use Rattle.explanation.proofs.Keys.{keys_text_none, filter_put, held_nodes_lem, held_few}
+use Rattle.bucket.proofs.Sound.{nodes_of}
+use Rattle.explanation.proofs.Keys.{keys_text_none, filter_put, held_few}
 use Rattle.explanation.proofs.Short.{incoming_put, words_short, why_put, no_keys}
 use Rattle.explanation.proofs.put_why.Goals as goal
 
@@ -48,7 +49,7 @@ returns-in-BucketFilter c =
     rw (c.in-Some.is, c.in-BucketFilter.is)
     (why_put (Some (reason.BucketFilter c.in-BucketFilter.b c.in-BucketFilter.value)) e
     (filter_put _ max_nodes_per_subnet_bucket (value_of c.in-BucketFilter.value) (nodes b) (omega arith) (omega (arith, ap length e)) c.put_word-n.ensures
-    (rw held_nodes_lem (rw c.nodes.ensures at c.put_held.ensures))))
+    (rw nodes_of (rw c.nodes.ensures at c.put_held.ensures))))
 
 pub returns-in-IncomingLimit : goal.returns-in-IncomingLimit
 returns-in-IncomingLimit c =
@@ -56,7 +57,7 @@ returns-in-IncomingLimit c =
     let b = c.in-IncomingLimit.b in
     rw (c.in-Some.is, c.in-IncomingLimit.is)
     (why_put (Some (reason.IncomingLimit b)) e
-    (incoming_put (bucket_of b.bucket) (held_few b.bucket b.sound.few) (omega (arith, ap length e)) c.put_word-n.ensures (rw held_nodes_lem (rw c.nodes-in-IncomingLimit.ensures at c.put_held-in-IncomingLimit.ensures))))
+    (incoming_put (bucket_of b.bucket) (held_few b.bucket b.sound.few) (omega (arith, ap length e)) c.put_word-n.ensures (rw nodes_of (rw c.nodes-in-IncomingLimit.ensures at c.put_held-in-IncomingLimit.ensures))))
 
 pub returns-in-Pending : goal.returns-in-Pending
 returns-in-Pending c =

@@ -1,4 +1,4 @@
-use Rattle.lent_run.proofs.Computed.{is_key}
+use Rattle.key.proofs.Words.{is_key}
 use Rattle.lent_run.proofs.moved.Goals as goal
 
 pub prove-unreachable-requires : goal.prove-unreachable-requires

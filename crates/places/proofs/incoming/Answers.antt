@@ -5,7 +5,7 @@ use Rattle.std.proofs.lemmas.Iterator.Consumers.{YieldsList-from_filter, count_f
 use Rattle.model.specs.Node.{connected_incoming}
 use Rattle.node.specs.declared.Node.{Node}
 use Rattle.node.specs.Node.{node_of}
-use Rattle.places.proofs.Laws.{filter_select}
+use Rattle.laws.proofs.Lists.{filter_select}
 use Rattle.places.proofs.incoming.Goals as goal
 
 pub returns : goal.returns

@@ -6,7 +6,8 @@ use Rattle.model.specs.Filter.{counts}
 use Rattle.model.specs.Node as model
 use Rattle.node.specs.declared.Node.{Node}
 use Rattle.node.specs.Node.{node_of, value_of}
-use Rattle.places.proofs.Laws.{filter_select, passes_plain, passes_counted}
+use Rattle.laws.proofs.Lists.{filter_select}
+use Rattle.places.proofs.Laws.{passes_plain, passes_counted}
 use Rattle.places.proofs.ip_filter.Goals as goal
 
 pub returns-then-value-ne1 : goal.returns-then-value-ne1

@@ -1,4 +1,4 @@
-use Rattle.positions.proofs.Checks.{is_key}
+use Rattle.key.proofs.Words.{is_key}
 use Rattle.positions.proofs.row10.Goals as goal
 
 pub prove-unreachable-requires : goal.prove-unreachable-requires

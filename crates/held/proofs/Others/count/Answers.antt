@@ -5,7 +5,7 @@ use lib.Dec.{eqb}
 use Rattle.model.specs.Base.{select}
 use Rattle.model.specs.Layout.{node_in}
 use Rattle.places.specs.Places.{remove_at}
-use Rattle.places.proofs.Laws.{flag≤1}
+use Rattle.laws.proofs.Tests.{flag≤1}
 use Rattle.well_formed.specs.Tests.{nodes_here}
 use Rattle.held.proofs.Places.{count_none, count_next, others_are}
 use Rattle.held.proofs.Others.count.Goals as goal

@@ -4,8 +4,7 @@ use Rattle.std.proofs.lemmas.Iterator.Consumers.{YieldsList-from_filter, count_f
 use Rattle.std.specs.List.{filter}
 use Rattle.model.specs.Base.{select, tabulate}
 use Rattle.model.specs.Layout.{node_in, nodes_in, place_in}
-use Rattle.laws.proofs.Lists.{length_tabulate, map_tabulate}
-use Rattle.storage.proofs.Counted.{filter_select}
+use Rattle.laws.proofs.Lists.{length_tabulate, map_tabulate, filter_select}
 use Rattle.storage.proofs.Nodes.count.Goals as goal
 
 pub returns-clause-value : goal.returns-clause-value

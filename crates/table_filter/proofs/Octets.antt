@@ -2,7 +2,7 @@
 use mathlib.Core.Path.{◌≡◌, refl, sym, ◌∙◌}
 use mathlib.Core.Bool.{true, false}
 use mathlib.Core.List.{List}
-use Prim.Native.Nat.{ℕ, ◌+◌, ◌*◌, ◌/◌}
+use Prim.Native.Nat.{ℕ, ◌/◌}
 use native.Mathlib.Omega.{arith}
 use lib.ListN.{length, get_or}
 use borrow.Author.Tests.{eqb-true}
@@ -15,10 +15,7 @@ use Rattle.node.specs.Node.{value_of}
 use Rattle.node.proofs.Tests.{and_both, counts_is}
 use Rattle.words.proofs.Words.{number_8}
 use Rattle.storage.specs.Read.{read_value}
-
--- flag and octets as one number
-abbrev pub net_of : declared.Value → ℕ
-net_of v = ((v.flag * 256 + v.a) * 256 + v.b) * 256 + v.c
+use Rattle.table_filter.specs.Counted.{net_of}
 
 module _ (s : List ℕ) (v : declared.Value) where
   net_shared : length s ≡ value_size → Bytes s → counts (value_of v) (value_of (read_value s)) ≡ true → number (part s 0 8) / 4294967296 ≡ net_of v
