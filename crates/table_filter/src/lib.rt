@@ -18,8 +18,8 @@ use node::{Refusal, Value};
 use storage::{Layout, Nodes};
 
 // The address flag and the first three octets of the value, with which its bytes begin, as one number: by `node::filter::counts` alone the
-// walk of 4,047 nodes takes a sixth longer, and with `bucket_index` in `Index::is_of` too it has missed its bar of 1.8; with the four bytes
-// compared as a slice it misses it (docs/MEASUREMENTS.md, last section).
+// walk of 4,047 nodes takes a twelfth to a sixth longer, and with `bucket_index` in `Index::is_of` too it has missed its bar of 1.8; with the
+// four bytes compared as a slice it misses it (docs/MEASUREMENTS.md, last section).
 fn net(value: Value) -> u64
     ensures { result ≡ net_of value }
 {

@@ -16,7 +16,7 @@ pub struct Index {
 
 impl Index {
     // Internal: the key has this index. By the leading zeros: by `bucket_index`, an `Option`, the table filter's walk of 4,047 nodes takes a
-    // sixth longer, and with `counts` alone in the filter too it has missed its bar of 1.8 (docs/MEASUREMENTS.md, last section).
+    // tenth to a sixth longer, and with `counts` alone in the filter too it has missed its bar of 1.8 (docs/MEASUREMENTS.md, last section).
     pub(crate) fn is_of(self, key: Key) -> bool
         ensures { result ≡ of_index (num self.local) self.i (num key) }
     {
