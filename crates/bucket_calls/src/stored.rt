@@ -66,12 +66,12 @@ pub fn key_of(key: &[u8]) -> Option<Key>
     Some(Key::from_bytes(key.as_array()?))
 }
 
-// Internal: questions 2 to 4 and, where a time is given, 5. Question 1 passes by the type. `key` is none where 3 fails, and `arguments`
-// where 4 does: both are asked after 2. What a call does not have is `Some(())`. Not on_key's `asked`: question 2 is of
-// other bytes, and some calls have no key.
+// Internal: questions 1 to 4 and, where a time is given, 5. Of a call's bucket question 1 has passed by its type; here it is asked of bytes
+// of any length. `key` is none where 3 fails, and `arguments` where 4 does: both are asked after 2. What a call does not have is
+// `Some(())`. Not on_key's `asked`: question 2 is of other bytes, and some calls have no key.
 #[tactic(auto, unfolding(crate::specs::Lent::lent_settings))]
 pub fn asked<K: Copy, T: Copy>(
-    s: &[u8; KBucket::BYTES],
+    s: &[u8],
     key: Option<K>,
     arguments: Option<T>,
     time: Option<u64>,
@@ -79,6 +79,7 @@ pub fn asked<K: Copy, T: Copy>(
     ensures value { failed_of result ≡ failed_of_lent s.now (is_some key) (is_some arguments) (option_of time) }
     ensures passed { IfOk result (λ x. (key ≡ Some x.0) × (arguments ≡ Some x.1) × Passed s.now (option_of time)) }
 {
+    let s = s.as_array().ok_or(Refusal::Size)?;
     if !lent_formed(s) {
         return Err(Refusal::Form);
     }

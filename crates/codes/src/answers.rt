@@ -51,26 +51,17 @@ fn refused_short<T: Copy>(asked: Result<T, Refusal>) -> u32
     crate::refused(asked.err().unwrap_or(Refusal::Output))
 }
 
-// Internal: what a call on the storage alone returns where its answer has no room. This and `short_node` test the length and ask the call's
-// questions: one function would take these as a closure, with its contract.
-#[tactic(auto, using(on_key::proofs::Ended::size_fails), unfolding(on_key::specs::Answers::failed_of_two))]
+// Internal: what a call on the storage alone returns where its answer has no room.
 pub fn short_storage(s: &[u8]) -> u32
     ensures { result ≡ refused_code (given (failed_of_two s.now) 6) }
 {
-    let Some(s) = s.as_array() else {
-        return crate::refused(Refusal::Size);
-    };
     refused_short(on_key::asked_storage(s))
 }
 
 // Internal: what a call with a node returns where its answer has no room. Its parameters are the call's, in the order of the C interface.
-#[tactic(auto, using(on_key::proofs::Ended::size_fails), unfolding(on_key::specs::Answers::failed_of_five))]
 pub fn short_node(s: &[u8], key: &[u8], value: Value, status: NodeStatus, time: u64) -> u32
     ensures { result ≡ refused_code (given (failed_of_five key.now (value_codes value && status_codes status) (some time) s.now) 6) }
 {
-    let Some(s) = s.as_array() else {
-        return crate::refused(Refusal::Size);
-    };
     let fields = NodeFields::of(value, status);
     refused_short(on_key::asked(s, key, fields, Some(time)))
 }

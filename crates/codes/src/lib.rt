@@ -71,7 +71,7 @@ impl Reply {
             None => {}
             Some(Carried::Key(key)) => key.store(&mut answer[0..Layout::KEY]),
             Some(Carried::Record(ended)) => {
-                header::store_record(&mut answer[0..Layout::RECORD], ended);
+                header::store_record(&mut answer[0..Layout::RECORD], Some(ended));
             }
         }
         self.code

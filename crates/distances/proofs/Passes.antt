@@ -8,7 +8,7 @@ use native.Mathlib.Nat.{add-zero}
 use native.Mathlib.Numerals.{add-one}
 use native.Mathlib.Omega.{arith}
 use lib.Dec.{leb}
-use lib.ListN.{length, get_or, take, drop, length-append}
+use lib.ListN.{length, get_or, take, drop, length-append, length-take}
 use lib.Seq.{drop-cons, drop-length, take-suc, take-length}
 use borrow.Author.Tests.{leb-false}
 use Rattle.model.specs.Base.{joined}
@@ -94,6 +94,10 @@ named_next ds p h =
     ∙ joined_append (λ (x : ℕ). indices (index_at x)) (take p ds) (d ∷ [])
     ∙ ap (λ (is : List ℕ). buckets_at (take p ds) ++ is) (append-nil (indices (index_at d)))
 
+-- the first distances are as many as were asked for
+length_first : (k : ℕ) (ds : List ℕ) → k ≤ length ds → length (take k ds) ≡ k
+length_first k ds h = simp length-take (omega arith)
+
 -- the survey: so many records so far, the buckets asked so far, and the rest of the pass
 pub record Counting (now n : ℕ) (ds s : List ℕ) (records seen p : ℕ) : Type 0 where
   pub within : p ≤ length ds
@@ -124,6 +128,8 @@ module _ (now n : ℕ) (ds s : List ℕ) where
         ap (λ (l : List ℕ). length (distance_pass now n seen l (table_after now (take p ds) t)).1) f in
         told (l ∙ sym (ap (λ (k : ℕ). take k ds) e ∙ take-length ds))
         (record {
+          within = omega (arith, length_first p ds w.within);
+          first = ap (λ (k : ℕ). take k ds) (sym (length_first p ds w.within));
           buckets =
               sym (append-nil (buckets_at (take p ds)))
               ∙ ap (λ (l : List ℕ). buckets_at (take p ds) ++ applied_pass now n seen (buckets_at l) (table_after now (take p ds) t)) (sym f) ∙ sym w.all;
@@ -175,6 +181,8 @@ module _ (now n : ℕ) (ds s : List ℕ) where
             let v = ap length (append-nil (records_at now u o)) in
             told l
             (record {
+              within = omega (arith, length_first (p + 1) ds (omega arith));
+              first = ap (λ (k : ℕ). take k ds) (sym (length_first (p + 1) ds (omega arith)));
               buckets = sym (all_then ∙ ap (λ (b : Bool). buckets_at (take (p + 1) ds) ++ cond b [] (applied_pass now n (seen + held_at now u o) (buckets_at (drop (suc p) ds)) (next_table now u o))) z ∙ append-nil (buckets_at (take (p + 1) ds)));
               given = omega (arith, w.total, there, y.records, k);
             })

@@ -55,8 +55,10 @@ distance_pass now n seen ds t = apply_all now (applied_pass now n seen (buckets_
 abbrev pub passed : ℕ → ℕ → List ℕ → Table → List ℕ
 passed now n ds t = applied_pass now n 0 (buckets_at ds) t
 
--- the pass takes these distances, and gives so many records
+-- the pass takes these distances, the first of those given, and gives so many records
 pub record Taken (now n : ℕ) (ds : List ℕ) (t : Table) (taken : List ℕ) (records : ℕ) : Type 0 where
+  pub within : length taken ≤ length ds
+  pub first : taken ≡ take (length taken) ds
   pub buckets : buckets_at taken ≡ passed now n ds t
   pub given : records ≡ length (distance_pass now n 0 ds t).1
 

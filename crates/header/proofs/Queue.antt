@@ -131,6 +131,12 @@ module _ (s : List ℕ) (e : ended.EndedPending) (l : length s ≡ record_size) 
       let o : length (take 47 (drop 33 kind_put)) ≡ node_size = simp (length-take, length-drop) (omega arith) in
       record_put (ev ∙ ap zeros o) ew
 
+-- a record written into a run that is as long
+pub whole_record : (s : List ℕ) (e : ended.EndedPending) → length s ≡ record_size → splice s 0 (joined record_bytes (records_of (Some e))) ≡ joined record_bytes (records_of (Some e))
+whole_record s e l =
+    let r : EndedPending = record { key = num e.key; ending = endings.ending_of e.ending } in
+    splice_all s (joined record_bytes (records_of (Some e))) (l ∙ sym (ap length (one_joined r) ∙ length_record r))
+
 -- an ending that names no node
 pub no_evicted : (e : code.Ending) → ((n : stored.Node) → e ≡ ending.Placed (Some n) → ⊥) → zeros node_size ≡ evicted_bytes (evicted_in (endings.ending_of e))
 no_evicted (ending.Placed None) h = refl

@@ -4,6 +4,7 @@
 
 ghost use Rattle.std.specs.Prelude.{◌≡◌, Some, true, [], ◌∷◌, ◌++◌, ◌+◌, ◌≤◌, ◌<◌, leb, length, take, drop};
 ghost use Rattle.model.specs.Base.{joined};
+ghost use Rattle.model.specs.Bytes.{splice};
 ghost use Rattle.model.specs.Bucket.{max_nodes_per_bucket};
 ghost use Rattle.model.specs.Table.{empty_table, max_records};
 ghost use Rattle.model.specs.Sizes.{record_size};
@@ -54,15 +55,18 @@ pub fn record_count(s: &[u8; Layout::STORAGE]) -> usize
     usize::from(s[Layout::RECORD_COUNT_AT])
 }
 
-// Internal: the bytes become the record of an ended pending.
-pub fn store_record(s: &mut [u8], ended: EndedPending)
+// Internal: the bytes become the record of an ended pending, if there is one.
+pub fn store_record(s: &mut [u8], ended: Option<EndedPending>)
     requires { length s.old ≡ record_size }
-    ensures { s.new ≡ joined record_bytes (records_of (Some ended)) }
+    ensures { s.new ≡ splice s.old 0 (joined record_bytes (records_of ended)) }
 {
-    ended.key.store(&mut s[0..Layout::KEY]);
-    s[Layout::KEY] = ended.ending.kind();
+    let Some(it) = ended else {
+        return;
+    };
+    it.key.store(&mut s[0..Layout::KEY]);
+    s[Layout::KEY] = it.ending.kind();
     let evicted = &mut s[Layout::KEY + 1..Layout::RECORD];
-    match ended.ending {
+    match it.ending {
         Ending::Placed(Some(node)) => storage::store_node(evicted, NodeInRange { node }),
         _ => words::put_zeros(evicted),
     }
@@ -79,7 +83,7 @@ pub fn push_record(s: &mut [u8; Layout::STORAGE], ended: Option<EndedPending>)
     };
     let count = record_count(s);
     let at = Layout::RECORDS_AT + count * Layout::RECORD;
-    store_record(&mut s[at..at + Layout::RECORD], ended);
+    store_record(&mut s[at..at + Layout::RECORD], Some(ended));
     s[Layout::RECORD_COUNT_AT] = (count + 1) as u8;
 }
 

@@ -196,7 +196,7 @@ impl<'a> Others<'a> {
     fn counted(self, value: Value) -> usize
         ensures { result ≡ length (counted (value_of value) (others self.entry.held.bucket.now self.entry.skip)) }
     {
-        self.count(|node| node::filter::counts(value, storage::load_value(node)))
+        self.count(|node| node::filter::counts(value, storage::node_value(node)))
     }
 
     // Internal: the node is connected and incoming, with max_incoming such nodes among these.
@@ -305,7 +305,7 @@ pub fn value_at(
         → Does (update_value (settings_of settings) k (value_of value.value) (bucket_in bucket.old)) (update_result_of result) bucket.new }
 {
     let held = nodes(bucket);
-    if storage::load_value(held.place(pos)).eq(value.value) {
+    if storage::node_value(held.place(pos)).eq(value.value) {
         return UpdateResult::NotModified;
     }
     let others = Others { held, skip: pos };

@@ -32,7 +32,7 @@ fn value_at(nodes: Nodes, j: usize) -> Value
     requires { j < nodes.count }
     ensures { value_of result ≡ (node_at nodes.entry.bucket.now j).value }
 {
-    storage::load_value(nodes.place(j))
+    storage::node_value(nodes.place(j))
 }
 
 // Three of the nodes have the same third octet. Elsewhere no three values are of one /24.

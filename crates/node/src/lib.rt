@@ -295,7 +295,11 @@ impl ConnectionDirection {
     pub fn code(self) -> Code
         ensures { result ≡ direction_code self }
     {
-        self as Code
+        // A `match`, where the state has `as`: so each body is a text of its own, and an edit can give one variant alone a wrong code.
+        match self {
+            ConnectionDirection::Outgoing => 0,
+            ConnectionDirection::Incoming => 1,
+        }
     }
 }
 

@@ -8,9 +8,13 @@ use mathlib.Core.Path.{◌≡◌, sym, ap, ◌∙◌}
 use mathlib.Core.Bool.{Bool, cond}
 use mathlib.Core.List.{List, [], ◌∷◌}
 use mathlib.Core.Option.{Option, none, some}
-use borrow.Author.Tests.{leb-true}
+use lib.Dec.{eqb}
+use lib.ListN.{length}
+use borrow.Author.Tests.{leb-true, ne_eqb}
 use Rattle.model.specs.Bytes.{number}
 use Rattle.model.specs.Bucket.{Bucket, BucketSettings}
+use Rattle.model.specs.Sizes.{key_size, storage_size}
+use Rattle.model.specs.Question.{deadline_fits}
 use Rattle.model.specs.Layout.{table_of}
 use Rattle.laws.proofs.Questions.{front_fails, front_passes}
 use Rattle.key.specs.declared.Key.{Key}
@@ -19,9 +23,24 @@ use Rattle.node.specs.Refusal.{number_of}
 use Rattle.bucket.specs.declared.KBucket.{KBucket}
 use Rattle.bucket.specs.Bucket.{bucket_of, settings_of, Becomes, Sound}
 use Rattle.bucket.proofs.Steps.{told, then_becomes}
-use Rattle.on_key.specs.Answers.{first_five, failed_of_five}
+use Rattle.on_key.specs.Answers.{first_two, first_five, failed_of_two, failed_of_three, failed_of_five}
 use Rattle.on_key.specs.Start.{key_formed, failed_at_start, Located, AtBucket, Begun}
 use Rattle.on_key.proofs.Questions.{passed_five}
+
+-- a question of 1 and 2 that failed, where others stand behind them
+pub three_refused : (time : ℕ) (s : List ℕ) (n : ℕ) → failed_of_two s ≡ some n → failed_of_three time s ≡ some n
+unfolding failed_of_two failed_of_three
+three_refused time s n e = front_fails (first_two s) ((5, deadline_fits (table_of s).settings.bucket.pending_timeout (some time)) ∷ []) n e
+
+pub five_refused : (s key : List ℕ) (codes : Bool) (now : Option ℕ) (n : ℕ) → failed_of_two s ≡ some n → failed_of_five key codes now s ≡ some n
+unfolding failed_of_two failed_of_five
+five_refused s key codes now n e =
+    front_fails (first_two s) ((3, eqb (length key) key_size) ∷ (4, codes) ∷ (5, deadline_fits (table_of s).settings.bucket.pending_timeout now) ∷ []) n e
+
+-- question 1, at the start of a call on one key
+pub begun_short : (s key : List ℕ) (codes : Bool) (now : Option ℕ) → (length s ≡ storage_size → ⊥) → failed_at_start key codes now s ≡ some 1
+unfolding failed_at_start
+begun_short s key codes now n = rw (ne_eqb (length s) storage_size n)
 
 -- a question of 1 to 5 that failed
 pub begun_refused : (s key : List ℕ) (codes : Bool) (now : Option ℕ) (n : ℕ) → failed_of_five key codes now s ≡ some n → failed_at_start key codes now s ≡ some n

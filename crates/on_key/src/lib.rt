@@ -23,11 +23,15 @@ use key::Key;
 use node::Refusal;
 use storage::Layout;
 
-// Internal: question 2 of the settings and the queue (document 02, slip 7). Question 1 passes by the type, here and in what follows. Not
-// one function with `asked_table`: it would take the test.
-pub fn asked_storage(s: &[u8; Layout::STORAGE]) -> Result<(), Refusal>
+// Internal: questions 1 and 2, 2 of the settings and the queue (document 02, slip 7). Of an entry point's storage question 1 has passed
+// by its type; here and in the five that follow it is asked of bytes of any length. Not one function with `asked_table`: it would take
+// the test.
+pub fn asked_storage(s: &[u8]) -> Result<(), Refusal>
     ensures { failed_of result ≡ failed_of_two s.now }
 {
+    if s.len() != Layout::STORAGE {
+        return Err(Refusal::Size);
+    }
     if !well_formed::header_formed(s) {
         return Err(Refusal::Form);
     }
@@ -35,27 +39,29 @@ pub fn asked_storage(s: &[u8; Layout::STORAGE]) -> Result<(), Refusal>
 }
 
 // Internal: the same of the whole table.
-pub fn asked_table(s: &[u8; Layout::STORAGE]) -> Result<(), Refusal>
+pub fn asked_table(s: &[u8]) -> Result<(), Refusal>
     ensures { failed_of result ≡ failed_of_table s.now }
 {
+    let s = s.as_array().ok_or(Refusal::Size)?;
     if !well_formed::formed(s) {
         return Err(Refusal::Form);
     }
     Ok(())
 }
 
-// Internal: questions 2 and 5, where no key is given.
-pub fn asked_time(s: &[u8; Layout::STORAGE], time: u64) -> Result<(), Refusal>
+// Internal: questions 1, 2 and 5, where no key is given.
+pub fn asked_time(s: &[u8], time: u64) -> Result<(), Refusal>
     ensures { failed_of result ≡ failed_of_three time s.now }
 {
+    let s = s.as_array().ok_or(Refusal::Size)?;
     asked_storage(s)?;
     bucket::asked_time(header::pending_timeout(s), Some(time))
 }
 
-// Internal: questions 2 to 4 and, where a time is given, 5; then the key and the call's arguments. They are none where they fail question
+// Internal: questions 1 to 4 and, where a time is given, 5; then the key and the call's arguments. They are none where they fail question
 // 4, which is the test of their type, and `Some(())` where a call has none to ask it of.
 pub fn asked<T: Copy>(
-    s: &[u8; Layout::STORAGE],
+    s: &[u8],
     key: &[u8],
     arguments: Option<T>,
     time: Option<u64>,
@@ -63,6 +69,7 @@ pub fn asked<T: Copy>(
     ensures failed { failed_of result ≡ failed_of_five key.now (is_some arguments) (option_of time) s.now }
     ensures given { IfOk result (λ r. (num r.0 ≡ number key.now) × (arguments ≡ Some r.1)) }
 {
+    let s = s.as_array().ok_or(Refusal::Size)?;
     asked_storage(s)?;
     let key = Key::from_bytes(key.as_array().ok_or(Refusal::Key)?);
     let arguments = arguments.ok_or(Refusal::Code)?;
@@ -171,16 +178,17 @@ pub fn located(s: &[u8; Layout::STORAGE], key: Key) -> Result<Option<(Key, usize
     Ok(Some((key, i)))
 }
 
-// Internal: how a call on one key starts: questions 2 to 4 and, where a time is given, 5; then 2 of the key's bucket. The key, its bucket
+// Internal: how a call on one key starts: questions 1 to 4 and, where a time is given, 5; then 2 of the key's bucket. The key, its bucket
 // and the call's arguments, or none for the local key.
 pub fn begin<T: Copy>(
-    s: &[u8; Layout::STORAGE],
+    s: &[u8],
     key: &[u8],
     arguments: Option<T>,
     time: Option<u64>,
 ) -> Result<Option<(Key, usize, T)>, Refusal>
     ensures { Begun s.now key.now arguments (option_of time) result }
 {
+    let s = s.as_array().ok_or(Refusal::Size)?;
     let (key, arguments) = asked(s, key, arguments, time)?;
     let Some((key, i)) = located(s, key)? else {
         return Ok(None);

@@ -126,7 +126,7 @@ impl Record {
     // The call on a table or a bucket, of which as much is handed over as the record says.
     pub(crate) fn made(&self, s: &mut [u8], out: &mut [u8]) -> Option<u32> {
         let call = self.call();
-        if call == 0 || call == ON_BUCKET {
+        if call % ON_BUCKET == 0 {
             return self.write(s);
         }
         let key = self.key()?;

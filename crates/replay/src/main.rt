@@ -24,26 +24,25 @@ const OUTPUT: usize = (4096 + 5) * Layout::NODE;
 // What the output or the answer holds before a call.
 const FILL: u8 = 165;
 
-// The code that a call returns, a number as C sees it, or none where the record cannot be read; and the checksum of what the call may
-// write.
+// The code of a record that cannot be read: no call answers it.
+const UNREADABLE: u32 = 0xffff_ffff;
+
+// The code that a call returns, a number as C sees it, or UNREADABLE; and the checksum of what the call may write.
 #[derive(Clone, Copy, PartialEq, Eq)]
 struct Answer {
-    code: Option<u32>,
+    code: u32,
     sum: u64,
 }
 
 impl fmt::Display for Answer {
     fn fmt<W: fmt::Write>(&self, f: &mut fmt::Formatter<W>) -> fmt::Result {
-        match self.code {
-            Some(code) => write!(f, "code {code} and checksum {:016x}", self.sum),
-            None => write!(f, "no code and checksum {:016x}", self.sum),
-        }
+        write!(f, "code {} and checksum {:016x}", self.code, self.sum)
     }
 }
 
 fn expected(r: &Record) -> Answer {
     Answer {
-        code: Some(r.code()),
+        code: r.code(),
         sum: r.sum(),
     }
 }
@@ -52,7 +51,7 @@ fn expected(r: &Record) -> Answer {
 fn found(r: &Record, s: &mut [u8], out: &mut [u8]) -> Answer {
     let room = r.room().min(out.len());
     out[..room].fill(FILL);
-    let code = r.made(s, out);
+    let code = r.made(s, out).unwrap_or(UNREADABLE);
     let written = checksum::checksum(checksum::BASIS, s);
     let sum = checksum::checksum(written, &out[..room]);
     Answer { code, sum }
@@ -70,8 +69,12 @@ fn agrees_on(
     if wanted == got {
         return Ok(true);
     }
-    let name = NAMES.get(usize::from(r.call())).copied().unwrap_or("");
-    println!(rt; "record {number}: {name:24} expected {wanted}, found {got}")?;
+    print!(rt; "record {number}: ")?;
+    // A number that no call has is told with no name.
+    if let Some(name) = NAMES.get(usize::from(r.call())) {
+        print!(rt; "{name:24}")?;
+    }
+    println!(rt; " expected {wanted}, found {got}")?;
     Ok(false)
 }
 

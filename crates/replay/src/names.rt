@@ -4,7 +4,7 @@
 // How many calls there are.
 pub(crate) const CALLS: usize = 24;
 
-// From this number on a call is on the bucket. This one and 0 write bytes.
+// From this number on a call is on the bucket. Its multiples write bytes, 0 among them.
 pub(crate) const ON_BUCKET: u8 = 16;
 
 pub(crate) const NAMES: [&str; CALLS] = [

@@ -8,7 +8,7 @@ ghost use Rattle.model.specs.Base.{select, tabulate};
 ghost use Rattle.model.specs.Bytes.{part, Bytes};
 ghost use Rattle.model.specs.Bucket.{max_nodes_per_bucket, num_entries};
 ghost use Rattle.model.specs.Table.{num_buckets, max_records};
-ghost use Rattle.model.specs.Sizes.{key_size, value_size, node_size, bucket_size, bucket_at, pending_at};
+ghost use Rattle.model.specs.Sizes.{key_size, value_size, node_size, bucket_size, bucket_at, pending_at, header_size};
 ghost use Rattle.model.specs.Layout.{value_bytes, node_bytes, node_in, nodes_in, place_in, record_part, bucket_part, table_of};
 ghost use Rattle.model.specs.Formed.{key_in};
 ghost use Rattle.model.specs.Saved.{saved_entry_size};
@@ -155,7 +155,7 @@ pub fn load_key(node: &[u8; Layout::NODE]) -> Key
 }
 
 // Internal: the value of these bytes.
-pub fn value_from(value: &[u8; Layout::VALUE]) -> Value
+pub fn load_value(value: &[u8; Layout::VALUE]) -> Value
     ensures { result ≡ read_value value.now }
 {
     Value {
@@ -169,10 +169,10 @@ pub fn value_from(value: &[u8; Layout::VALUE]) -> Value
 }
 
 // Internal: the value of the node of these bytes.
-pub fn load_value(node: &[u8; Layout::NODE]) -> Value
+pub fn node_value(node: &[u8; Layout::NODE]) -> Value
     ensures { result ≡ read_value (part node.now (key_size + 2) value_size) }
 {
-    value_from(node[Layout::VALUE_AT..Layout::NODE].as_array().unwrap())
+    load_value(node[Layout::VALUE_AT..Layout::NODE].as_array().unwrap())
 }
 
 // Internal: the node of these bytes.
@@ -181,7 +181,7 @@ pub fn load_node(node: &[u8; Layout::NODE]) -> Node
 {
     Node {
         key: load_key(node),
-        value: load_value(node),
+        value: node_value(node),
         status: NodeStatus {
             state: node[Layout::STATE_AT],
             direction: node[Layout::DIRECTION_AT],
@@ -277,8 +277,8 @@ pub fn size_at(s: &[u8; Layout::STORAGE], i: usize) -> u8
 
 // Internal: the bytes of record j of the queue.
 #[tactic(auto, using(laws::proofs::Parts::sliced))]
-pub fn record(s: &[u8; Layout::STORAGE], j: usize) -> &[u8; Layout::RECORD]
-    requires { j < max_records }
+pub fn record(s: &[u8], j: usize) -> &[u8; Layout::RECORD]
+    requires { (header_size ≤ length s.now) × (j < max_records) }
     ensures { result.now ≡ record_part s.now j }
 {
     let at = Layout::RECORDS_AT + j * Layout::RECORD;

@@ -34,7 +34,7 @@ fn counts(node: &[u8; Layout::NODE], key: Key, value: Value) -> bool
     if words::get_u64(&node[Layout::VALUE_AT..Layout::VALUE_AT + 8]) / 0x1_0000_0000 != net(value) {
         return false;
     }
-    node::filter::counts(value, storage::load_value(node)) && !storage::load_key(node).eq(key)
+    node::filter::counts(value, storage::node_value(node)) && !storage::load_key(node).eq(key)
 }
 
 // How many of the nodes count against the value of the key. The pending is not among them. Key and value are what a call is given: nothing
@@ -73,7 +73,7 @@ fn holds_value(held: Nodes, key: Key, value: Value) -> bool
     let Some(j) = well_formed::position(held.bucket, held.count, key) else {
         return false;
     };
-    storage::load_value(held.place(j)).eq(value)
+    storage::node_value(held.place(j)).eq(value)
 }
 
 // Internal: does the value of the key, whose bucket is i and has passed question 2, fail the table filter? Where the filter is off, or

@@ -12,7 +12,7 @@ use Rattle.model.specs.Base.{same, select}
 use Rattle.model.specs.Bytes.{number, part, Bytes}
 use Rattle.model.specs.Node.{connected_incoming}
 use Rattle.model.specs.Bucket.{max_nodes_per_bucket, incoming_nodes}
-use Rattle.model.specs.Sizes.{time_size, node_size, place_at, pending_at, bucket_size}
+use Rattle.model.specs.Sizes.{key_size, time_size, node_size, place_at, pending_at, bucket_size}
 use Rattle.model.specs.Layout.{nodes_in, place_in}
 use Rattle.model.specs.Formed.{are_zero, key_in, not_held, pending_formed}
 use Rattle.laws.proofs.Tests.{cases, split, same_not}
@@ -32,7 +32,7 @@ use Rattle.well_formed.specs.Tests.{differs}
 -- keys
 
 -- keys that differ in the last word differ
-pub last_differs : (s : List ℕ) (w : ℕ) (key : Key) → length s ≡ node_size → Bytes s → Words key → w ≡ number (part s 24 8) → (w ≡ key.w3 → ⊥)
+pub last_differs : (s : List ℕ) (w : ℕ) (key : Key) → key_size ≤ length s → Bytes s → Words key → w ≡ number (part s 24 8) → (w ≡ key.w3 → ⊥)
     → same (key_in s) (num key) ≡ false
 unfolding num
 last_differs s w key l b k e h =

@@ -7,7 +7,7 @@ ghost use Rattle.std.specs.Prelude.{◌≡◌, true, ◌&&◌, ◌≤◌, ◌<�
 ghost use Rattle.model.specs.Base.{same, all_below};
 ghost use Rattle.model.specs.Bucket.{max_nodes_per_bucket, incoming_nodes};
 ghost use Rattle.model.specs.Table.{num_buckets};
-ghost use Rattle.model.specs.Sizes.{bucket_size};
+ghost use Rattle.model.specs.Sizes.{key_size, bucket_size, header_size};
 ghost use Rattle.model.specs.Node.{connected_incoming};
 ghost use Rattle.model.specs.Layout.{node_in, nodes_in};
 ghost use Rattle.model.specs.Formed.{are_zero, key_in, state_at, not_held, pending_formed, bucket_formed, bucket_formed_at, record_formed, header_formed, formed};
@@ -33,11 +33,14 @@ fn has_index(index: Option<Index>, key: Key) -> bool
     }
 }
 
-// Internal: the node of these bytes has the key. The key's last word decides most often.
-pub fn has_key(node: &[u8; Layout::NODE], key: Key) -> bool
-    ensures { result ≡ same (key_in node.now) (num key) }
+// Internal: the bytes begin with the key, as those of its node do. The key's last word decides most often.
+#[tactic(auto, unfolding(model::specs::Bytes::part))]
+pub fn has_key(s: &[u8], key: Key) -> bool
+    requires { key_size ≤ length s.now }
+    ensures { result ≡ same (key_in s.now) (num key) }
 {
-    words::get_u64(&node[Layout::KEY - 8..Layout::KEY]) == key.w3 && storage::load_key(node).eq(key)
+    words::get_u64(&s[Layout::KEY - 8..Layout::KEY]) == key.w3
+        && Key::load(&s[0..Layout::KEY]).eq(key)
 }
 
 // Internal: the place of the key among the first count of the bucket. They may be fewer than are held: it is asked of those before a
@@ -191,8 +194,9 @@ fn record_formed(s: &[u8; Layout::RECORD]) -> bool
     (kind <= Layout::LAST_KIND) & words::all_zero(evicted)
 }
 
-// Internal: the settings and the queue are well formed.
-pub fn header_formed(s: &[u8; Layout::STORAGE]) -> bool
+// Internal: the settings and the queue are well formed. The header's bytes are enough, and more may follow them.
+pub fn header_formed(s: &[u8]) -> bool
+    requires { header_size ≤ length s.now }
     ensures { result ≡ header_formed s.now }
 {
     let count = usize::from(s[Layout::RECORD_COUNT_AT]);

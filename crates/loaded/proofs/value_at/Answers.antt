@@ -10,4 +10,4 @@ use Rattle.loaded.proofs.value_at.Goals as goal
 pub returns : goal.returns
 unfolding node_at node_in
 returns c =
-    ap value_of c.load_value.ensures ∙ value_of_read _ ∙ ap (λ (s : List ℕ). value_in (part s (key_size + 2) value_size)) c.place.ensures
+    ap value_of c.node_value.ensures ∙ value_of_read _ ∙ ap (λ (s : List ℕ). value_in (part s (key_size + 2) value_size)) c.place.ensures

@@ -11,4 +11,4 @@ returns c =
     let l = c.load_key in
     let w : Words l.result = omega arith in
     let k = sym (key_of_num l.result w) ∙ ap key_of l.ensures in
-    rw (k, c.load_value.ensures) refl
+    rw (k, c.node_value.ensures) refl

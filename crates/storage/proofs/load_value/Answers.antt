@@ -1,8 +1,8 @@
-use Rattle.std.proofs.Common.{ap, ◌∙◌, rules}
+use Rattle.std.proofs.Common.{refl}
 use Rattle.model.specs.Bytes.{part}
 use Rattle.storage.specs.Read.{read_value}
 use Rattle.storage.proofs.load_value.Goals as goal
 
 pub returns : goal.returns
-unfolding part
-returns c = c.value_from.ensures ∙ ap read_value (search rules)
+unfolding read_value part
+returns c = rw c.get_u64.ensures refl

@@ -25,10 +25,10 @@ unfolding part
 returns-then-counts c =
     ap not (c.eq.ensures ∙ ap (λ (m : ℕ). same m (num c.args.key)) c.load_key.ensures)
     ∙ place_by_key (num c.args.key) (value_of c.args.value) c.args.node.now
-    (ap (λ w. counts (value_of c.args.value) (value_of w)) (sym c.load_value.ensures) ∙ sym c.counts.ensures ∙ c.if-counts.true)
+    (ap (λ w. counts (value_of c.args.value) (value_of w)) (sym c.node_value.ensures) ∙ sym c.counts.ensures ∙ c.if-counts.true)
 
 pub returns-else-counts : goal.returns-else-counts
 returns-else-counts c =
     c.if-counts.false
     ∙ place_passed (num c.args.key) (value_of c.args.value) c.args.node.now
-    (ap (λ w. counts (value_of c.args.value) (value_of w)) (sym c.load_value.ensures) ∙ sym c.counts.ensures ∙ c.if-counts.false)
+    (ap (λ w. counts (value_of c.args.value) (value_of w)) (sym c.node_value.ensures) ∙ sym c.counts.ensures ∙ c.if-counts.false)

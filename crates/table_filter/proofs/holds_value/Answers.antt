@@ -14,4 +14,4 @@ returns c =
     let h = c.args.held in
     let f = c.in-Some in
     let v = value_of c.args.value in
-    rw (get_found (num c.args.key) h.bucket.now h.counts f.j f.ensures.0 f.ensures.1, value_there (num c.args.key) v (place_in h.bucket.now f.j), ← c.place.ensures, ← c.load_value.ensures) c.eq.ensures
+    rw (get_found (num c.args.key) h.bucket.now h.counts f.j f.ensures.0 f.ensures.1, value_there (num c.args.key) v (place_in h.bucket.now f.j), ← c.place.ensures, ← c.node_value.ensures) c.eq.ensures

@@ -10,4 +10,4 @@ unfolding part
 returns-else-get_u64-key c =
     let a = c.args in
     let w : Words a.key = omega arith in
-    ne_eqb _ _ c.if-get_u64-key.false ∙ sym (last_differs a.node.now _ a.key c.told-node c.fits-node w c.get_u64.ensures c.if-get_u64-key.false)
+    ne_eqb _ _ c.if-get_u64-key.false ∙ sym (last_differs a.s.now _ a.key c.requires (λ i. (c.type_inv.s i).fits) w c.get_u64.ensures c.if-get_u64-key.false)
