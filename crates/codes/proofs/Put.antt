@@ -31,9 +31,14 @@ record_carried e =
     let r : model.EndedPending = record { key = num e.key; ending = ending_of e.ending } in
     append-nil (record_bytes r)
 
-pub record_put : (s w : List ℕ) (e : EndedPending) → answer_size ≤ length s → w ≡ splice (mid_of 0 80 s) 0 (joined record_bytes (records_of (Some e)))
-    → put_mid 0 80 s w ≡ splice s 0 (joined record_bytes (records_of (Some e)))
-record_put s w e l h =
+pub record_put : (s w : List ℕ) (e : EndedPending) → w ≡ joined record_bytes (records_of (Some e)) → put_mid 0 80 s w ≡ splice s 0 (joined record_bytes (records_of (Some e)))
+record_put s w e h =
     let r : model.EndedPending = record { key = num e.key; ending = ending_of e.ending } in
+    put_mid_splice s 0 80 h (ap length (record_carried e) ∙ length_record r)
+
+-- the same, where the record is written into the bytes that stand there
+pub record_put_over : (s w : List ℕ) (e : EndedPending) → answer_size ≤ length s → w ≡ splice (mid_of 0 80 s) 0 (joined record_bytes (records_of (Some e)))
+    → put_mid 0 80 s w ≡ splice s 0 (joined record_bytes (records_of (Some e)))
+record_put_over s w e l h =
     let n : length (mid_of 0 80 s) ≡ record_size = simp (length-take, length-drop) (omega arith) in
-    put_mid_splice s 0 80 (h ∙ whole_record (mid_of 0 80 s) e n) (ap length (record_carried e) ∙ length_record r)
+    record_put s w e (h ∙ whole_record (mid_of 0 80 s) e n)

@@ -61,7 +61,7 @@ impl Reply {
     }
 
     // Internal: puts what is carried at the front of the answer, and gives the number.
-    #[tactic(auto, using(crate::proofs::Put::key_put, crate::proofs::Put::record_put, laws::proofs::Parts::splice_nil))]
+    #[tactic(auto, using(crate::proofs::Put::key_put, crate::proofs::Put::record_put_over, laws::proofs::Parts::splice_nil))]
     pub fn put(self, answer: &mut [u8]) -> u32
         requires { answer_size ≤ length answer.old }
         ensures code { result ≡ self.code }

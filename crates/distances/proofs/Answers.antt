@@ -32,7 +32,7 @@ use Rattle.visit.specs.Passes.{applied_in}
 use Rattle.visit.proofs.Applying.{Appliable, Applying, applying_done, applying_table, applying_formed}
 use Rattle.items.specs.Lists.{Lists}
 use Rattle.items.proofs.Asked.{asked_passes}
-use Rattle.distances.specs.Passes.{table_after, distance_pass, passed, Taken, listed_nodes}
+use Rattle.distances.specs.Passes.{table_after, distance_pass, passed, listed_nodes}
 use Rattle.distances.specs.Early.{early, failed_early}
 use Rattle.distances.proofs.Passes.{pass_appliable}
 
@@ -157,7 +157,8 @@ module _ (s : List ℕ) (ds : List ℕ) (n now : ℕ) (out : List ℕ) where
           → some m ≡ cond (leb (length t.queue + records) max_records) none (some 8) → Lists (Answer.Refused m) s out (step_bytes c s)
       refused_full g m h = refused m (asked_last ∙ rw (f, fits_are) (ap (λ (k : ℕ). cond (leb k max_records) none (some 8)) (sym (queue_asked g)) ∙ sym h))
 
-      module _ (h : length left.queue ≤ max_records) {taken : List ℕ} {records : ℕ} (k : Taken now n ds t taken records) where
+      -- the distances taken have the buckets of the pass, and the records are the pass's
+      module _ (h : length left.queue ≤ max_records) (taken : List ℕ) {records : ℕ} (named : buckets_at taken ≡ passed now n ds t) (given : records ≡ length (distance_pass now n 0 ds t).1) where
         abbrev is : List ℕ
         is = buckets_at taken
 
@@ -165,15 +166,15 @@ module _ (s : List ℕ) (ds : List ℕ) (n now : ℕ) (out : List ℕ) where
         accepted = asked_last ∙ rw (f, fits_are, le-leb (length left.queue) max_records h)
 
         pub taken_formed : buckets_formed s is ≡ true
-        taken_formed = ap (buckets_formed s) k.buckets ∙ f
+        taken_formed = ap (buckets_formed s) named ∙ f
 
         pub taken_room : length (table_after now taken t).queue ≤ max_records
         unfolding table_after distance_pass
-        taken_room = let q = ap (λ (js : List ℕ). length (apply_all now js t).0.queue) k.buckets in omega arith
+        taken_room = let q = ap (λ (js : List ℕ). length (apply_all now js t).0.queue) named in omega arith
 
         pub taken_records : records ≡ length (apply_all now is t).1
         unfolding distance_pass
-        taken_records = k.given ∙ ap (λ (js : List ℕ). length (apply_all now js t).1) (sym k.buckets)
+        taken_records = given ∙ ap (λ (js : List ℕ). length (apply_all now js t).1) (sym named)
 
         -- the storage once the pass has been made
         module _ (b : Bytes s) {s' : List ℕ} (v : s' ≡ applied_in s now is) where
@@ -188,12 +189,12 @@ module _ (s : List ℕ) (ds : List ℕ) (n now : ℕ) (out : List ℕ) where
 
           there : table_of s' ≡ left
           unfolding distance_pass
-          there = applying_table s now is p s' [] w ∙ ap (λ (js : List ℕ). (apply_all now js t).0) (sym (append-nil w.done) ∙ sym w.all ∙ k.buckets)
+          there = applying_table s now is p s' [] w ∙ ap (λ (js : List ℕ). (apply_all now js t).0) (sym (append-nil w.done) ∙ sym w.all ∙ named)
 
           found_is : listed_nodes (table_of s') (at_least_one n) taken ≡ found l n now t
           unfolding listed_nodes distance_pass
           found_is =
-              ap₂ (λ (u : Table) (js : List ℕ). take (at_least_one n) (joined (λ i. nodes (u.buckets i)) js)) there k.buckets
+              ap₂ (λ (u : Table) (js : List ℕ). take (at_least_one n) (joined (λ i. nodes (u.buckets i)) js)) there named
               ∙ sym (found_reads l n now t)
 
           items_are : (ns : List Node) → joined node_bytes ns ≡ joined item_bytes (map (item l) ns)
@@ -207,7 +208,7 @@ module _ (s : List ℕ) (ds : List ℕ) (n now : ℕ) (out : List ℕ) where
               let a : m ≡ length (found l n now t) = g ∙ ap length found_is in
               record {
                 answer = ap Answer.Found a ∙ ap (λ (q : Option ℕ). (unless_refused_bytes q c s).answer) (sym accepted);
-                storage = v ∙ ap (λ (js : List ℕ). restore s js (apply_all now js t).0) k.buckets ∙ ap (λ (q : Option ℕ). (unless_refused_bytes q c s).storage) (sym accepted);
+                storage = v ∙ ap (λ (js : List ℕ). restore s js (apply_all now js t).0) named ∙ ap (λ (q : Option ℕ). (unless_refused_bytes q c s).storage) (sym accepted);
                 output =
                     o ∙ ap (λ (ns : List Node). splice out 0 (joined node_bytes ns)) found_is
                     ∙ ap (splice out 0) (items_are (found l n now t)) ∙ ap (λ (q : Option ℕ). (unless_refused_bytes q c s).output) (sym accepted);

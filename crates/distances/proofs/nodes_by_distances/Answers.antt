@@ -62,9 +62,9 @@ apply_pass-requires c =
     let q = queue_room s ds a.n a.time a.out.now y.pass.given c.in_ok-asked_queue.ensures in
     record {
       header = p.header;
-      taken_value = taken_formed s ds a.n a.time a.out.now e y.formed q y.pass;
-      s_len_bound = taken_room s ds a.n a.time a.out.now e y.formed q y.pass;
-      records_value = taken_records s ds a.n a.time a.out.now e y.formed q y.pass;
+      taken_value = taken_formed s ds a.n a.time a.out.now e y.formed q _ y.pass.buckets y.pass.given;
+      s_len_bound = taken_room s ds a.n a.time a.out.now e y.formed q _ y.pass.buckets y.pass.given;
+      records_value = taken_records s ds a.n a.time a.out.now e y.formed q _ y.pass.buckets y.pass.given;
     }
 
 pub put_all-requires : goal.put_all-requires
@@ -78,7 +78,7 @@ put_all-requires c =
     let y = c.in_ok-tally.ensures in
     let q = queue_room s ds a.n a.time a.out.now y.pass.given c.in_ok-asked_queue.ensures in
     record {
-      distances_value = formed_left s ds a.n a.time a.out.now e y.formed q y.pass b c.apply_pass.ensures;
+      distances_value = formed_left s ds a.n a.time a.out.now e y.formed q _ y.pass.buckets y.pass.given b c.apply_pass.ensures;
       node_size_in_bounds = rw c.at_least_one.ensures p.fit;
     }
 
@@ -94,4 +94,4 @@ returns c =
     let x = c.put_all.ensures in
     let w = rw c.in_ok-s.ensures.ok_part at c.as_mut_array.ensures.cases in
     rw (← w.same)
-    (lists_found s ds a.n a.time a.out.now e y.formed q y.pass b c.apply_pass.ensures (rw c.at_least_one.ensures at x.value) (rw c.at_least_one.ensures at x.out_after))
+    (lists_found s ds a.n a.time a.out.now e y.formed q _ y.pass.buckets y.pass.given b c.apply_pass.ensures (rw c.at_least_one.ensures at x.value) (rw c.at_least_one.ensures at x.out_after))
